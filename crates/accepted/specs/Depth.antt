@@ -10,8 +10,8 @@ use Rattle.words.specs.Table.{rowCount}
 use Rattle.words.specs.Layout.{depthLimit}
 use Rattle.words.specs.declared.Form.{Form}
 use Rattle.language.specs.Trees.{read}
-use Rattle.language.specs.Decode.{expressionAt, argumentListAt, statementAt, decode, listAt, armListAt, partAt}
-use Rattle.language.specs.Sizes.{expressionDepth, placeDepth, argumentsDepth, partDepth, statementDepth, armsDepth, itemsDepth}
+use Rattle.language.specs.Decode.{expressionAt, argumentListAt, statementAt, decode, listAt, armListAt, partAt, parameterListAt}
+use Rattle.language.specs.Sizes.{expressionDepth, placeDepth, argumentsDepth, parametersDepth, partDepth, statementDepth, armsDepth, itemsDepth}
 use Rattle.words.specs.Kinds.{between}
 use Rattle.words.specs.Links.{link}
 use Rattle.row_fields.specs.declared.Bounds.{Bounds}
@@ -20,7 +20,7 @@ use Rattle.structure.specs.StructuredLaws.{structured-tree}
 use Rattle.structure.specs.DepthLaws.{depth-inside}
 use Rattle.accepted.specs.Sorts.{between-true}
 use Rattle.accepted.specs.Expressions.{ExpressionRow, constant-row, variable-row, element-row, minus-row, not-row, binary-row, and-row, or-row, comma-row, conditional-row, assign-row, compound-row, prefix-row, postfix-row, call-row, ArgumentsRow, no-arguments, argument-row, placeAt}
-use Rattle.accepted.specs.Statements.{PartRow, absent-part, present-part, StatementRow, empty-row, express-row, block-row, ifThen-row, ifElse-row, while-row, doWhile-row, for-row, switch-row, case-row, default-row, break-row, continue-row, goto-row, label-row, guardedIf-row, guardedDo-row, abort-row, declare-row, return-row, ArmsRow, no-arms, arm-row, ListRow, no-items, item, case-item, default-item, label-item, root-row}
+use Rattle.accepted.specs.Statements.{PartRow, absent-part, present-part, StatementRow, empty-row, express-row, block-row, ifThen-row, ifElse-row, while-row, doWhile-row, for-row, switch-row, case-row, default-row, break-row, continue-row, goto-row, label-row, guardedIf-row, guardedDo-row, abort-row, declare-row, return-row, definition-row, ArmsRow, no-arms, arm-row, ListRow, no-items, item, case-item, default-item, label-item, definition-item, ParametersRow, no-parameters, parameter-row, root-row}
 
 module _ (form : Form) (bounds : Bounds) (rows : List ℤ) (s : Structured form bounds rows) (shallow : Shallow form rows) where
   abbrev limit : ℕ
@@ -85,6 +85,10 @@ module _ (form : Form) (bounds : Bounds) (rows : List ℤ) (s : Structured form 
   deep-part (absent-part z e) depth h d = rw e (omega arith)
   deep-part (present-part p e x) depth h d = rw e (deep-expression x depth (d p))
 
+  deep-parameters : {l : ℕ} → ParametersRow rows l → (depth : ℕ) → depth ≤ limit + 1 → (0 < l → Depth rows l depth) → Fits depth (parametersDepth (parameterListAt rows l))
+  deep-parameters (no-parameters z e) depth h d = rw e (omega arith)
+  deep-parameters (parameter-row p k z e x) depth h d = rw e (room (d p))
+
   mutual
     unfolding statementDepth armsDepth itemsDepth
 
@@ -111,6 +115,7 @@ module _ (form : Form) (bounds : Bounds) (rows : List ℤ) (s : Structured form 
     deep-statement (abort-row k e) depth d = rw e (room d)
     deep-statement (declare-row k p e x) depth d = rw e (omega (arith, deep-expression x _ (below d 2 refl p)))
     deep-statement (return-row k e x) depth d = rw e (omega (arith, deep-part x _ (room d) (below-any d 1 refl)))
+    deep-statement (definition-row k e) depth d = rw e (room d)
 
     deep-arms : {l : ℕ} → ArmsRow rows l → (depth : ℕ) → depth ≤ limit + 1 → (0 < l → Depth rows l depth) → Fits depth (armsDepth (armListAt rows l))
     deep-arms (no-arms z e) depth h d = rw e (omega arith)
@@ -123,6 +128,9 @@ module _ (form : Form) (bounds : Bounds) (rows : List ℤ) (s : Structured form 
     deep-list {l} (case-item p k e x y) depth h d = rw e (omega (arith, shallow _ _ (d p), deep-list y depth h (next l depth (d p))))
     deep-list {l} (default-item p k e x y) depth h d = rw e (omega (arith, shallow _ _ (d p), deep-list y depth h (next l depth (d p))))
     deep-list {l} (label-item p k e x y) depth h d = rw e (omega (arith, shallow _ _ (d p), deep-list y depth h (next l depth (d p))))
+    deep-list {l} (definition-item p k q c b e x y z) depth h d =
+        let body = below (d p) 3 refl q in
+        rw e (omega (arith, deep-parameters x _ (room (d p)) (below-any (d p) 2 refl), deep-list y _ (room body) (below-any body 1 refl), deep-list z depth h (next l depth (d p))))
 
 -- "Depth: row 0 has 1, a row has its owner's plus 1, items of one list share theirs." The tree's depth is within the form's limit.
 pub structured-depth : (form : Form) (bounds : Bounds) (rows : List ℤ) → Structured form bounds rows → Shallow form rows → statementDepth (decode rows) ≤ depthLimit form

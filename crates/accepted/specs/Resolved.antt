@@ -8,7 +8,7 @@ use lib.ListN.{getD}
 use lib.Signed.{mag}
 use Rattle.words.specs.Table.{rowCount}
 use Rattle.words.specs.Declarations.{declarationCount}
-use Rattle.words.specs.Layout.{Layout, layoutOf, storeSize}
+use Rattle.words.specs.Layout.{Layout, layoutOf, storeSize, storeWords}
 use Rattle.words.specs.Laws.{headerFits-facts}
 use Rattle.words.specs.StoreLaws.{source-header-store}
 use Rattle.words.specs.declared.Form.the-variants.{Source}
@@ -17,21 +17,30 @@ use Rattle.language.specs.Trees.{block}
 use Rattle.language.specs.Decode.{decode}
 use Rattle.language.specs.Meaning.{next}
 use Rattle.language.specs.Functions.{contextOf}
-use Rattle.language.specs.PlainCalls.{plain-calls}
 use Rattle.language.specs.Program.{contents, tableProgram, runTableUnder}
 use Rattle.language.specs.Sizes.{statementRows, statementDepth}
 use Rattle.language.specs.Sound.{Sound}
 use Rattle.language.specs.WellFormed.{SourceName, SourceTree}
-use Rattle.row_fields.specs.Fields.{boundsIn, boundsOf}
+use Rattle.row_fields.specs.Fields.{variableRange, wordRange, boundsIn, boundsOf, sourceBounds, resolvedBounds}
 use Rattle.structure.specs.Structured.{Structured}
 use Rattle.structure.specs.StructuredLaws.{structured-tree}
 use Rattle.names.specs.Names.{resolved}
 use Rattle.names.specs.ResolvedLaws.{resolved-count, resolved-shallow}
 use Rattle.names.specs.ResolvedNames.{resolved-holds}
 use Rattle.names.specs.ResolvedStructured.{resolved-structured}
+use Rattle.function_causes.specs.Demands.{WellCalled}
+use Rattle.shapes.specs.Functions.{SoundFunctions}
+use Rattle.called_programs.specs.Tables.{FunctionTable, FewParameters}
+use Rattle.called_programs.specs.Calls.{calls-in-order}
+use Rattle.called_programs.specs.Few.{few-declared}
+use Rattle.called_programs.specs.Sources.{sound-functions}
+use Rattle.called_programs.specs.Resolved.{resolved-called}
+use Rattle.called_programs.specs.Structured.{function-table}
+use Rattle.program_meaning.specs.ResolvedRows.{resolved-store}
 use Rattle.source_check.specs.Legal.{Legal}
 use Rattle.source_check.specs.Carried.{resolved-placed}
 use Rattle.accepted.specs.Statements.{program-block}
+use Rattle.accepted.specs.Fields.{resolved-declared}
 use Rattle.accepted.specs.Names.{named-contents, source-name}
 use Rattle.accepted.specs.Places.{placed-contents}
 use Rattle.accepted.specs.Gives.{Gives}
@@ -56,34 +65,49 @@ module _ (header rows : List ℤ) (legal : Legal header rows) where
   abbrev table : List ℤ
   table = resolved S rows
 
-  header-bounds : Structured Source (boundsIn L S) rows
+  header-bounds : Structured Source (sourceBounds L) rows
   unfolding boundsOf
-  header-bounds = subst (λ (words : ℕ). Structured Source (boundsIn L words) rows) (source-header-store header) (legal .structured)
+  header-bounds = subst (λ (words : ℕ). Structured Source (boundsIn L (variableRange L) words) rows) (source-header-store header) (legal .structured)
 
   -- Numbers within its bounds are those of variables, or words of declarations.
-  pub table-structured : Structured Source (boundsIn L words) table
+  pub table-structured : Structured Source (resolvedBounds L (declarationCount rows)) table
   table-structured = resolved-structured Source L rows header-bounds
 
   -- A run may walk its rows.
   pub table-sound : Sound table L words
-  table-sound = structured-sound Source L words table (omega arith) table-structured
+  table-sound = structured-sound Source L (wordRange L (declarationCount rows)) words table (omega arith) (omega arith) table-structured
 
   -- Its tree is the block of its items.
   pub table-block : decode table ≡ block (contents table)
   table-block = program-block Source _ table table-structured
 
-  -- Their numbers are in range, their jumps in place.
+  -- Its functions and calls are the program's, and as their trees ask.
+  table-called : WellCalled table
+  table-called = resolved-called S rows (legal .well-called)
+
+  pub table-functions : FunctionTable table
+  table-functions = function-table Source _ table table-structured table-called
+
+  -- "At most 64" parameters: they count with the declarations.
+  pub table-few : FewParameters table
+  unfolding storeWords
+  table-few = few-declared table table-functions (omega (arith, resolved-store header rows, legal .well-declared .few-declarations))
+
+  -- What the translator asks of its functions and calls.
+  pub table-calls : SoundFunctions table
+  table-calls = sound-functions table table-functions (table-structured .lone) table-few
+
+  -- Their numbers are in range, their jumps in place, their calls in order.
   pub table-tree : SourceTree L words (contents table)
   table-tree = record {
-    named = named-contents Source _ table table-structured (SourceName L words) (source-name L words (omega arith));
-    placed = placed-contents _ table table-structured (resolved-placed S rows (legal .placed));
-    -- no form has functions yet
-    calls = plain-calls table (table-sound .whole) (table-sound .no-function);
+    named = named-contents Source _ table table-structured (resolved-declared L (declarationCount rows)) (SourceName L words) (source-name L (wordRange L (declarationCount rows)) words (omega arith));
+    placed = placed-contents _ table table-structured (resolved-placed S rows (legal .placed)) (table-called .in-order);
+    calls = calls-in-order table table-functions;
   }
 
   -- Its tree has as many rows as the table.
   pub table-rows : statementRows (block (contents table)) ≡ rowCount rows
-  table-rows = rw table-block at (decoded-rows Source _ table table-structured) ∙ resolved-count S rows
+  table-rows = rw table-block at (decoded-rows Source _ table table-structured (table-called .in-order)) ∙ resolved-count S rows
 
   -- "The limit is 64."
   pub table-depth : statementDepth (block (contents table)) ≤ 64

@@ -7,11 +7,11 @@ use Prim.Native.Nat.{ℕ, _≤_}
 use native.Mathlib.Omega.{arith}
 use lib.Dec.{leb, eqb}
 use lib.IntN.{ℤ}
-use borrow.Author.Tests.{leb-true, eqb-true}
+use borrow.Author.Tests.{leb-true, le-leb, eqb-true}
 use Rattle.words.specs.Word.{pick}
 use Rattle.words.specs.Table.{numberAt}
-use Rattle.words.specs.Kinds.{kinds, kindIn, kindOf, kindAt, isStatementKind, optionalItem, expressionRow, placeRow, statementRow, armRow, argumentRow, between, kindRow, expressionFields, statementFields, markFields, definitionFields, memberFields, sortIn, sortOf, sortAt, standsIn, inLanguage, isFunctionNumber}
-use Rattle.words.specs.KindLaws.{everyLine, every-number, arm-kind, argument-kind, function-foreign}
+use Rattle.words.specs.Kinds.{kinds, kindIn, kindOf, kindAt, isStatementKind, optionalItem, expressionRow, placeRow, statementRow, armRow, argumentRow, between, kindRow, expressionFields, statementFields, markFields, definitionFields, memberFields, sortIn, sortOf, sortAt, standsIn, inLanguage}
+use Rattle.words.specs.KindLaws.{everyLine, every-number, arm-kind, argument-kind}
 use Rattle.words.specs.Laws.{both, either, by-cases}
 use Rattle.words.specs.declared.Form.{Form}
 use Rattle.words.specs.declared.Kind.{Kind}
@@ -27,6 +27,9 @@ pub between-true : (least most number : ℕ) → between least most number ≡ t
 between-true least most number e =
     let parts = both (leb least number) (leb number most) e in
     (leb-true _ _ (parts .0), leb-true _ _ (parts .1))
+
+pub between-is : (least most number : ℕ) → least ≤ number → number ≤ most → between least most number ≡ true
+between-is least most number p q = rw (le-leb least number p, le-leb number most q)
 
 -- ---- the number of a statement's, mark's, definition's or arm's kind
 
@@ -163,14 +166,6 @@ module _ (form : Form) (rows : List ℤ) (row : ℕ) (known : inLanguage form (n
   pub kind-known : kindAt rows row ≡ Other → ⊥
   unfolding kindRow
   kind-known e = false≢true (in-language e)
-
-  -- no form has definitions yet, nor the other kinds of functions
-  pub no-definition : kindAt rows row ≡ Definition → ⊥
-  unfolding kindRow definitionFields
-  no-definition e = false≢true (in-language e)
-
-  pub no-function-number : isFunctionNumber (numberAt rows row 0) ≡ false
-  no-function-number = by-cases (isFunctionNumber (numberAt rows row 0)) (λ e. absurd (false≢true (sym (function-foreign form (numberAt rows row 0) e) ∙ known))) (λ e. e)
 
   -- An expression, a statement, an arm or an argument.
   abbrev pub RowSort : Type 0

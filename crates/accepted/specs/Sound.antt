@@ -1,6 +1,6 @@
--- Sound: a structured table is sound, in both forms: what a run asks of a table. Each field by its sort.
-use mathlib.Core.Path.{_≡_, sym}
-use mathlib.Core.Bool.{true}
+-- Sound: a structured table is sound, in both forms: what a run asks of a table. Each field by its sort, in the row's role.
+use mathlib.Core.Path.{_≡_, refl, sym, ap, _∙_}
+use mathlib.Core.Bool.{true, false}
 use mathlib.Core.List.{List}
 use mathlib.Core.Logic.{⊎-elim}
 use Prim.Native.Nat.{ℕ, _≤_, _<_}
@@ -10,7 +10,7 @@ use lib.IntN.{ℤ}
 use lib.ListN.{length}
 use borrow.Author.Tests.{ltb-true}
 use Rattle.words.specs.Table.{rowCount, numberAt}
-use Rattle.words.specs.Kinds.{kindAt, variable, array, declaredNumber, place, optionalArm, isLink, isRequired, sortIn, sortAt, isPlaceKind}
+use Rattle.words.specs.Kinds.{kindAt, unused, variable, array, declaredNumber, place, optionalArm, isLink, isRequired, sortAt, isPlaceKind}
 use Rattle.words.specs.KindLaws.{required-link}
 use Rattle.words.specs.Laws.{both, either}
 use Rattle.words.specs.Layout.{Layout, layoutOf, storeSize, headerStore, storeWords}
@@ -18,98 +18,110 @@ use Rattle.words.specs.StoreLaws.{store-least}
 use Rattle.words.specs.declared.Form.{Form}
 use Rattle.words.specs.declared.Kind.the-variants.{OfMember}
 use Rattle.words.specs.declared.MemberKind.the-variants.{Arm}
+use Rattle.language.specs.FieldRoles.{role-unlinked}
 use Rattle.language.specs.Sound.{OptionalLink, SoundField, Sound}
 use Rattle.words.specs.Links.{isPlace, link, fits}
-use Rattle.row_fields.specs.Fields.{boundsIn, boundsOf, variableFits, numberFits}
+use Rattle.row_fields.specs.declared.NumberRange.{NumberRange}
+use Rattle.row_fields.specs.Fields.{declaredRange, boundsIn, boundsOf, variableFits, numberFits}
+use Rattle.row_fields.specs.FieldLaws.{declared-inside, range-in-store}
 use Rattle.structure.specs.StructuredLaws.{structured-tree}
 use Rattle.structure.specs.Structured.{Structured}
-use Rattle.accepted.specs.Sorts.{sort-is, arm-is, kind-known, no-function-number}
+use Rattle.row_roles.specs.Roles.{roleSort}
+use Rattle.row_roles.specs.RoleLaws.{role-links}
+use Rattle.accepted.specs.Sorts.{sort-is, arm-is, kind-known}
+use Rattle.accepted.specs.Statements.{root-kind}
 
-module _ (form : Form) (L : Layout) (words : ℕ) (rows : List ℤ) (store-fits : storeSize L ≤ words) (s : Structured form (boundsIn L words) rows) where
+module _ (form : Form) (L : Layout) (declared : NumberRange) (words : ℕ) (rows : List ℤ) (store-fits : storeSize L ≤ words) (declared-fits : declared .past ≤ words) (s : Structured form (boundsIn L declared words) rows) where
   variables-fit : L .variables ≤ storeSize L
   unfolding storeSize
   variables-fit = omega arith
 
   module _ (row : ℕ) (inside : row < rowCount rows) (field : ℕ) (first : 1 ≤ field) (last : field < 6) where
     -- a field of a link's sort links the row that its number names
-    same : isLink (sortAt rows row field) ≡ true → link rows row field ≡ numberAt rows row field
+    same : isLink (roleSort rows row field) ≡ true → link rows row field ≡ numberAt rows row field
     unfolding link
-    same t = rw t
+    same t = rw (← role-links rows row field, t)
 
-    required : isRequired (sortAt rows row field) ≡ true → 0 < numberAt rows row field
+    required : isRequired (roleSort rows row field) ≡ true → 0 < numberAt rows row field
     required r = let l = s .present row inside field first last r in rw (same (required-link _ r)) at l
 
-    onward : isLink (sortAt rows row field) ≡ true → OptionalLink rows L words row field
+    onward : isLink (roleSort rows row field) ≡ true → OptionalLink rows L words row field
     onward t p =
         let leads = s .forward row inside field first last (rw (same t) p) in
         record { later = rw (same t) at (leads .later); inside = rw (same t) at (leads .inside) }
 
-    names : (sort : ℕ) → sortAt rows row field ≡ sort → numberFits (boundsIn L words) sort (numberAt rows row field) ≡ true
-    names sort e = rw (← e) (s .named row inside field first last)
+    -- a field that is no link holds what the table of kinds says
+    plain : (sort : ℕ) → isLink sort ≡ false → roleSort rows row field ≡ sort → sortAt rows row field ≡ sort
+    plain sort none e = role-unlinked rows row field first last (ap isLink e ∙ none) ∙ e
 
-    fits-a-word : variableFits (boundsIn L words) (numberAt rows row field) ≡ true → numberAt rows row field < words
+    names : (sort : ℕ) → isLink sort ≡ false → roleSort rows row field ≡ sort → numberFits (boundsIn L declared words) sort (numberAt rows row field) ≡ true
+    names sort none e = rw (← plain sort none e) (s .named row inside field first last)
+
+    fits-a-word : variableFits (boundsIn L declared words) (numberAt rows row field) ≡ true → numberAt rows row field < words
     fits-a-word fits =
         ⊎-elim (λ h. let below : numberAt rows row field < L .variables = ltb-true _ _ h in omega (arith, store-fits, variables-fit))
         (λ h. ltb-true _ _ (both (leb (storeSize L) (numberAt rows row field)) _ h .1)) (either _ _ fits)
 
-    names-a-word : sortAt rows row field ≡ variable → numberAt rows row field < words
-    unfolding numberFits
-    names-a-word e = fits-a-word (names variable e)
+    names-a-word : roleSort rows row field ≡ variable → numberAt rows row field < words
+    unfolding numberFits isLink
+    names-a-word e = fits-a-word (names variable refl e)
 
-    declares-a-word : sortAt rows row field ≡ declaredNumber → numberAt rows row field < words
-    unfolding numberFits
-    declares-a-word e = fits-a-word (names declaredNumber e)
+    declares-a-word : roleSort rows row field ≡ declaredNumber → numberAt rows row field < words
+    unfolding numberFits isLink
+    declares-a-word e = let within = declared-inside (boundsIn L declared words) (numberAt rows row field) (names declaredNumber refl e) in omega (arith, within .1, declared-fits)
 
-    names-an-array : sortAt rows row field ≡ array → numberAt rows row field < length (L .lengths)
-    unfolding numberFits
-    names-an-array e = ltb-true _ _ (names array e)
+    names-an-array : roleSort rows row field ≡ array → numberAt rows row field < length (L .lengths)
+    unfolding numberFits isLink
+    names-an-array e = ltb-true _ _ (names array refl e)
 
-    links-a-place : sortAt rows row field ≡ place → isPlaceKind (kindAt rows (numberAt rows row field)) ≡ true
+    links-a-place : roleSort rows row field ≡ place → isPlaceKind (kindAt rows (numberAt rows row field)) ≡ true
     unfolding isRequired fits isPlace isPlaceKind
     links-a-place e =
-        let t : isRequired (sortAt rows row field) ≡ true = rw e in
+        let t : isRequired (roleSort rows row field) ≡ true = rw e in
         let there = s .present row inside field first last t in
         let fit = rw e at (s .fitting row inside field first last there) in
         rw (← same (required-link _ t), ← sort-is rows (link rows row field) 0) fit
 
-    links-an-arm : sortAt rows row field ≡ optionalArm → 0 < numberAt rows row field → kindAt rows (numberAt rows row field) ≡ OfMember Arm
+    links-an-arm : roleSort rows row field ≡ optionalArm → 0 < numberAt rows row field → kindAt rows (numberAt rows row field) ≡ OfMember Arm
     unfolding isLink fits
     links-an-arm e some =
-        let t : isLink (sortAt rows row field) ≡ true = rw e in
+        let t : isLink (roleSort rows row field) ≡ true = rw e in
         let fit = rw e at (s .fitting row inside field first last (rw (same t) some)) in
         rw (← same t) (arm-is rows (link rows row field) fit)
 
-    sound-field : SoundField rows L words row field (sortIn (kindAt rows row) field)
-    sound-field =
-        rw (← sort-is rows row field)
-        (record {
-          unused-zero = s .unused-zero row inside field first last;
-          names-word = names-a-word;
-          declares-word = declares-a-word;
-          names-array = names-an-array;
-          present = required;
-          forward = onward;
-          at-place = links-a-place;
-          at-arm = links-an-arm;
-        })
+    unused-none : roleSort rows row field ≡ unused → numberAt rows row field ≡ 0
+    unfolding isLink
+    unused-none e = s .unused-zero row inside field first last (plain unused refl e)
+
+    pub role-field : SoundField rows L words row field (roleSort rows row field)
+    role-field = record {
+      unused-zero = unused-none;
+      names-word = names-a-word;
+      declares-word = declares-a-word;
+      names-array = names-an-array;
+      present = required;
+      forward = onward;
+      at-place = links-a-place;
+      at-arm = links-an-arm;
+    }
 
   -- What a run asks of a table, from what the checks of both forms share.
   pub structured-sound : Sound rows L words
   structured-sound =
-      let tree = structured-tree form (boundsIn L words) rows s in
+      let tree = structured-tree form (boundsIn L declared words) rows s in
       record {
         whole = sym (tree .whole);
         some-rows = tree .some-rows;
+        root = root-kind form (boundsIn L declared words) rows s;
         known = λ row inside. kind-known form rows row (s .known row inside);
-        fields = sound-field;
+        fields = role-field;
         store-fits = store-fits;
-        no-function = λ row inside. no-function-number form rows row (s .known row inside);
       }
 
 -- The same with the bounds that a header gives.
 pub header-sound : (form : Form) (header rows : List ℤ) → Structured form (boundsOf form header) rows → Sound rows (layoutOf form header) (headerStore form header)
 unfolding boundsOf headerStore
-header-sound form header rows s = structured-sound form (layoutOf form header) (headerStore form header) rows (omega arith) s
+header-sound form header rows s = structured-sound form (layoutOf form header) (declaredRange form header) (headerStore form header) rows (omega arith) (range-in-store form header) s
 
 -- A store may have more words than a table names.
 module _ {rows : List ℤ} {L : Layout} {words more : ℕ} (most : words ≤ more) where
@@ -129,10 +141,10 @@ module _ {rows : List ℤ} {L : Layout} {words more : ℕ} (most : words ≤ mor
   wider-sound s = record {
     whole = s .whole;
     some-rows = s .some-rows;
+    root = s .root;
     known = s .known;
     fields = λ row inside field first last. wider-field (s .fields row inside field first last);
     store-fits = let fits = s .store-fits in omega arith;
-    no-function = s .no-function;
   }
 
 -- The same with the words of a run's store.

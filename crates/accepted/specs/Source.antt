@@ -15,13 +15,16 @@ use Rattle.language.specs.Trees.{block}
 use Rattle.language.specs.Decode.{decode}
 use Rattle.language.specs.Meaning.{next}
 use Rattle.language.specs.Functions.{contextOf}
-use Rattle.language.specs.PlainCalls.{plain-calls}
 use Rattle.language.specs.Program.{contents, tableProgram, runTableUnder}
 use Rattle.language.specs.Sizes.{statementRows, statementDepth}
 use Rattle.language.specs.Sound.{Sound}
 use Rattle.language.specs.WellFormed.{NamedItems, SourceName, SourceTree}
 use Rattle.row_fields.specs.Fields.{boundsOf}
+use Rattle.called_programs.specs.Tables.{FunctionTable}
+use Rattle.called_programs.specs.Calls.{calls-in-order}
+use Rattle.called_programs.specs.Structured.{function-table}
 use Rattle.source_check.specs.Legal.{Legal}
+use Rattle.accepted.specs.Fields.{header-declared}
 use Rattle.accepted.specs.Statements.{program-block}
 use Rattle.accepted.specs.Names.{named-contents, source-variable}
 use Rattle.accepted.specs.Places.{placed-contents}
@@ -38,7 +41,7 @@ module _ (header rows : List ℤ) (legal : Legal header rows) where
   numbers-named : (first : ℕ) → storeSize (layoutOf Source header) ≤ first → NamedItems (SourceName (layoutOf Source header) first) (length (layoutOf Source header .lengths)) (contents rows)
   unfolding boundsOf storeSize
   numbers-named first fits =
-      named-contents Source (boundsOf Source header) rows (legal .structured) (SourceName (layoutOf Source header) first)
+      named-contents Source (boundsOf Source header) rows (legal .structured) (header-declared Source header) (SourceName (layoutOf Source header) first)
       (λ number n. let below = source-variable header number n in record { inside = omega arith; apart = inl below })
 
   -- A run may walk its rows.
@@ -49,18 +52,21 @@ module _ (header rows : List ℤ) (legal : Legal header rows) where
   pub legal-block : decode rows ≡ block (contents rows)
   legal-block = program-block Source _ rows (legal .structured)
 
+  -- Its functions and calls are as their trees ask.
+  pub legal-functions : FunctionTable rows
+  legal-functions = function-table Source _ rows (legal .structured) (legal .well-called)
+
   -- Their numbers are in range, their jumps in place, wherever the temporaries begin.
   pub legal-tree : (first : ℕ) → storeSize (layoutOf Source header) ≤ first → SourceTree (layoutOf Source header) first (contents rows)
   legal-tree first fits = record {
     named = numbers-named first fits;
-    placed = placed-contents _ rows (legal .structured) (legal .placed);
-    -- no form has functions yet
-    calls = plain-calls rows (legal-sound .whole) (legal-sound .no-function);
+    placed = placed-contents _ rows (legal .structured) (legal .placed) (legal .well-called .in-order);
+    calls = calls-in-order rows legal-functions;
   }
 
   -- Its tree has as many rows as the table.
   pub legal-rows : statementRows (block (contents rows)) ≡ rowCount rows
-  legal-rows = rw legal-block at (decoded-rows Source _ rows (legal .structured))
+  legal-rows = rw legal-block at (decoded-rows Source _ rows (legal .structured) (legal .well-called .in-order))
 
   -- "The limit is 64."
   pub legal-depth : statementDepth (block (contents rows)) ≤ 64
@@ -74,4 +80,4 @@ module _ (header rows : List ℤ) (legal : Legal header rows) where
   -- says no less than document 01's "ends plainly".
   pub legal-ends-normally : (limit : Limit) (store : List ℤ) → Gives (λ signal. signal ≡ next) (runTableUnder limit Source header rows store)
   unfolding runTableUnder tableProgram
-  legal-ends-normally limit store = rw legal-block (program-ends (contextOf (layoutOf Source header) (contents rows)) limit (contents rows) (placed-contents _ rows (legal .structured) (legal .placed)) (start store))
+  legal-ends-normally limit store = rw legal-block (program-ends (contextOf (layoutOf Source header) (contents rows)) limit (contents rows) (placed-contents _ rows (legal .structured) (legal .placed) (legal .well-called .in-order)) (start store))

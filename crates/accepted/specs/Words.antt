@@ -14,7 +14,7 @@ use Rattle.row_fields.specs.declared.Bounds.{Bounds}
 use Rattle.structure.specs.Structured.{Structured}
 use Rattle.accepted.specs.Worded.{ValuedExpression, ValuedPlace, ValuedArguments, ValuedPart, ValuedStatement, ValuedArms, ValuedItems, IsWord, Worded}
 use Rattle.accepted.specs.Expressions.{ExpressionRow, constant-row, variable-row, element-row, minus-row, not-row, binary-row, and-row, or-row, comma-row, conditional-row, assign-row, compound-row, prefix-row, postfix-row, call-row, ArgumentsRow, no-arguments, argument-row, placeAt}
-use Rattle.accepted.specs.Statements.{PartRow, absent-part, present-part, StatementRow, empty-row, express-row, block-row, ifThen-row, ifElse-row, while-row, doWhile-row, for-row, switch-row, case-row, default-row, break-row, continue-row, goto-row, label-row, guardedIf-row, guardedDo-row, abort-row, declare-row, return-row, ArmsRow, no-arms, arm-row, ListRow, no-items, item, case-item, default-item, label-item, program-list, program-contents, program-block}
+use Rattle.accepted.specs.Statements.{PartRow, absent-part, present-part, StatementRow, empty-row, express-row, block-row, ifThen-row, ifElse-row, while-row, doWhile-row, for-row, switch-row, case-row, default-row, break-row, continue-row, goto-row, label-row, guardedIf-row, guardedDo-row, abort-row, declare-row, return-row, definition-row, ArmsRow, no-arms, arm-row, ListRow, no-items, item, case-item, default-item, label-item, definition-item, program-list, program-contents, program-block}
 
 module _ (rows : List ℤ) (Value : ℤ → Type 0) (values : (i : ℕ) → Value (getD rows i (pos 0))) where
   -- an operand that is a place
@@ -74,6 +74,7 @@ module _ (rows : List ℤ) (Value : ℤ → Type 0) (values : (i : ℕ) → Valu
     valued-statement (abort-row k e) = rw e tt
     valued-statement (declare-row k p e x) = rw e (valued-expression x)
     valued-statement (return-row k e x) = rw e (valued-part x)
+    valued-statement (definition-row k e) = rw e tt
 
     valued-arms : {l : ℕ} → ArmsRow rows l → ValuedArms Value (armListAt rows l)
     valued-arms (no-arms z e) = rw e tt
@@ -85,6 +86,7 @@ module _ (rows : List ℤ) (Value : ℤ → Type 0) (values : (i : ℕ) → Valu
     valued-list {l} (case-item p k e x y) = rw e (values (6 * l + 1), valued-list y)
     valued-list (default-item p k e x y) = rw e (tt, valued-list y)
     valued-list (label-item p k e x y) = rw e (tt, valued-list y)
+    valued-list (definition-item p k q c b e x y z) = rw e (valued-list y, valued-list z)
 
 -- Every constant and every case value in the tree is a word of the table: what holds of all its words holds of them.
 pub structured-valued : (form : Form) (bounds : Bounds) (rows : List ℤ) → Structured form bounds rows

@@ -35,7 +35,7 @@ kernelHeaders =
     sample (pos 0 ∷ pos 0 ∷ pos 0 ∷ []) (row 42 1 0 0 0 0 ++ row 54 0 0 0 0 0) (refused 3 1) ∷  -- kind 54
     sample (pos 0 ∷ pos 0 ∷ pos 0 ∷ []) (row 42 1 0 0 0 0 ++ row 55 0 0 0 0 0) (refused 3 1) ∷  -- kind 55
     sample (pos 0 ∷ pos 0 ∷ pos 0 ∷ []) (row 42 1 0 0 0 0 ++ row 56 0 0 0 0 0) (refused 3 1) ∷  -- kind 56
-    sample (pos 0 ∷ pos 0 ∷ pos 0 ∷ []) (row 42 1 0 0 0 0 ++ row 58 0 0 0 0 0) (refused 3 1) ∷  -- kind 58
+    sample (pos 0 ∷ pos 0 ∷ pos 0 ∷ []) (row 42 1 0 0 0 0 ++ row 61 0 0 0 0 0) (refused 3 1) ∷  -- kind 61
     sample (pos 0 ∷ pos 0 ∷ pos 0 ∷ []) (row 42 1 0 0 0 0 ++ row 40 0 0 0 0 0) Accepted ∷  -- 40 empty
     sample (pos 0 ∷ pos 0 ∷ pos 0 ∷ []) (row 42 1 0 0 0 0 ++ row 42 0 0 0 0 0) Accepted ∷  -- 42 block
     sample (pos 0 ∷ pos 0 ∷ pos 0 ∷ []) (row 42 1 0 0 0 0 ++ row 53 0 0 0 0 0) Accepted ∷  -- 53 label

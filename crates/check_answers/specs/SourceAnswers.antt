@@ -6,6 +6,7 @@ use Rattle.words.specs.Table.{wordAt, numberAt}
 use Rattle.words.specs.Layout.{layoutOf, sum, storeSize, headerStore, allWithin, headerFits, countFits}
 use Rattle.words.specs.declared.Verdict.{Verdict}
 use Rattle.words.specs.Links.{fits, isExpression, isPlace, isStatement, isBlock, isArm, link, target, linker, received, noteBy, note}
+use Rattle.row_roles.specs.Roles.{linksParameter, isParameterBy, isParameter, roleSort}
 use Rattle.row_fields.specs.Fields.{foreign, leadsRight, mislinked, boundsOf, numberFits, outside}
 use Rattle.words.specs.Kinds.{kindOf, kindIn, kinds, sortIn, kindRow, expressionFields, statementFields, markFields, definitionFields, memberFields, sortOf, sortAt, inLanguage, isLink, isRequired}
 use Rattle.structure.specs.Links.{loneBlock, notOnce}
@@ -17,8 +18,10 @@ use Rattle.row_notes.specs.RowNotes.{handed, noteAt}
 use Rattle.statement_places.specs.Places.{outOfPlace, misplaced}
 use Rattle.words.specs.Declarations.{isDeclaration, declarationsBefore}
 use Rattle.names.specs.Names.{isName}
-use Rattle.declaration_causes.specs.Causes.{outsideBlock, namesNumber, namedWithin, namedFrom, namesItself, sameNumber, declaredBefore, oneTooMany, declarationRefusal}
-use Rattle.function_causes.specs.Functions.{isDefinition, isCall, isReturn}
+use Rattle.declaration_causes.specs.Causes.{outsideBlock, namesNumber, namedWithin, namedFrom, namesItself, sameNumber, declaredBefore, oneTooMany, declarationRefusal, declaredTwice}
+use Rattle.parameter_causes.specs.Parameters.{bodyOf, bodyAt, someOfList, declaredAsParameter}
+use Rattle.function_causes.specs.Functions.{isCall, isReturn}
+use Rattle.row_roles.specs.Roles.{linksParameter, isParameterBy, isParameter, roleSort, isDefinition}
 use Rattle.function_causes.specs.Causes.{returnsOutside, outOfOrder, wrongCall, functionRefusal}
 use Rattle.source_check.specs.Refusal.{wronglyPlaced, refusal}
 use Rattle.brief_checks.specs.Brief.{targets, times, briefCauses, briefStructure, briefDepth, briefSource}
@@ -37,7 +40,7 @@ abbrev tested : Sample → Verdict
 tested sample = briefSource (sample .header) (sample .rows)
 
 samples-tested : map tested sourceSamples ≡ map expected sourceSamples
-unfolding sameWord natural wordAt numberAt layoutOf sum storeSize headerStore allWithin headerFits countFits foreign fits leadsRight mislinked boundsOf numberFits outside kindOf kindIn kinds sortIn kindRow expressionFields statementFields markFields definitionFields memberFields sortOf sortAt inLanguage isExpression isPlace isStatement isBlock isArm isLink isRequired link target loneBlock notOnce linker received noteBy note at unless _next_ lowest some lowestRow someField targets times briefCauses briefStructure briefDepth briefSource sameMark itemOf itemAt earlierOf earlierAt someFrom someEarlier repeated handed noteAt outOfPlace misplaced isDeclaration declarationsBefore isName outsideBlock namesNumber namedWithin namedFrom namesItself sameNumber declaredBefore oneTooMany declarationRefusal isDefinition isCall isReturn returnsOutside outOfOrder wrongCall functionRefusal wronglyPlaced
+unfolding sameWord natural wordAt numberAt layoutOf sum storeSize headerStore allWithin headerFits countFits foreign fits leadsRight mislinked boundsOf numberFits outside kindOf kindIn kinds sortIn kindRow expressionFields statementFields markFields definitionFields memberFields sortOf sortAt inLanguage isExpression isPlace isStatement isBlock isArm isLink isRequired link target loneBlock notOnce linker received noteBy note at unless _next_ lowest some lowestRow someField targets times briefCauses briefStructure briefDepth briefSource sameMark itemOf itemAt earlierOf earlierAt someFrom someEarlier repeated handed noteAt outOfPlace misplaced isDeclaration declarationsBefore isName outsideBlock namesNumber namedWithin namedFrom namesItself sameNumber declaredBefore oneTooMany declarationRefusal isDefinition isCall isReturn returnsOutside outOfOrder wrongCall functionRefusal wronglyPlaced roleSort isParameter isParameterBy linksParameter declaredTwice declaredAsParameter bodyOf bodyAt someOfList
 samples-tested = refl
 
 pub source-answers : map checked sourceSamples ≡ map expected sourceSamples

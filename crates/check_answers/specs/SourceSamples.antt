@@ -36,17 +36,17 @@ headers =
 abbrev pub fields : List Sample
 fields =
     sample (pos 0 ∷ []) (row 42 1 0 0 0 0 ++ row 0 0 0 0 0 0) (refused 3 1) ∷  -- kind 0
-    sample (pos 0 ∷ []) (row 42 1 0 0 0 0 ++ row 31 0 0 0 0 0) (refused 3 1) ∷  -- kind 31
+    sample (pos 0 ∷ []) (row 42 1 0 0 0 0 ++ row 33 0 0 0 0 0) (refused 3 1) ∷  -- kind 33
     sample (pos 0 ∷ []) (row 42 1 0 0 0 0 ++ row 39 0 0 0 0 0) (refused 3 1) ∷  -- kind 39
     sample (pos 0 ∷ []) (row 42 1 0 0 0 0 ++ row 52 0 0 0 0 0) (refused 3 1) ∷  -- kind 52
     sample (pos 0 ∷ []) (row 42 1 0 0 0 0 ++ row 53 0 0 0 0 0) (refused 3 1) ∷  -- kind 53
     sample (pos 0 ∷ []) (row 42 1 0 0 0 0 ++ row 57 0 0 0 0 0) (refused 3 1) ∷  -- kind 57
-    sample (pos 0 ∷ []) (row 42 1 0 0 0 0 ++ row 59 0 0 0 0 0) (refused 3 1) ∷  -- kind 59
+    sample (pos 0 ∷ []) (row 42 1 0 0 0 0 ++ row 61 0 0 0 0 0) (refused 3 1) ∷  -- kind 61
     sample (pos 0 ∷ []) (row 42 1 0 0 0 0 ++ (negsuc 0 ∷ pos 0 ∷ pos 0 ∷ pos 0 ∷ pos 0 ∷ pos 0 ∷ [])) (refused 3 1) ∷  -- kind −1
     sample (pos 0 ∷ []) (row 42 1 0 0 0 0 ++ row 40 0 0 0 0 0) Accepted ∷  -- 40 empty
     sample (pos 0 ∷ []) (row 42 1 0 0 0 0 ++ row 51 0 0 0 0 0) (refused 7 1) ∷  -- 51 is in the language
-    sample (pos 0 ∷ []) (row 42 0 0 0 0 0 ++ row 31 0 0 0 0 0) (refused 3 1) ∷  -- 3 before 5
-    sample (pos 0 ∷ []) (row 42 1 0 0 0 0 ++ row 41 0 0 0 0 0 ++ row 31 0 0 0 0 0) (refused 3 2) ∷  -- 3 before 4
+    sample (pos 0 ∷ []) (row 42 0 0 0 0 0 ++ row 33 0 0 0 0 0) (refused 3 1) ∷  -- 3 before 5
+    sample (pos 0 ∷ []) (row 42 1 0 0 0 0 ++ row 41 0 0 0 0 0 ++ row 33 0 0 0 0 0) (refused 3 2) ∷  -- 3 before 4
     sample (pos 0 ∷ []) (row 42 1 0 0 0 0 ++ row 40 0 0 0 7 0) (refused 3 1) ∷  -- d of an empty statement
     sample (pos 0 ∷ []) (row 42 1 0 0 0 0 ++ (pos 40 ∷ negsuc 0 ∷ pos 0 ∷ pos 0 ∷ pos 0 ∷ pos 0 ∷ [])) (refused 3 1) ∷  -- a, negative
     sample (pos 0 ∷ []) (row 42 1 0 0 0 0 ++ row 41 2 0 0 0 0 ++ row 1 5 0 0 0 1) (refused 3 2) ∷  -- next of an expression

@@ -7,9 +7,9 @@ ghost use Rattle.flat.specs.Refusal.{refusal as flatRefusal};
 ghost use Rattle.flat.specs.Results.{answerAndStore, flatResult};
 ghost use Rattle.flattener.specs.Flattening.{answerAndList, flattenResult, WritesList};
 
-// Writes the flat list of a kernel program, under its header, and answers how many words it has: the kernel check's causes, then 10. The
-// second promise is about the words that were written: the list's own check takes them, they are exactly as many as docs/FLAT.md says, and
-// the kernel run and the flat run on equal stores share their fate.
+// Writes the flat list of a kernel program, under its header, and answers how many words it has: the kernel check's causes, 25 for
+// functions, then 10. The second promise is about the words that were written: the list's own check takes them, they are exactly as many as
+// docs/FLAT.md says, and the kernel run and the flat run on equal stores share their fate.
 pub fn flatten(header: &[i32], rows: &[i32], list: &mut [i32]) -> FlattenAnswer
     ensures { λ r. ⌜ answerAndList r (now (list .exit)) ≡ flattenResult (now (header .entry)) (now (rows .entry)) (now (list .entry)) ⌝ }
     ensures { λ r. ⌜ WritesList (now (header .entry)) (now (rows .entry)) r (now (list .exit)) ⌝ }

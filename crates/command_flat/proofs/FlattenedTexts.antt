@@ -18,8 +18,8 @@ use Rattle.words.specs.declared.Verdict.{Verdict}
 use Rattle.words.specs.declared.Verdict.the-variants.{Accepted, Refused}
 use Rattle.text_form.specs.Text.{tableBytes}
 use Rattle.report.specs.Lines.{refusedLine}
-use Rattle.kernel_check.specs.Refusal.{refusal as kernelRefusal}
-use Rattle.kernel_check.specs.Accepts.{accepted-legal}
+use Rattle.plain_check.specs.Refusal.{plainRefusal}
+use Rattle.plain_check.specs.Accepts.{accepted-plain}
 use Rattle.flat_fate.specs.FlatWords.{flattened}
 use Rattle.flat_text.specs.Text.{flatBytes}
 use Rattle.flattener.specs.declared.FlattenAnswer.{FlattenAnswer}
@@ -48,13 +48,13 @@ writtenIf test rows out =
     pick test (answerAndList (Flattened (length (flattened rows))) (over (flattened rows) out)) (answerAndList (FlattenRefused (record { number = 10; place = 0 })) out)
 
 module _ (header rows out : List ℤ) (room : length out ≡ flattenRoom) where
-  module _ (a : kernelRefusal header rows ≡ Accepted) where
+  module _ (a : plainRefusal header rows ≡ Accepted) where
     five : length (flattened rows) ≡ 5 * (length (flattened rows) / 5)
-    five = omega (arith, list-size (record { header = header; legal = accepted-legal header rows a }))
+    five = omega (arith, list-size (record { header = header; plain = accepted-plain header rows a }))
 
     list-table : leb (length (flattened rows)) flattenRoom ≡ true → (words : ℕ) (left : List ℤ) → words ≡ length (flattened rows) → left ≡ over (flattened rows) out → ListTable header rows left words
     list-table t words left w o =
-        let h = headerFits-facts Kernel header (accepted-legal header rows a .header-fits) in
+        let h = headerFits-facts Kernel header (accepted-plain header rows a .legal .header-fits) in
         let few = leb-true (length (flattened rows)) flattenRoom t in
         let fits : length (flattened rows) ≤ length out = omega (arith, few, room) in
         let list = written-part (flattened rows) out left words w o in
@@ -82,20 +82,20 @@ module _ (header rows out : List ℤ) (room : length out ≡ flattenRoom) where
     refused-if true t refusal left e = other-answer (sym (ap (λ (r : FlattenResult). r .answer) e))
     refused-if false t refusal left e = rw (same-refusal (ap (λ (r : FlattenResult). r .answer) e), t)
 
-  flattened-by : (verdict : Verdict) → kernelRefusal header rows ≡ verdict → (words : ℕ) (left : List ℤ) → answerAndList (Flattened words) left ≡ flattenAfter verdict rows out → ListTable header rows left words
+  flattened-by : (verdict : Verdict) → plainRefusal header rows ≡ verdict → (words : ℕ) (left : List ℤ) → answerAndList (Flattened words) left ≡ flattenAfter verdict rows out → ListTable header rows left words
   flattened-by (Refused refusal) a words left e = other-answer (ap (λ (r : FlattenResult). r .answer) e)
   flattened-by Accepted a words left e = flattened-if a (leb (length (flattened rows)) flattenRoom) refl words left (rw room at e)
 
-  refused-by : (verdict : Verdict) → kernelRefusal header rows ≡ verdict → (refusal : Refusal) (left : List ℤ) → answerAndList (FlattenRefused refusal) left ≡ flattenAfter verdict rows out
+  refused-by : (verdict : Verdict) → plainRefusal header rows ≡ verdict → (refusal : Refusal) (left : List ℤ) → answerAndList (FlattenRefused refusal) left ≡ flattenAfter verdict rows out
       → refusedLine (refusal .number) (refusal .place) ≡ verdictList verdict header rows
   refused-by (Refused other) a refusal left e = rw (same-refusal (ap (λ (r : FlattenResult). r .answer) e))
   refused-by Accepted a refusal left e = refused-if a (leb (length (flattened rows)) flattenRoom) refl refusal left (rw room at e)
 
   pub list-made : {words : ℕ} {left : List ℤ} → answerAndList (Flattened words) left ≡ flattenResult header rows out → ListTable header rows left words
   unfolding flattenResult
-  list-made {words} {left} e = flattened-by (kernelRefusal header rows) refl words left e
+  list-made {words} {left} e = flattened-by (plainRefusal header rows) refl words left e
 
   -- the line of a refusal
   pub list-refused : (refusal : Refusal) (left : List ℤ) → answerAndList (FlattenRefused refusal) left ≡ flattenResult header rows out → refusedLine (refusal .number) (refusal .place) ≡ listText header rows
   unfolding flattenResult
-  list-refused refusal left e = refused-by (kernelRefusal header rows) refl refusal left e
+  list-refused refusal left e = refused-by (plainRefusal header rows) refl refusal left e

@@ -8,7 +8,7 @@ use Rattle.words.specs.Word.{pick}
 use Rattle.words.specs.declared.Verdict.{Verdict}
 use Rattle.words.specs.declared.Verdict.the-variants.{Accepted, Refused}
 use Rattle.report.specs.Lines.{refusedLine}
-use Rattle.kernel_check.specs.Refusal.{refusal as kernelRefusal}
+use Rattle.plain_check.specs.Refusal.{plainRefusal}
 use Rattle.flat_fate.specs.FlatWords.{flattened}
 use Rattle.flat_text.specs.Text.{flatBytes}
 
@@ -26,4 +26,4 @@ verdictList (Refused refusal) header rows = refusedLine (refusal .number) (refus
 verdictList Accepted header rows = acceptedList header rows
 
 abbrev pub listText : (header rows : List ℤ) → List ℕ
-listText header rows = verdictList (kernelRefusal header rows) header rows
+listText header rows = verdictList (plainRefusal header rows) header rows

@@ -27,7 +27,7 @@ dayWith store plain other = record { store = store; plain = plain; other = other
 
 -- what a run asks of the store is how many words it has
 pub runnable-on : {header rows store other : List ℤ} → Runnable Source header rows store → length other ≡ length store → Runnable Source header rows other
-runnable-on r e = record { fits = r .fits; sound = rw e (r .sound); words = e ∙ r .words; few-rows = r .few-rows }
+runnable-on r e = record { fits = r .fits; sound = rw e (r .sound); calls = r .calls; words = e ∙ r .words; few-rows = r .few-rows }
 
 -- ---- one line
 

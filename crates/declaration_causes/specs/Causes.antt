@@ -1,5 +1,5 @@
 -- Causes: 18, 19 and 20, and 7 for a declaration. Each test is true at a declaration's row that breaks the cause.
-use mathlib.Core.Bool.{Bool, true, false, _&&_}
+use mathlib.Core.Bool.{Bool, true, false, not, _&&_, _||_}
 use mathlib.Core.List.{List}
 use Prim.Native.Nat.{ℕ, zero, suc}
 use lib.Dec.{eqb}
@@ -13,10 +13,12 @@ use Rattle.structure.specs.Refusal.{at, _next_}
 use Rattle.words.specs.Declarations.{isDeclaration, declarationsBefore, declarationLimit}
 use Rattle.names.specs.Names.{isName}
 use Rattle.list_items.specs.Items.{itemAt, someEarlier}
+use Rattle.parameter_causes.specs.Parameters.{declaredAsParameter}
+unfoldable pub use Rattle.parameter_causes.specs.Parameters.{sameNumber}
 
--- Cause 7: "It is an item of a block (elsewhere 7)". A block is kind 42, its list begins at a.
+-- Cause 7: "It is an item of a block (elsewhere 7)". A block is kind 42, its list begins at a. A parameter, which has no b, is none.
 unfoldable pub outsideBlock : List ℤ → ℕ → Bool
-outsideBlock rows row = isDeclaration rows row && eqb (itemAt rows 42 1 row) 0
+outsideBlock rows row = isDeclaration rows row && (not (eqb (numberAt rows row 2) 0) && eqb (itemAt rows 42 1 row) 0)
 
 -- ---- cause 18
 
@@ -41,12 +43,13 @@ namesItself rows row = isDeclaration rows row && namedFrom rows (numberAt rows r
 
 -- ---- cause 19
 
-unfoldable pub sameNumber : List ℤ → ℕ → ℕ → Bool
-sameNumber rows row declaration = eqb (numberAt rows declaration 1) (numberAt rows row 1)
-
 -- "A number declared twice in one block": at the later of the two.
 unfoldable pub declaredBefore : List ℤ → ℕ → Bool
 declaredBefore rows row = isDeclaration rows row && someEarlier (isDeclaration rows) (sameNumber rows row) rows row
+
+-- "Parameters count .. for .. 19 as c's first items": twice in one list, or in a function's block and as its parameter.
+unfoldable pub declaredTwice : List ℤ → ℕ → Bool
+declaredTwice rows row = declaredBefore rows row || declaredAsParameter rows row
 
 -- ---- cause 20
 
@@ -60,5 +63,5 @@ oneTooMany rows row = isDeclaration rows row && eqb (declarationsBefore rows row
 unfoldable pub declarationRefusal : List ℤ → Verdict
 declarationRefusal rows =
     at 18 (lowestRow rows (namesItself rows))
-    next at 19 (lowestRow rows (declaredBefore rows))
+    next at 19 (lowestRow rows (declaredTwice rows))
     next at 20 (lowestRow rows (oneTooMany rows))

@@ -30,11 +30,14 @@ module _ (rows : List ℤ) (t : Tree rows) (row : ℕ) where
 
   pub inside-block : row < rowCount rows → outsideBlock rows row ≡ false → BlockItem rows row
   unfolding outsideBlock
-  inside-block n e d = noted-item rows t 42 1 row n (rw d at e)
+  inside-block n e d initial = noted-item rows t 42 1 row n (rw (d, ne-eqb (numberAt rows row 2) 0 initial) at e)
 
   pub block-inside : BlockItem rows row → outsideBlock rows row ≡ false
   unfolding outsideBlock
-  block-inside item = by-cases (isDeclaration rows row) (λ d. rw (d, item-noted rows t 42 1 (omega arith) (item d))) (λ d. rw d)
+  block-inside item =
+      by-cases (isDeclaration rows row)
+      (λ d. by-cases (eqb (numberAt rows row 2) 0) (λ z. rw (d, z)) (λ z. rw (d, z, item-noted rows t 42 1 (omega arith) (item d (eqb-false _ _ z)))))
+      (λ d. rw d)
 
   -- ---- 19
 

@@ -11,15 +11,16 @@ use Rattle.structure.specs.Lists.{Before}
 use Rattle.words.specs.Declarations.{isDeclaration, declarationCount}
 use Rattle.names.specs.Names.{isName}
 use Rattle.list_items.specs.Items.{ListItem}
+use Rattle.parameter_causes.specs.Demands.{NotParameter}
 
 -- The rows of a declaration's initial expression: b, and what stands below it.
 pub data InInitial (rows : List ℤ) (declaration : ℕ) : ℕ → Type 0 where
   whole : Leads rows declaration 2 → InInitial rows declaration (link rows declaration 2)
   below : {row field : ℕ} → field < 6 → Leads rows row field → InInitial rows declaration row → InInitial rows declaration (link rows row field)
 
--- "It is an item of a block": kind 42, whose list begins at a.
+-- "It is an item of a block": kind 42, whose list begins at a. A parameter, which has no b, need not be.
 abbrev pub BlockItem : List ℤ → ℕ → Type 0
-BlockItem rows row = isDeclaration rows row ≡ true → ListItem rows 42 1 row
+BlockItem rows row = isDeclaration rows row ≡ true → (numberAt rows row 2 ≡ 0 → ⊥) → ListItem rows 42 1 row
 
 -- No "initial expression naming its own number".
 abbrev pub NotOwn : List ℤ → ℕ → Type 0
@@ -38,4 +39,5 @@ FewDeclarations rows = declarationCount rows ≤ 64
 pub record WellDeclared (rows : List ℤ) : Type 0 where
   pub not-own : (row : ℕ) → row < rowCount rows → NotOwn rows row
   pub not-twice : (row : ℕ) → row < rowCount rows → NotTwice rows row
+  pub not-parameter : (row : ℕ) → row < rowCount rows → NotParameter rows row
   pub few-declarations : FewDeclarations rows

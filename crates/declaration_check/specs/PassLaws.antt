@@ -16,10 +16,11 @@ use Rattle.list_items.specs.Items.{earlierAt}
 use Rattle.row_notes.specs.RowNotes.{noteAt}
 use Rattle.row_notes.specs.RowNoteLaws.{before-note, same-notes}
 use Rattle.row_notes.specs.declared.Note.the-variants.{Before}
+use Rattle.parameter_causes.specs.Parameters.{declaredAsParameter}
 use Rattle.declaration_causes.specs.Causes.{outsideBlock, namesItself, declaredBefore, oneTooMany}
 use Rattle.declaration_check.specs.Passes.{breaks}
 use Rattle.declaration_check.specs.declared.Cause.{Cause}
-use Rattle.declaration_check.specs.declared.Cause.the-variants.{OutsideBlock, NamesItself, DeclaredBefore, OneTooMany}
+use Rattle.declaration_check.specs.declared.Cause.the-variants.{OutsideBlock, NamesItself, DeclaredBefore, DeclaredAsParameter, OneTooMany}
 
 lone-kind : (kind : ℕ) → between 58 58 kind ≡ eqb kind 58
 lone-kind kind =
@@ -35,8 +36,9 @@ unfolding isDeclaration
 declaration-notes {rows} n = same-notes (λ row. before-note 58 58 rows row ∙ ap (λ (sort : ℕ → Bool). earlierAt sort rows row) (fun-ext (λ other. lone-kind (numberAt rows other 0)))) n
 
 pub none-breaks : (cause : Cause) (rows : List ℤ) (row : ℕ) → isDeclaration rows row ≡ false → breaks cause rows row ≡ false
-unfolding breaks outsideBlock namesItself declaredBefore oneTooMany
+unfolding breaks outsideBlock namesItself declaredBefore declaredAsParameter oneTooMany
 none-breaks OutsideBlock rows row d = rw d
 none-breaks NamesItself rows row d = rw d
 none-breaks DeclaredBefore rows row d = rw d
+none-breaks DeclaredAsParameter rows row d = rw d
 none-breaks OneTooMany rows row d = rw d

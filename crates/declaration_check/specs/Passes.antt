@@ -5,14 +5,16 @@ use Prim.Native.Nat.{ℕ}
 use lib.IntN.{ℤ}
 use Rattle.words.specs.Declarations.{isDeclaration, declarationsBefore}
 use Rattle.list_items.specs.Items.{itemAt, earlierAt}
+use Rattle.parameter_causes.specs.Parameters.{bodyAt, declaredAsParameter}
 use Rattle.declaration_causes.specs.Causes.{outsideBlock, namesItself, declaredBefore, oneTooMany}
 use Rattle.declaration_check.specs.declared.Cause.{Cause}
-use Rattle.declaration_check.specs.declared.Cause.the-variants.{OutsideBlock, NamesItself, DeclaredBefore, OneTooMany}
+use Rattle.declaration_check.specs.declared.Cause.the-variants.{OutsideBlock, NamesItself, DeclaredBefore, DeclaredAsParameter, OneTooMany}
 
 unfoldable pub breaks : Cause → List ℤ → ℕ → Bool
 breaks OutsideBlock rows row = outsideBlock rows row
 breaks NamesItself rows row = namesItself rows row
 breaks DeclaredBefore rows row = declaredBefore rows row
+breaks DeclaredAsParameter rows row = declaredAsParameter rows row
 breaks OneTooMany rows row = oneTooMany rows row
 
 -- Of a row; a cause that looks up nothing takes the counts too.
@@ -20,4 +22,5 @@ unfoldable pub lookedUp : Cause → List ℤ → ℕ → ℕ
 lookedUp OutsideBlock rows row = itemAt rows 42 1 row
 lookedUp NamesItself rows row = declarationsBefore rows row
 lookedUp DeclaredBefore rows row = earlierAt (isDeclaration rows) rows row
+lookedUp DeclaredAsParameter rows row = bodyAt rows row
 lookedUp OneTooMany rows row = declarationsBefore rows row

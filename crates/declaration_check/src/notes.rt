@@ -10,6 +10,7 @@ ghost use Rattle.structure.specs.Structured.{Tree};
 ghost use Rattle.structure.specs.Passes.{Notes};
 ghost use Rattle.words.specs.Declarations.{isDeclaration};
 ghost use Rattle.list_items.specs.Items.{itemAt, earlierAt};
+ghost use Rattle.parameter_causes.specs.Parameters.{bodyAt};
 
 // 1 for an item of a block's list.
 pub fn write_block_items(kinds: &KindTable, rows: &[i32], notes: &mut [u16])
@@ -25,4 +26,12 @@ pub fn write_earlier(kinds: &KindTable, rows: &[i32], notes: &mut [u16])
     ensures { λ _. ⌜ Notes (now (rows .entry)) (earlierAt (isDeclaration (now (rows .entry))) (now (rows .entry))) (now (notes .exit)) ⌝ }
 {
     write_notes(Note::Before(58, 58), kinds, rows, notes);
+}
+
+// The definition of the function whose block the row is, or in whose block's own list it stands, or 0.
+pub fn write_bodies(kinds: &KindTable, rows: &[i32], notes: &mut [u16])
+    requires { ⌜ Tree (now rows) × (length (now rows) / 6 ≤ length (now notes)) × (getD (now notes) 0 0 ≡ 0) × (now kinds ≡ grammar) ⌝ }
+    ensures { λ _. ⌜ Notes (now (rows .entry)) (bodyAt (now (rows .entry))) (now (notes .exit)) ⌝ }
+{
+    write_notes(Note::BodyOf(59), kinds, rows, notes);
 }

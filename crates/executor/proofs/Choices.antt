@@ -29,7 +29,7 @@ use Rattle.language.specs.Meaning.{Context, Signal, next, Choice, noneTrue, ran
 use Rattle.language.specs.Sound.{Link, ArmLink}
 use Rattle.language.specs.SoundLaws.{arm-link-of}
 use Rattle.operations.specs.Answers.{operandOf, answered, positionOf}
-use Rattle.operations.specs.Bounds.{layoutFrom}
+use Rattle.operations.specs.Bounds.{layoutIn}
 use Rattle.operations.specs.Ready.{Entered}
 use Rattle.operations.specs.Rows.{contextAt, valueAt}
 use Rattle.operations.specs.declared.Operand.{Operand}
@@ -70,7 +70,7 @@ block-there rows bounds zero z n s = absurd (z refl)
 block-there rows bounds (suc block) z n s = refl
 
 module _ {rows : List ℤ} {bounds : List ℕ} {words row : ℕ} (here : Entered rows bounds words row (OfMember Arm)) where
-  pub arm-links : Link rows (layoutFrom bounds) words row 1 × Link rows (layoutFrom bounds) words row 2 × ArmLink rows (layoutFrom bounds) words row 5
+  pub arm-links : Link rows (layoutIn rows bounds) words row 1 × Link rows (layoutIn rows bounds) words row 2 × ArmLink rows (layoutIn rows bounds) words row 5
   unfolding isRequired sortIn kindRow memberFields
   arm-links = (
     link here 1 (omega arith) (omega arith) refl,
@@ -87,7 +87,7 @@ module _ {rows : List ℤ} {bounds : List ℕ} {words row : ℕ} (here : Entered
       ∙ onward-same (spend (guardAt rows bounds row) n s) _ _ (λ v n s. ap (λ (r : Rest Choice). pick (isTrue v) r (spend (armsFrom rows bounds (numberAt rows row 5)) n s)) (sym (block-there rows bounds (numberAt rows row 2) (λ e. omega (arith, arm-links .1 .later)) n s)))
 
 -- what the first of a row's arms asks, or the next arm
-pub arms-ready : {rows : List ℤ} {bounds : List ℕ} {words row : ℕ} {kind : Kind} → Entered rows bounds words row kind → {field : ℕ} → ArmLink rows (layoutFrom bounds) words row field
+pub arms-ready : {rows : List ℤ} {bounds : List ℕ} {words row : ℕ} {kind : Kind} → Entered rows bounds words row kind → {field : ℕ} → ArmLink rows (layoutIn rows bounds) words row field
     → {first size : ℕ} → first ≡ numberAt rows row field → size ≡ words → ReadyArms rows bounds size first
 arms-ready here arm-link {first} e q = record {
   ready = optional (here .ready) (λ h. arm-link h .0) e q;
@@ -256,11 +256,11 @@ module _ {rows : List ℤ} {bounds : List ℕ} {words row : ℕ} where
     abbrev whole : length rows ≡ 6 * rowCount rows
     whole = here .ready .setting .sound .whole
 
-  guarded-if-link : Entered rows bounds words row (OfStatement GuardedIf) → ArmLink rows (layoutFrom bounds) words row 1
+  guarded-if-link : Entered rows bounds words row (OfStatement GuardedIf) → ArmLink rows (layoutIn rows bounds) words row 1
   unfolding sortIn kindRow statementFields
   guarded-if-link here = arm-link-of (here .ready .setting .sound) (here .ready .below) (here .kind-is) 1 (omega arith) (omega arith) refl
 
-  guarded-do-link : Entered rows bounds words row (OfStatement GuardedDo) → ArmLink rows (layoutFrom bounds) words row 1
+  guarded-do-link : Entered rows bounds words row (OfStatement GuardedDo) → ArmLink rows (layoutIn rows bounds) words row 1
   unfolding sortIn kindRow statementFields
   guarded-do-link here = arm-link-of (here .ready .setting .sound) (here .ready .below) (here .kind-is) 1 (omega arith) (omega arith) refl
 
@@ -277,7 +277,7 @@ module _ {rows : List ℤ} {bounds : List ℕ} {words row : ℕ} where
       known rows bounds row _ n s (at-guardedDo rows (whole here) row (here .kind-is) (λ h. guarded-do-link here h .0 .later) ∙ ap (λ (k : ℕ). guardedDo (armListAt rows k)) (sym p))
 
   -- both: what is left of a guarded statement, a do where it repeats, with its arms from `first` on
-  pub guarded-link : (repeats : Bool) → Entered rows bounds words row (OfStatement (pick repeats GuardedDo GuardedIf)) → ArmLink rows (layoutFrom bounds) words row 1
+  pub guarded-link : (repeats : Bool) → Entered rows bounds words row (OfStatement (pick repeats GuardedDo GuardedIf)) → ArmLink rows (layoutIn rows bounds) words row 1
   guarded-link true here = guarded-do-link here
   guarded-link false here = guarded-if-link here
 

@@ -20,11 +20,11 @@ use Rattle.computation.specs.Computation.{Computation, ret, _>>=_, loop}
 use Rattle.computation.specs.Remaining.{Rest, gives, onward, spend}
 use Rattle.language.specs.Trees.{Part, absent, present, label, Statement, express, block, ifThen, ifElse, while, doWhile, for, switch, declare, giveBack}
 use Rattle.language.specs.Decode.{expressionAt, statementAt, listAt, partAt}
-use Rattle.language.specs.DecodeLaws.{at-no-statement, at-empty, at-express, at-block, at-ifThen, at-ifElse, at-while, at-doWhile, at-for, at-switch, at-break, at-continue, at-goto, at-declare, at-return, part-some}
+use Rattle.language.specs.DecodeLaws.{at-no-statement, at-empty, at-express, at-block, at-ifThen, at-ifElse, at-while, at-doWhile, at-for, at-switch, at-break, at-continue, at-goto, at-declared, at-return, part-some}
 use Rattle.language.specs.Meaning.{Context, Signal, next, breaking, continuing, seeking, returning, perform, items, afterSwitch}
 use Rattle.language.specs.Sound.{Link, OptionalLink}
-use Rattle.language.specs.SoundLaws.{field-of, optional-link-of}
-use Rattle.operations.specs.Bounds.{layoutFrom}
+use Rattle.language.specs.SoundLaws.{root-none, field-of, optional-link-of}
+use Rattle.operations.specs.Bounds.{layoutIn}
 use Rattle.operations.specs.Ready.{Ready, Entered}
 use Rattle.operations.specs.Rows.{contextAt, valueAt}
 use Rattle.operations.proofs.Enter.{onward-same, forks}
@@ -52,12 +52,12 @@ module _ (rows : List ℤ) (bounds : List ℕ) (row : ℕ) {number : ℕ} (p : n
 
 module _ {rows : List ℤ} {bounds : List ℕ} {words row : ℕ} (here : Ready rows bounds words row) where
   pub in-table : InTable rows row
-  in-table = record { layout = layoutFrom bounds; words = words; sound = here .setting .sound; few-rows = here .setting .few-rows; below = here .below }
+  in-table = record { layout = layoutIn rows bounds; words = words; sound = here .setting .sound; few-rows = here .setting .few-rows; below = here .below }
 
   pub table-row : {r size : ℕ} → r < rowCount rows → size ≡ words → Ready rows bounds size r
   table-row h e = record { setting = rw e (here .setting); below = h }
 
-  module _ {field : ℕ} (link : OptionalLink rows (layoutFrom bounds) words row field) where
+  module _ {field : ℕ} (link : OptionalLink rows (layoutIn rows bounds) words row field) where
     pub optional-below : numberAt rows row field < rowCount rows
     optional-below = by (numberAt rows row field) (λ h. link h .inside)
       where
@@ -115,14 +115,14 @@ module _ {rows : List ℤ} {bounds : List ℕ} {words row : ℕ} where
     whole = here .ready .setting .sound .whole
 
     -- a field that links a row, or is 0
-    abbrev optional-link : (field : ℕ) → 1 ≤ field → field < 6 → isLink (sortIn kind field) ≡ true → OptionalLink rows (layoutFrom bounds) words row field
+    abbrev optional-link : (field : ℕ) → 1 ≤ field → field < 6 → isLink (sortIn kind field) ≡ true → OptionalLink rows (layoutIn rows bounds) words row field
     optional-link = optional-link-of (here .ready .setting .sound) (here .ready .below) (here .kind-is)
 
   pub empty-row : Entered rows bounds words row (OfStatement Empty) → (n : ℕ) (s : List ℤ) → spend (performAt rows bounds row) n s ≡ gives next n s
   unfolding spend perform
   empty-row here n s = known rows bounds row _ n s (at-empty rows (whole here) row (here .kind-is))
 
-  pub express-link : Entered rows bounds words row (OfStatement Express) → Link rows (layoutFrom bounds) words row 1
+  pub express-link : Entered rows bounds words row (OfStatement Express) → Link rows (layoutIn rows bounds) words row 1
   unfolding isLink isRequired sortIn kindRow statementFields
   express-link here = link here 1 (omega arith) (omega arith) refl
 
@@ -132,7 +132,7 @@ module _ {rows : List ℤ} {bounds : List ℕ} {words row : ℕ} where
   express-row here p n s =
       known rows bounds row _ n s (at-express rows (whole here) row (here .kind-is) (express-link here .later) ∙ ap (λ (k : ℕ). express (expressionAt rows k)) (sym p))
 
-  pub block-link : Entered rows bounds words row (OfStatement Block) → OptionalLink rows (layoutFrom bounds) words row 1
+  pub block-link : Entered rows bounds words row (OfStatement Block) → OptionalLink rows (layoutIn rows bounds) words row 1
   unfolding isLink isRequired sortIn kindRow statementFields
   block-link here = optional-link here 1 (omega arith) (omega arith) refl
 
@@ -142,7 +142,7 @@ module _ {rows : List ℤ} {bounds : List ℕ} {words row : ℕ} where
   block-row here p n s =
       known rows bounds row _ n s (at-block rows (whole here) row (here .kind-is) (λ h. (block-link here h) .later) ∙ ap (λ (k : ℕ). block (listAt rows k)) (sym p))
 
-  pub if-links : Entered rows bounds words row (OfStatement If) → Link rows (layoutFrom bounds) words row 1 × Link rows (layoutFrom bounds) words row 2 × OptionalLink rows (layoutFrom bounds) words row 3
+  pub if-links : Entered rows bounds words row (OfStatement If) → Link rows (layoutIn rows bounds) words row 1 × Link rows (layoutIn rows bounds) words row 2 × OptionalLink rows (layoutIn rows bounds) words row 3
   unfolding isLink isRequired sortIn kindRow statementFields
   if-links here = (link here 1 (omega arith) (omega arith) refl, link here 2 (omega arith) (omega arith) refl, optional-link here 3 (omega arith) (omega arith) refl)
 
@@ -163,7 +163,7 @@ module _ {rows : List ℤ} {bounds : List ℕ} {words row : ℕ} where
           at-ifElse rows (whole here) row (here .kind-is) (if-links here .0 .later) (if-links here .1 .later) ((if-links here .2 (omega arith)) .later) ∙ rw (← p, ← q, ← r) in
           known rows bounds row _ n s t ∙ onward-same (spend (valueAt rows bounds a) n s) _ _ (λ v. forks (isTrue v) (execAt rows bounds b) (execAt rows bounds (suc c)))
 
-  pub while-links : Entered rows bounds words row (OfStatement While) → Link rows (layoutFrom bounds) words row 1 × Link rows (layoutFrom bounds) words row 2
+  pub while-links : Entered rows bounds words row (OfStatement While) → Link rows (layoutIn rows bounds) words row 1 × Link rows (layoutIn rows bounds) words row 2
   unfolding isLink isRequired sortIn kindRow statementFields
   while-links here = (link here 1 (omega arith) (omega arith) refl, link here 2 (omega arith) (omega arith) refl)
 
@@ -176,7 +176,7 @@ module _ {rows : List ℤ} {bounds : List ℕ} {words row : ℕ} where
       known rows bounds row _ n s t
       ∙ ap (λ (test : Part). spend (loop (roundOf (contextAt rows bounds) test (performAt rows bounds b) absent false)) n s) (sym (part-some rows a (omega (arith, p, while-links here .0 .later))))
 
-  pub do-links : Entered rows bounds words row (OfStatement Do) → Link rows (layoutFrom bounds) words row 1 × Link rows (layoutFrom bounds) words row 2
+  pub do-links : Entered rows bounds words row (OfStatement Do) → Link rows (layoutIn rows bounds) words row 1 × Link rows (layoutIn rows bounds) words row 2
   unfolding isLink isRequired sortIn kindRow statementFields
   do-links here = (link here 1 (omega arith) (omega arith) refl, link here 2 (omega arith) (omega arith) refl)
 
@@ -189,7 +189,7 @@ module _ {rows : List ℤ} {bounds : List ℕ} {words row : ℕ} where
       known rows bounds row _ n s t
       ∙ ap (λ (test : Part). spend (loop (roundOf (contextAt rows bounds) absent (performAt rows bounds a) test true)) n s) (sym (part-some rows b (omega (arith, q, do-links here .1 .later))))
 
-  pub for-links : Entered rows bounds words row (OfStatement For) → OptionalLink rows (layoutFrom bounds) words row 1 × OptionalLink rows (layoutFrom bounds) words row 2 × OptionalLink rows (layoutFrom bounds) words row 3 × Link rows (layoutFrom bounds) words row 4
+  pub for-links : Entered rows bounds words row (OfStatement For) → OptionalLink rows (layoutIn rows bounds) words row 1 × OptionalLink rows (layoutIn rows bounds) words row 2 × OptionalLink rows (layoutIn rows bounds) words row 3 × Link rows (layoutIn rows bounds) words row 4
   unfolding isLink isRequired sortIn kindRow statementFields
   for-links here = (optional-link here 1 (omega arith) (omega arith) refl, optional-link here 2 (omega arith) (omega arith) refl, optional-link here 3 (omega arith) (omega arith) refl, link here 4 (omega arith) (omega arith) refl)
 
@@ -200,7 +200,7 @@ module _ {rows : List ℤ} {bounds : List ℕ} {words row : ℕ} where
       at-for rows (whole here) row (here .kind-is) (λ h. (for-links here .0 h) .later) (λ h. (for-links here .1 h) .later) (λ h. (for-links here .2 h) .later) (for-links here .3 .later) ∙ rw (← p, ← q, ← r, ← u) in
       known rows bounds row _ n s t ∙ enter-for (contextAt rows bounds) n s (partAt rows a) (partAt rows b) (partAt rows c) (statementAt rows d)
 
-  pub switch-links : Entered rows bounds words row (OfStatement Switch) → Link rows (layoutFrom bounds) words row 1 × OptionalLink rows (layoutFrom bounds) words row 2
+  pub switch-links : Entered rows bounds words row (OfStatement Switch) → Link rows (layoutIn rows bounds) words row 1 × OptionalLink rows (layoutIn rows bounds) words row 2
   unfolding isLink isRequired sortIn kindRow statementFields
   switch-links here = (link here 1 (omega arith) (omega arith) refl, optional-link here 2 (omega arith) (omega arith) refl)
 
@@ -226,14 +226,15 @@ module _ {rows : List ℤ} {bounds : List ℕ} {words row : ℕ} where
   unfolding spend perform numberAt
   goto-row here n s = known rows bounds row _ n s (at-goto rows (whole here) row (here .kind-is))
 
-  pub declare-link : Entered rows bounds words row (OfStatement Declare) → Link rows (layoutFrom bounds) words row 2
+  -- a parameter has no expression; a run that came to one would take row 0's
+  pub declare-link : Entered rows bounds words row (OfStatement Declare) → OptionalLink rows (layoutIn rows bounds) words row 2
   unfolding isLink isRequired sortIn kindRow statementFields
-  declare-link here = link here 2 (omega arith) (omega arith) refl
+  declare-link here = optional-link here 2 (omega arith) (omega arith) refl
 
   -- the word of the new object is in the store
   pub declared-inside : Entered rows bounds words row (OfStatement Declare) → numberAt rows row 1 < words
   unfolding sortIn kindRow statementFields
-  declared-inside here = field-of (here .ready .setting .sound) (here .ready .below) (here .kind-is) 1 (omega arith) (omega arith) .declares-word refl
+  declared-inside here = field-of (here .ready .setting .sound) (here .ready .below) (here .kind-is) 1 (omega arith) (omega arith) refl .declares-word refl
 
   pub declared-asks : Entered rows bounds words row (OfStatement Declare) → (6 * row + 1 < length rows) × (numberAt rows row 1 < 2147483648)
   declared-asks here = (omega (arith, whole here, here .ready .below), omega (arith, declared-inside here, here .ready .setting .few-words))
@@ -242,10 +243,10 @@ module _ {rows : List ℤ} {bounds : List ℕ} {words row : ℕ} where
       → spend (performAt rows bounds row) n s ≡ onward (spend (valueAt rows bounds b) n s) (λ v n s. gives next n (set s i v))
   unfolding spend perform
   declare-row here {i} {b} p q n s =
-      let t : statementAt rows row ≡ declare i (expressionAt rows b) = at-declare rows (whole here) row (here .kind-is) (declare-link here .later) ∙ rw (← p, ← q) in
+      let t : statementAt rows row ≡ declare i (expressionAt rows b) = at-declared rows (whole here) row (root-none (here .ready .setting .sound)) (here .kind-is) (λ h. (declare-link here h) .later) ∙ rw (← p, ← q) in
       known rows bounds row _ n s t
 
-  pub return-link : Entered rows bounds words row (OfStatement Return) → OptionalLink rows (layoutFrom bounds) words row 1
+  pub return-link : Entered rows bounds words row (OfStatement Return) → OptionalLink rows (layoutIn rows bounds) words row 1
   unfolding isLink isRequired sortIn kindRow statementFields
   return-link here = optional-link here 1 (omega arith) (omega arith) refl
 

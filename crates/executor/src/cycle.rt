@@ -12,9 +12,8 @@ use flows::CONTINUE;
 use flows::Flow;
 use flows::NEXT;
 use flows::calls::argument_count;
-use flows::calls::argument_row;
-use flows::calls::function_row;
-use flows::calls::store_parameters;
+use flows::calls::row_behind;
+use flows::calls::store_parameter;
 use flows::flows::after_body;
 use flows::flows::after_call;
 use flows::flows::after_expression;
@@ -25,6 +24,7 @@ use flows::flows::after_value;
 use flows::flows::flow;
 use flows::flows::jump;
 use flows::flows::without_guard;
+use flows::functions::function_row;
 use flows::lists::find_start;
 use flows::lists::resume;
 use operations::GUARD;
@@ -311,21 +311,17 @@ fn increment(
     update(operator, at, 1, old, store)
 }
 
-// A call's row, entered: the arguments and the parameters, then the function's block. `bind` has returned by then, so that its array is not on
-// the stack while the block runs.
+// A call's row, entered: the arguments and the parameters, then the function's block. `bind` has returned by then, so that none of its frames is
+// on the stack while the block runs.
 fn call(rows: &[i32], bounds: &[usize], row: usize, store: &mut [i32], left: &mut u32) -> i64
     requires { ⌜ Entered (now rows) (now bounds) (length (now store)) row (OfExpression Call) ⌝ }
     ensures { λ r. ⌜ answered r (now (left .exit)) (now (store .exit)) ≡ spend (evaluateAt (now (rows .entry)) (now (bounds .entry)) row) (now (left .entry)) (now (store .entry)) ⌝ }
 {
-    let definition = function_row(rows, number_at(rows, row, 1));
-    let answer = bind(
-        &*rows,
-        &*bounds,
-        link_at(rows, row, 2),
-        link_at(rows, definition, 2),
-        store,
-        left,
-    );
+    let definition = function_row(bounds, number_at(rows, row, 1));
+    let first = link_at(rows, row, 2);
+    let parameter = link_at(rows, definition, 2);
+    let count = argument_count(rows, first);
+    let answer = bind(&*rows, &*bounds, first, parameter, count, store, left);
     let bound = operand(answer);
     let Operand::Value(_) = bound else {
         return answer;
@@ -333,37 +329,42 @@ fn call(rows: &[i32], bounds: &[usize], row: usize, store: &mut [i32], left: &mu
     after_call(exec(&*rows, &*bounds, link_at(rows, definition, 3), store, left))
 }
 
-// The arguments of a call, from the last to the first, and then its function's parameters: "all before any parameter is stored".
+// The first `count` arguments of a call, from the last to the first, and then as many of its function's parameters: "all before any parameter is
+// stored". Each value waits in a frame of this function, which calls itself and so stays a function of the compiled code: an array would be in
+// the frame of `compute`, for each call under way.
 fn bind(
     rows: &[i32],
     bounds: &[usize],
     first: usize,
     parameter: usize,
+    count: usize,
     store: &mut [i32],
     left: &mut u32,
 ) -> i64
-    requires { ⌜ ReadyBind (now rows) (now bounds) (length (now store)) first parameter ⌝ }
-    ensures { λ r. ⌜ answered r (now (left .exit)) (now (store .exit)) ≡ spend (boundAt (now (rows .entry)) (now (bounds .entry)) first parameter) (now (left .entry)) (now (store .entry)) ⌝ }
+    requires { ⌜ ReadyBind (now rows) (now bounds) (length (now store)) first parameter count ⌝ }
+    ensures { λ r. ⌜ answered r (now (left .exit)) (now (store .exit)) ≡ spend (boundAt (now (rows .entry)) (now (bounds .entry)) first parameter count) (now (left .entry)) (now (store .entry)) ⌝ }
 {
-    let mut values: [i32; 64] = [0; 64];
-    let count = argument_count(rows, first);
-    let mut k = count;
-    while k != 0 {
-        let n = *left;
-        if n == 0 {
-            return SPENT;
-        }
-        *left = n - 1;
-        k -= 1;
-        let at = argument_row(rows, first, k);
-        let answer = eval(&*rows, &*bounds, link_at(rows, at, 1), store, left);
-        let argument = operand(answer);
-        let Operand::Value(value) = argument else {
-            return answer;
-        };
-        values[k] = value;
+    if count == 0 {
+        return 0;
     }
-    store_parameters(rows, parameter, &values[..count], store);
+    let n = *left;
+    if n == 0 {
+        return SPENT;
+    }
+    *left = n - 1;
+    let place = count - 1;
+    let at = row_behind(rows, first, place);
+    let answer = eval(&*rows, &*bounds, link_at(rows, at, 1), store, left);
+    let argument = operand(answer);
+    let Operand::Value(value) = argument else {
+        return answer;
+    };
+    let before = bind(&*rows, &*bounds, first, parameter, place, store, left);
+    let bound = operand(before);
+    let Operand::Value(_) = bound else {
+        return before;
+    };
+    store_parameter(rows, row_behind(rows, parameter, place), value, store);
     0
 }
 
@@ -408,11 +409,10 @@ pub fn exec(rows: &[i32], bounds: &[usize], row: usize, store: &mut [i32], left:
         return SPENT;
     }
     *left = n - 1;
-    perform(&*rows, &*bounds, row, store, left)
+    entry(&*rows, &*bounds, row, store, left)
 }
 
-// The item of a list at a row: a definition is passed over, "uncounted"; else the statement there, which is most often an expression statement,
-// which needs no call of `perform`. With both callers `perform` stays a function of the compiled code, and `list` is built into it: a block among the items of a list takes one frame.
+// The item of a list at a row: a definition is passed over, "uncounted"; else the statement there.
 fn item(rows: &[i32], bounds: &[usize], row: usize, store: &mut [i32], left: &mut u32) -> i64
     requires { ⌜ Ready (now rows) (now bounds) (length (now store)) row ⌝ }
     ensures { λ r. ⌜ ran r (now (left .exit)) (now (store .exit)) ≡ spend (itemAt (now (rows .entry)) (now (bounds .entry)) row) (now (left .entry)) (now (store .entry)) ⌝ }
@@ -426,8 +426,18 @@ fn item(rows: &[i32], bounds: &[usize], row: usize, store: &mut [i32], left: &mu
         return SPENT;
     }
     *left = n - 1;
-    if number == 41 {
-        return express(&*rows, &*bounds, row, store, left);
+    entry(&*rows, &*bounds, row, store, left)
+}
+
+// A row that was entered: the list of a block, or what `perform` does. It has two callers and is the one caller of `perform`, which is built into
+// it with both of its own: so a block among the items of a list takes one frame, of 144 bytes, and `rounds`, with `turn`, another.
+fn entry(rows: &[i32], bounds: &[usize], row: usize, store: &mut [i32], left: &mut u32) -> i64
+    requires { ⌜ Ready (now rows) (now bounds) (length (now store)) row ⌝ }
+    ensures { λ r. ⌜ ran r (now (left .exit)) (now (store .exit)) ≡ spend (performAt (now (rows .entry)) (now (bounds .entry)) row) (now (left .entry)) (now (store .entry)) ⌝ }
+{
+    let number = number_at(rows, row, 0);
+    if number == 42 {
+        return list(&*rows, &*bounds, link_at(rows, row, 1), store, left);
     }
     perform(&*rows, &*bounds, row, store, left)
 }

@@ -1,7 +1,8 @@
--- ListNumbersLaws: a flattening whose answer has no cause was made, since every cause of the kernel check, and 10, has a number but 0.
+-- ListNumbersLaws: a flattening whose answer has no cause was made, since every cause of the kernel check, 25 and 10 have a number but 0.
 use mathlib.Core.Path.{_≡_, refl, sym, ap, _∙_}
 use mathlib.Core.Bool.{Bool, true, false}
 use mathlib.Core.List.{List}
+use mathlib.Core.Logic.{⊎-elim}
 use Prim.Native.Nat.{ℕ}
 use native.Mathlib.Omega.{arith}
 use lib.Dec.{leb}
@@ -13,6 +14,8 @@ use Rattle.words.specs.declared.Form.the-variants.{Kernel}
 use Rattle.words.specs.declared.Refusal.{Refusal}
 use Rattle.words.specs.declared.Verdict.{Verdict}
 use Rattle.words.specs.declared.Verdict.the-variants.{Accepted, Refused}
+use Rattle.plain_check.specs.Refusal.{plainRefusal}
+use Rattle.plain_check.specs.Accepts.{refused-plain}
 use Rattle.program_runs.specs.Runs.{refusalOf}
 use Rattle.flat_fate.specs.FlatWords.{flattened}
 use Rattle.flattener.specs.Flattening.{FlattenResult, answerAndList, flattenAfter, flattenResult, WritesList}
@@ -38,13 +41,15 @@ module _ (header rows out left : List ℤ) where
 
   list-caused : (refusal : Refusal) → answerAndList (FlattenRefused refusal) left ≡ flattenResult header rows out → refusal .number ≡ 0 → ⊥
   unfolding flattenResult
-  list-caused refusal e none = go (refusalOf Kernel header rows) refl e
+  list-caused refusal e none = go (plainRefusal header rows) refl e
     where
-      go : (verdict : Verdict) → refusalOf Kernel header rows ≡ verdict → answerAndList (FlattenRefused refusal) left ≡ flattenAfter verdict rows out → ⊥
+      go : (verdict : Verdict) → plainRefusal header rows ≡ verdict → answerAndList (FlattenRefused refusal) left ≡ flattenAfter verdict rows out → ⊥
       go (Refused other) told e =
           let answers : FlattenRefused refusal ≡ FlattenRefused other = ap (λ (result : FlattenResult). result .answer) e in
           let same : refusal ≡ other = cc in
-          check-caused Kernel header rows other told (ap (λ (r : Refusal). r .number) (sym same) ∙ none)
+          let number : other .number ≡ 0 = ap (λ (r : Refusal). r .number) (sym same) ∙ none in
+          ⊎-elim (λ (checked : refusalOf Kernel header rows ≡ Refused other). check-caused Kernel header rows other checked number)
+          (λ (functions : other .number ≡ 25). omega arith) (refused-plain header rows other told)
       go Accepted told e = ten-caused refusal (leb (length (flattened rows)) (length out)) e none
 
   pub lists-if-done : (answer : FlattenAnswer) (given : Answer) → given ≡ flattenAnswer answer → answerAndList answer left ≡ flattenResult header rows out → WritesList header rows answer left → ListsIfDone header rows given left

@@ -6,9 +6,9 @@ use Prim.Native.Nat.{ℕ, _+_, _-_, _≤_, _<_, max}
 use native.Mathlib.Omega.{arith}
 use lib.IntN.{ℤ}
 use Rattle.language.specs.Trees.{Expression, constant, read, minus, not, binary, and, or, comma, conditional, assign, compound, prefix, postfix, call, variable, element, Part}
-use Rattle.words.specs.Table.{rowCount}
 use Rattle.language.specs.Writes.{writes, indexWrites}
 use Rattle.language.specs.Decode.{expressionAt, partAt}
+use Rattle.shapes.specs.Functions.{isCall}
 use Rattle.shapes.specs.Shapes.{OptionalOnward}
 use Rattle.translation.specs.Uses.{direct}
 use Rattle.translation.specs.declared.Use.{Use}
@@ -19,7 +19,7 @@ use Rattle.translation.specs.TranslateBounds.{copy-most, hold-most, index-most,
 use Rattle.measure_table.specs.Parts.{calledIn, firstOperand, secondOperand, thirdOperand, fourthOperand, aboveFirst, firstUse, secondUse, ownLevels, usePassed, rowsBy, levelsBy, OwnAt}
 use Rattle.measure_table.specs.Measures.{limited, rowsSlot, levelsSlot, rowsFor, levelsFor, RowsWord, LevelsWord, slotAt, MeasuredFrom}
 use Rattle.measure_table.specs.MeasureLaws.{part-rows, part-levels, size-parts, levels-parts}
-use Rattle.measure_table.specs.PlainRows.{isCall, passes-none}
+use Rattle.measure_table.specs.NoCalls.{passes-none}
 use Rattle.measure_table.specs.declared.Own.{Own}
 
 -- ---- sums that are cut off
@@ -99,16 +99,16 @@ module _ (rows : List ℤ) (table : List ℕ) (row : ℕ) (m : MeasuredFrom rows
     passed : {v : Use} → v ≡ usePassed (o .passes) u → v ≡ secondUse e u
     passed h = h ∙ at .second-use u
 
-    pub rows-of : {v : Use} (i j a b c d own : ℕ) → row < rowCount rows → v ≡ usePassed (o .passes) u → RowsWord (o .«first_use») i → RowsWord v j
+    pub rows-of : {v : Use} (i j a b c d own : ℕ) → isCall e ≡ false → v ≡ usePassed (o .passes) u → RowsWord (o .«first_use») i → RowsWord v j
         → a ≡ slotAt table (o .first) i → b ≡ slotAt table (o .second) j → c ≡ slotAt table (o .third) rowsSlot → d ≡ slotAt table (o .fourth) rowsSlot → own ≡ rowsBy o u
         → limited (a + b + c + d + own) ≡ limited (expressionSize (calledIn rows) e u)
     unfolding limited
-    rows-of i j a b c d own inside ep ei ej ea eb ec ed eo =
+    rows-of i j a b c d own plain ep ei ej ea eb ec ed eo =
         let qa = part-row (firstUse e) (o .first) i (firstOperand (calledIn rows) e) a (at .first .is) (at .first .onward) (ei .is ∙ ap rowsFor (at .first-use)) ea in
         let qb = part-row (secondUse e u) (o .second) j (secondOperand (calledIn rows) e) b (at .second .is) (at .second .onward) (ej .is ∙ ap rowsFor (passed ep)) eb in
         let qc = part-row wanted (o .third) rowsSlot (thirdOperand (calledIn rows) e) c (at .third .is) (at .third .onward) refl ec in
         let qd = part-row wanted (o .fourth) rowsSlot (fourthOperand (calledIn rows) e) d (at .fourth .is) (at .fourth .onward) refl ed in
-        omega (arith, size-parts (calledIn rows) e u, own-rows-by at u, passes-none (m .source) row inside (calledIn rows))
+        omega (arith, size-parts (calledIn rows) e u, own-rows-by at u, passes-none (calledIn rows) e plain)
 
     pub levels-of : {v : Use} (i j a b c d own above : ℕ) → v ≡ usePassed (o .passes) u → LevelsWord (o .«first_use») i → LevelsWord v j
         → a ≡ slotAt table (o .first) i → b ≡ slotAt table (o .second) j → c ≡ slotAt table (o .third) levelsSlot → d ≡ slotAt table (o .fourth) levelsSlot → own ≡ levelsBy o u → above ≡ aboveFirst (calledIn rows) e

@@ -21,7 +21,7 @@ use Rattle.shapes.specs.declared.PlaceShape.{PlaceShape}
 use Rattle.shapes.specs.declared.PlaceShape.the-variants.{Variable, Element}
 use Rattle.shapes.specs.declared.OperationShape.the-variants.{Minus, Not, Binary, Comma, Assign, Compound, Prefix}
 use Rattle.shapes.specs.declared.ChoiceShape.the-variants.{And, Or, Conditional}
-use Rattle.shapes.specs.declared.ExpressionShape.the-variants.{Number, Read, Operation, Choice, Call}
+use Rattle.shapes.specs.declared.ExpressionShape.the-variants.{Number, Read, Operation, Choice}
 use Rattle.translation.specs.Uses.{direct}
 use Rattle.translation.specs.declared.Use.{Use}
 use Rattle.translation.specs.declared.Use.the-variants.{Dropped as dropped, Wanted as wanted, Stored as stored}
@@ -32,7 +32,6 @@ use Rattle.translation.specs.TranslateBounds.{taken-most}
 use Rattle.measure_table.specs.Parts.{calledIn, indexOf, updateOwn, firstOperand, secondOperand, thirdOperand, fourthOperand, aboveFirst, firstCopied, plainAtom, firstUse, secondUse, ownLevels, plainOwn, resultOwn, storedOwn, commaOwn, stepOwn, Operand, Brings, OwnAt, PlaceOwnAt}
 use Rattle.measure_table.specs.Measures.{valueSlot, slotAt, MeasuredFrom, StoreAsks, PostfixAt}
 use Rattle.measure_table.specs.MeasureLaws.{at-some, link-measured}
-use Rattle.measure_table.specs.PlainRows.{no-call}
 use Rattle.measure_table.specs.declared.Own.{Own}
 use Rattle.measure_table.specs.declared.PlaceOwn.{PlaceOwn}
 
@@ -235,10 +234,6 @@ module _ {rows : List ℤ} {row : ℕ} where
     own-step-element {place} {array} {index} {t} f g et h =
         let is = postfix-tree f g in
         own-plain 0 index 0 0 1 16 (2 + t) row is (nothing rows row) (behind-place rows row (f .onward) (g .onward .1)) (nothing rows row) (nothing rows row) refl (λ u. refl) refl (λ u. refl) (λ u. ap (λ (n : ℕ). 2 + n) et) (ap (plainAtom (calledIn rows)) is) inside h
-
-  -- no form has calls yet
-  pub own-call : {table : List ℕ} {f arguments : ℕ} {o : Own} → MeasuredFrom rows table (row + 1) → row < rowCount rows → ExpressionAt rows row (Call f arguments) → OwnAt rows row o
-  own-call m inside f = absurd (no-call (m .source) row inside (f .is))
 
   -- whose value comes from where an operand's comes from
   module _ {table : List ℕ} (m : MeasuredFrom rows table (row + 1)) where

@@ -2,12 +2,13 @@
 // words begin at `store`.
 use super::holders::holder_at;
 use measure_table::Holder;
-use row_writes::writes::set_at;
+use row_writes::table::set_at;
 use shapes::ExpressionShape;
 use shapes::OperationShape;
 use shapes::PlaceShape;
 use shapes::rows::expression_at;
 use shapes::rows::place_at;
+use write_sets::WriteSet;
 use write_sets::has;
 ghost use mathlib.Core.Path.{_≡_};
 ghost use Prim.Native.Nat.{_+_, _*_, _≤_, _<_};
@@ -17,25 +18,44 @@ ghost use Rattle.words.specs.Table.{rowCount};
 ghost use Rattle.language.specs.Decode.{placeOf, expressionAt, partAt};
 ghost use Rattle.translation.specs.Translate.{atomOf};
 ghost use Rattle.translation.specs.TranslateSize.{copied};
-ghost use Rattle.shapes.specs.Source.{Source, ExpressionAt};
+ghost use Rattle.shapes.specs.Source.{NamesFrom, Source, ExpressionAt};
 ghost use Rattle.shapes.specs.declared.ExpressionShape.the-variants.{Operation};
 ghost use Rattle.write_sets.specs.Sets.{member};
 ghost use Rattle.measure_table.specs.Parts.{calledIn, indexOf, firstCopied, Operand};
-ghost use Rattle.row_writes.specs.WriteSets.{partWrites, setAt, SetHeld, Sets};
+ghost use Rattle.row_writes.specs.WriteSets.{partWrites, Sets};
 ghost use Rattle.measure_table.specs.Measures.{width, MeasuredFrom, MeasuredRow};
+ghost use Rattle.expression_measures.specs.Passed.{CopiedBy};
 
-// 1 where the set of the row that a link leads to has the variable, else 0.
-fn written(store: usize, sets: &[u64], link: usize, variable: usize) -> usize
-    requires { ⌜ SetHeld (now sets) link ⌝ }
-    ensures { λ r. ⌜ r ≡ pick (member store (setAt (now (sets .entry)) link) variable) 1 0 ⌝ }
+// 1 where the set has the variable, else 0.
+fn written(store: usize, set: WriteSet, variable: usize) -> usize
+    ensures { λ r. ⌜ (r ≡ pick (member store set variable) 1 0) × (r ≤ 1) ⌝ }
 {
-    if has(store, set_at(sets, link), variable) {
+    if has(store, set, variable) {
         return 1;
     }
     0
 }
 
-// 1 where the value of the expression at a row is copied, because it waits while the expression at a link is worked out; else 0.
+// 1 where the value of the expression at a row is copied, because it waits while something is worked out that can write the set; else 0.
+pub fn copied_against(
+    store: usize,
+    rows: &[i32],
+    table: &[usize],
+    row: usize,
+    set: WriteSet,
+) -> usize
+    requires { ⌜ Source (now rows) × NamesFrom store (now rows) × (row < rowCount (now rows)) × (width * rowCount (now rows) ≤ length (now table)) × MeasuredRow (now rows) (now table) row ⌝ }
+    ensures { λ r. ⌜ CopiedBy store (calledIn (now (rows .entry))) (expressionAt (now (rows .entry)) row) set r ⌝ }
+{
+    let holder = holder_at(rows, table, row);
+    match holder {
+        Holder::Number(_) => 0,
+        Holder::Variable(variable) => written(store, set, variable),
+        Holder::Temporary => 0,
+    }
+}
+
+// The same while the expression at a link is worked out.
 fn copied_over(
     store: usize,
     rows: &[i32],
@@ -48,12 +68,7 @@ fn copied_over(
     requires { ⌜ (width * rowCount (now rows) ≤ length (now table)) × MeasuredRow (now rows) (now table) row ⌝ }
     ensures { λ r. ⌜ r ≡ copied (atomOf (calledIn (now (rows .entry))) (expressionAt (now (rows .entry)) row)) (partWrites (calledIn (now (rows .entry))) (partAt (now (rows .entry)) meanwhile)) ⌝ }
 {
-    let holder = holder_at(rows, table, row);
-    match holder {
-        Holder::Number(_) => 0,
-        Holder::Variable(variable) => written(store, sets, meanwhile, variable),
-        Holder::Temporary => 0,
-    }
+    copied_against(store, rows, table, row, set_at(sets, meanwhile))
 }
 
 // The row of the index of the place at a row; 0 for a variable.

@@ -14,10 +14,12 @@ use shapes::rows::place_at;
 use translation::Use;
 ghost use mathlib.Core.Path.{_≡_};
 ghost use Prim.Native.Nat.{_+_, _<_};
+ghost use mathlib.Core.Bool.{false};
 ghost use lib.Dec.{eqb};
 ghost use Rattle.words.specs.Word.{pick};
 ghost use Rattle.words.specs.Table.{rowCount};
 ghost use Rattle.language.specs.Decode.{expressionAt};
+ghost use Rattle.shapes.specs.Functions.{isCall};
 ghost use Rattle.shapes.specs.Source.{ExpressionAt};
 ghost use Rattle.shapes.specs.declared.ExpressionShape.the-variants.{Read, Operation, Choice};
 ghost use Rattle.shapes.specs.declared.OperationShape.the-variants.{Assign};
@@ -273,9 +275,10 @@ fn own_choice(rows: &[i32], table: &[usize], row: usize, choice: ChoiceShape) ->
     }
 }
 
-// The expression at a row; `copied` is 1 where the value of its first operand is copied, else 0.
+// The expression at a row that is no call; `copied` is 1 where the value of its first operand is copied, else 0.
 pub fn own_at(rows: &[i32], table: &[usize], row: usize, copied: usize) -> Own
     requires { ⌜ MeasuredFrom (now rows) (now table) (row + 1) × (row < rowCount (now rows)) × (copied ≡ firstCopied (calledIn (now rows)) (expressionAt (now rows) row)) ⌝ }
+    requires { ⌜ isCall (expressionAt (now rows) row) ≡ false ⌝ }
     ensures { λ r. ⌜ OwnAt (now (rows .entry)) row r ⌝ }
 {
     let shape = expression_at(rows, row);
@@ -286,7 +289,7 @@ pub fn own_at(rows: &[i32], table: &[usize], row: usize, copied: usize) -> Own
             own_operation(rows, table, row, copied, operation)
         }
         ExpressionShape::Choice(choice) => own_choice(rows, table, row, choice),
-        // no form has calls yet
+        // is no call
         ExpressionShape::Call(_, _) => own(0, 0, 0, 0, 0, 0, 0, row),
     }
 }

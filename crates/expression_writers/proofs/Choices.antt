@@ -11,10 +11,10 @@ use Rattle.language.specs.Decode.{expressionAt, partAt}
 use Rattle.language.specs.DecodeLaws.{part-some}
 use Rattle.translation.specs.declared.Use.{Use}
 use Rattle.translation.specs.declared.Use.the-variants.{Wanted as wanted}
-use Rattle.translation.specs.Translate.{Atom as Held, number, word, top, atomOf, taken, atom, temporary, assigning, choosing, copyCode, expressionCode, operandCode}
+use Rattle.translation.specs.Translate.{Atom as Held, number, word, top, atomOf, taken, atom, temporary, assigning, choosing, copyCode, expressionCode, operandCode, expressionLevels, operandLevels}
 use Rattle.translation.specs.TranslateSize.{copyRows, operandSize, expressionSize}
 use Rattle.shapes.specs.Shapes.{operationTree, expressionTree, Onward}
-use Rattle.shapes.specs.Source.{Source, ExpressionAt}
+use Rattle.shapes.specs.Source.{ExpressionAt}
 use Rattle.shapes.specs.declared.OperationShape.{OperationShape}
 use Rattle.shapes.specs.declared.OperationShape.the-variants.{Minus, Not, Binary, Comma, Assign, Compound, Prefix, Postfix}
 use Rattle.shapes.specs.declared.ChoiceShape.the-variants.{And, Or, Conditional}
@@ -22,13 +22,12 @@ use Rattle.shapes.specs.declared.ExpressionShape.{ExpressionShape}
 use Rattle.shapes.specs.declared.ExpressionShape.the-variants.{Operation}
 use Rattle.shapes.specs.declared.ExpressionShape.the-variants as expression
 use Rattle.measure_table.specs.Parts.{calledIn}
-use Rattle.measure_table.specs.PlainRows.{no-call}
 use Rattle.leaves.specs.Atoms.{atomTree, AtomFits}
 use Rattle.leaves.specs.Straight.{straightCode, lastSize}
 use Rattle.straight_writers.specs.Asks.{Writing, AtomAt}
 use Rattle.leaves.specs.declared.KernelAtom.{KernelAtom}
 use Rattle.expression_writers.specs.Code.{lastCode, finishCode, branchCode}
-use Rattle.expression_writers.specs.Asks.{endOf, finishSize, branchSize, BranchFits, ChoiceAt, numberBranch}
+use Rattle.expression_writers.specs.Asks.{endOf, finishSize, branchSize, BranchInside, BranchFits, ChoiceAt, numberBranch}
 use Rattle.expression_writers.specs.declared.End.{End}
 use Rattle.expression_writers.specs.declared.End.the-variants.{Truth, Copy, Stays}
 use Rattle.expression_writers.specs.declared.Branch.{Branch}
@@ -50,12 +49,13 @@ pub record BranchesFit (rows : List ℤ) (row level : ℕ) (test : KernelAtom) (
   pub false-later : 0 < onFalse .row → row < onFalse .row
   pub rows-are : (u : Use) → lastSize (calledIn rows) (expressionAt rows row) u ≡ 2 + branchSize rows onTrue + branchSize rows onFalse
 
-pub branches-fit : {S : ℕ} {rows : List ℤ} {row level : ℕ} {test : KernelAtom} {onTrue onFalse : Branch} → ChoiceAt S rows row level (Choose test onTrue onFalse)
-    → BranchesFit rows row level test onTrue onFalse
-branches-fit at = record {
+-- Levels that the whole has room for, at a level.
+pub branches-fit : {S : ℕ} {rows : List ℤ} {row level : ℕ} {test : KernelAtom} {onTrue onFalse : Branch} (u : Use) → ChoiceAt S rows row level (Choose test onTrue onFalse)
+    → level + expressionLevels (calledIn rows) (expressionAt rows row) u ≤ 2048 → BranchesFit rows row level test onTrue onFalse
+branches-fit u at low = record {
   test-fits = at .fits .0;
-  true-fits = at .fits .1;
-  false-fits = at .fits .2;
+  true-fits = record { inside = at .fits .1 .inside; level-low = omega (arith, at .fits .6 u); atom-fits = at .fits .1 .atom-fits };
+  false-fits = record { inside = at .fits .2 .inside; level-low = omega (arith, at .fits .7 u); atom-fits = at .fits .2 .atom-fits };
   true-later = at .fits .3;
   false-later = at .fits .4;
   rows-are = at .fits .5;
@@ -79,13 +79,7 @@ end-copy top e h = absurd (h e)
 pub record RowAsked (S : ℕ) (rows : List ℤ) (table : List ℕ) (row level : ℕ) : Type 0 where
   pub writing : Writing rows table S
   pub inside : row < rowCount rows
-  pub level-low : level ≤ row
-
-few-rows : {S : ℕ} {rows : List ℤ} {table : List ℕ} {row level : ℕ} → RowAsked S rows table row level → rowCount rows ≤ 2048
-few-rows asked = asked .writing .measured .source .few-rows
-
-pub level-small : {S : ℕ} {rows : List ℤ} {table : List ℕ} {row level : ℕ} → RowAsked S rows table row level → level ≤ 2048
-level-small asked = omega (arith, asked .level-low, asked .inside, few-rows asked)
+  pub level-low : level ≤ 2048
 
 module _ (S : ℕ) (rows : List ℤ) (row level : ℕ) where
   pub straight : {s : ExpressionShape} → ExpressionAt rows row s → ((u : Use) → lastCode (calledIn rows) S (expressionTree rows s) u level ≡ straightCode (calledIn rows) S (expressionTree rows s) u level) → ChoiceAt S rows row level Straight
@@ -103,10 +97,6 @@ module _ (S : ℕ) (rows : List ℤ) (row level : ℕ) where
 
   pub straight-operation : {o : OperationShape} → ExpressionAt rows row (Operation o) → ChoiceAt S rows row level Straight
   straight-operation {o} f = straight f (operation-code o)
-
-  -- no form has functions yet
-  pub straight-call : {f link : ℕ} → Source rows → row < rowCount rows → ExpressionAt rows row (expression.Call f link) → ChoiceAt S rows row level Straight
-  straight-call s inside f = absurd (no-call s row inside (f .is))
 
   abbrev branch : ℕ → End → KernelAtom → Branch
   branch link end x = record { row = link; end = end; atom = x }
@@ -146,21 +136,17 @@ module _ (S : ℕ) (rows : List ℤ) (row level : ℕ) where
   -- ---- what a branch asks
 
   module _ {table : List ℕ} (asked : RowAsked S rows table row level) where
-    branch-fits : {link : ℕ} {end : End} {x : KernelAtom} → Onward rows row link → AtomFits x → BranchFits rows (branch link end x) level
-    branch-fits o f = record {
-      inside = o .inside;
-      level-low = λ h. omega (arith, o .later, asked .level-low);
-      level-small = level-small asked;
-      atom-fits = f;
-    }
+    branch-fits : {link : ℕ} {end : End} {x : KernelAtom} → Onward rows row link → AtomFits x → BranchInside rows (branch link end x)
+    branch-fits o f = record { inside = o .inside; atom-fits = f }
 
-    number-fits : (v : ℤ) → BranchFits rows (numberBranch v) level
-    number-fits v = record {
-      inside = omega (arith, asked .inside);
-      level-low = λ h. absurd (omega arith);
-      level-small = level-small asked;
-      atom-fits = tt;
-    }
+    number-fits : (v : ℤ) → BranchInside rows (numberBranch v)
+    number-fits v = record { inside = omega (arith, asked .inside); atom-fits = tt }
+
+    some-levels : {link : ℕ} → Onward rows row link → operandLevels (calledIn rows) (partAt rows link) wanted ≡ expressionLevels (calledIn rows) (expressionAt rows link) wanted
+    some-levels {link} o = ap (λ p. operandLevels (calledIn rows) p wanted) (part-some rows link (omega (arith, o .later)))
+
+    all-levels : {s : ExpressionShape} → ExpressionAt rows row s → (u : Use) → expressionLevels (calledIn rows) (expressionAt rows row) u ≡ expressionLevels (calledIn rows) (expressionTree rows s) u
+    all-levels f u = ap (λ (e : Expression). expressionLevels (calledIn rows) e u) (f .is)
 
     some-size : {link : ℕ} → Onward rows row link → operandSize (calledIn rows) (partAt rows link) wanted ≡ expressionSize (calledIn rows) (expressionAt rows link) wanted
     some-size {link} o = ap (λ p. operandSize (calledIn rows) p wanted) (part-some rows link (omega (arith, o .later)))
@@ -179,6 +165,7 @@ module _ (S : ℕ) (rows : List ℤ) (row level : ℕ) where
 
     pub and-choice : {a b : ℕ} {test x : KernelAtom} {no : Branch} → ExpressionAt rows row (expression.Choice (And a b)) → AtomAt S rows a level test → AtomAt S rows b level x → no ≡ numberBranch (pos 0)
         → ChoiceAt S rows row level (Choose test (branch b Truth x) no)
+    unfolding expressionLevels
     and-choice {a} {b} {test} {x} {no} f t y n = rw n (record {
       is = λ u. as-last _ f u (sym (ap₃ if-of (t .is) (truth-code b x (omega (arith, f .onward .1 .later)) y) (number-code (pos 0))));
       fits = (
@@ -188,11 +175,14 @@ module _ (S : ℕ) (rows : List ℤ) (row level : ℕ) where
         (λ h. f .onward .1 .later),
         (λ h. absurd (omega arith)),
         (λ u. last-size f u ∙ omega (arith, some-size (f .onward .1))),
+        (λ u. omega (arith, all-levels f u, some-levels (f .onward .1))),
+        (λ u. omega arith),
       );
     })
 
     pub or-choice : {a b : ℕ} {test x : KernelAtom} {onTrue : Branch} → ExpressionAt rows row (expression.Choice (Or a b)) → AtomAt S rows a level test → AtomAt S rows b level x → onTrue ≡ numberBranch (pos 1)
         → ChoiceAt S rows row level (Choose test onTrue (branch b Truth x))
+    unfolding expressionLevels
     or-choice {a} {b} {test} {x} {onTrue} f t y n = rw n (record {
       is = λ u. as-last _ f u (sym (ap₃ if-of (t .is) (number-code (pos 1)) (truth-code b x (omega (arith, f .onward .1 .later)) y)));
       fits = (
@@ -202,12 +192,15 @@ module _ (S : ℕ) (rows : List ℤ) (row level : ℕ) where
         (λ h. absurd (omega arith)),
         (λ h. f .onward .1 .later),
         (λ u. last-size f u ∙ omega (arith, some-size (f .onward .1))),
+        (λ u. omega arith),
+        (λ u. omega (arith, all-levels f u, some-levels (f .onward .1))),
       );
     })
 
     pub conditional-choice : {c a b : ℕ} {test x y : KernelAtom} {yesEnd noEnd : End} → ExpressionAt rows row (expression.Choice (Conditional c a b)) → AtomAt S rows c level test
         → yesEnd ≡ endOf (atomOf (calledIn rows) (expressionAt rows a)) → AtomAt S rows a level x → noEnd ≡ endOf (atomOf (calledIn rows) (expressionAt rows b)) → AtomAt S rows b level y
         → ChoiceAt S rows row level (Choose test (branch a yesEnd x) (branch b noEnd y))
+    unfolding expressionLevels
     conditional-choice {c} {a} {b} {test} {x} {y} f t ea p eb q = rw (ea, eb) (record {
       is = λ u. as-last _ f u (sym (ap₃ if-of (t .is) (value-code a x (omega (arith, f .onward .1 .later)) p) (value-code b y (omega (arith, f .onward .2 .later)) q)));
       fits = (
@@ -217,5 +210,7 @@ module _ (S : ℕ) (rows : List ℤ) (row level : ℕ) where
         (λ h. f .onward .1 .later),
         (λ h. f .onward .2 .later),
         (λ u. last-size f u ∙ omega (arith, some-size (f .onward .1), some-size (f .onward .2), finish-rows (atomOf (calledIn rows) (expressionAt rows a)), finish-rows (atomOf (calledIn rows) (expressionAt rows b)))),
+        (λ u. omega (arith, all-levels f u, some-levels (f .onward .1))),
+        (λ u. omega (arith, all-levels f u, some-levels (f .onward .2))),
       );
     })

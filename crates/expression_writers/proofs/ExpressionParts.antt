@@ -2,7 +2,7 @@
 -- it does with their values. A record for each place between them has what is known there; the laws below it are what the next part asks,
 -- and at last that the four are the expression's code.
 use mathlib.Core.Path.{_≡_, sym, ap, ap₂, subst, _∙_}
-use mathlib.Core.Bool.{Bool}
+use mathlib.Core.Bool.{Bool, true, false}
 use mathlib.Core.List.{List}
 use Prim.Native.Nat.{ℕ, zero, suc, _+_, _*_, _-_, _≤_, _<_}
 use native.Mathlib.Omega.{arith}
@@ -16,22 +16,23 @@ use Rattle.language.specs.DecodeLaws.{part-some}
 use Rattle.translation.specs.TranslateSize.{operandSize}
 use Rattle.emission.specs.Emission.{emitItems}
 use Rattle.shapes.specs.Shapes.{OptionalOnward}
+use Rattle.shapes.specs.Functions.{isCall}
 use Rattle.shapes.specs.Source.{Source}
 use Rattle.translation.specs.declared.Use.{Use}
-use Rattle.translation.specs.Translate.{atomOf, operandCode}
+use Rattle.translation.specs.Translate.{atomOf, expressionCode, operandCode, expressionLevels, operandLevels}
 use Rattle.translation.specs.HeldCode.{holdBy}
 use Rattle.measure_table.specs.Parts.{calledIn, firstOperand, aboveFirst, firstCopied, secondUse, usePassed, UseFits, OwnAt}
-use Rattle.measure_table.specs.MeasureLaws.{passed-fits, size-parts, first-copied-most, own-copies}
+use Rattle.measure_table.specs.MeasureLaws.{passed-fits, size-parts, levels-parts, first-copied-most, own-copies}
 use Rattle.measure_table.specs.declared.Own.{Own}
-use Rattle.expression_measures.proofs.ExpressionLaws.{above-most}
 use Rattle.leaves.specs.Room.{Room, moreRows}
 use Rattle.leaves.specs.Straight.{lastSize}
-use Rattle.straight_writers.specs.Asks.{Writing, LastAsks}
+use Rattle.straight_writers.specs.Asks.{Writing}
+use Rattle.straight_writers.specs.AtomLaws.{rows-hold}
 use Rattle.leaves.specs.Chain.{part, back-in, Reach, put-length, put-reach, put-room, room-less, Wrote, wrote-put, wrote-next, wrote-as}
 use Rattle.expression_writers.specs.Code.{waitCode, lastCode}
-use Rattle.expression_writers.specs.Asks.{OperandAsks}
-use Rattle.expression_writers.specs.CodeLaws.{code-parts, rows-operand, wait-hold, rows-hold, hold-part, waits-some, rows-last}
-use Rattle.expression_writers.proofs.Ranks.{rank, rank-falls}
+use Rattle.expression_writers.specs.Asks.{OperandAsks, CalledAsks, LastAsks}
+use Rattle.expression_writers.specs.CodeLaws.{code-parts, rows-operand, wait-hold, hold-part, waits-some, rows-last}
+use Rattle.call_writers.specs.Ranks.{rank, rank-falls}
 
 -- A link that is absent or goes onward is inside.
 inside-of : {rows : List ℤ} {row : ℕ} (link : ℕ) → Source rows → OptionalOnward rows row link → link < rowCount rows
@@ -51,14 +52,27 @@ module _ {S : ℕ} {rows : List ℤ} {table : List ℕ} {row : ℕ} {u : Use} {l
   pub all-small : operandSize (calledIn rows) (partAt rows row) u ≤ 40980
   all-small = omega (arith, asked .asks .room .low)
 
-  pub row-low : row < 2048
-  row-low = omega (arith, asked .asks .inside, source .few-rows)
+  -- ---- the row is not absent, and is a call
 
-  -- ---- the row is not absent, and its operands are known
+  pub called-asks : 0 < row → isCall (expressionAt rows row) ≡ true → CalledAsks rows row u level base (length out)
+  called-asks some is = record {
+    some = some;
+    inside = asked .asks .inside;
+    is-call = is;
+    level-low = omega (arith, asked .asks .level-low, ap (λ p. operandLevels (calledIn rows) p u) (part-some rows row some));
+    use-fits = asked .asks .use-fits;
+    room = room-less _ (asked .asks .room) (omega (arith, ap (λ p. operandSize (calledIn rows) p u) (part-some rows row some)));
+  }
+
+  pub called-code : 0 < row → expressionCode (calledIn rows) S (expressionAt rows row) u level ≡ operandCode (calledIn rows) S (partAt rows row) u level
+  called-code some = sym (ap (λ p. operandCode (calledIn rows) S p u level) (part-some rows row some))
+
+  -- ---- the row is no call, and its operands are known
 
   -- `copied` is 1 where the value of the first one is copied; v is the use of the second one's.
   pub record OperandsFound (copied : ℕ) (operands : Own) (v : Use) : Type 0 where
     pub some : 0 < row
+    pub no-call : isCall (expressionAt rows row) ≡ false
     pub copied-is : copied ≡ firstCopied (calledIn rows) (expressionAt rows row)
     pub at : OwnAt rows row operands
     pub passed : v ≡ usePassed (operands .passes) u
@@ -97,12 +111,18 @@ module _ {S : ℕ} {rows : List ℤ} {table : List ℕ} {row : ℕ} {u : Use} {l
       → firstRows + 4 * copied + secondRows ≤ operandSize (calledIn rows) (partAt rows row) u
   operands-within e h = omega (arith, all-rows)
 
-  -- The second operand is worked out at most one level higher, and no level passes its row.
-  pub above-low : {above : ℕ} → above ≡ aboveFirst (calledIn rows) (expressionAt rows row) → level + above ≤ row + 1
-  above-low e = omega (arith, above-most (calledIn rows) (expressionAt rows row), asked .asks .level-low (found .some))
+  -- The levels of the operands, the second one's above the first, are among those of the whole.
+  all-levels : level + expressionLevels (calledIn rows) (expressionAt rows row) u ≤ 2048
+  all-levels = omega (arith, asked .asks .level-low, ap (λ p. operandLevels (calledIn rows) p u) (part-some rows row (found .some)))
+
+  first-levels : level + operandLevels (calledIn rows) (partAt rows (operands .first)) (operands .«first_use») ≤ 2048
+  first-levels = omega (arith, all-levels, levels-parts (calledIn rows) (expressionAt rows row) u, ap₂ (operandLevels (calledIn rows)) (found .at .first .is) (found .at .first-use))
+
+  pub second-levels : {above : ℕ} → above ≡ aboveFirst (calledIn rows) (expressionAt rows row) → level + above + operandLevels (calledIn rows) (partAt rows (operands .second)) v ≤ 2048
+  second-levels e = omega (arith, all-levels, levels-parts (calledIn rows) (expressionAt rows row) u, ap₂ (operandLevels (calledIn rows)) (found .at .second .is) second-use)
 
   pub level-small : level ≤ 4096
-  level-small = omega (arith, asked .asks .level-low (found .some), row-low asked)
+  level-small = omega (arith, all-levels)
 
   pub first-falls : rank rows (operands .first) < rank rows row
   first-falls = rank-falls rows row (operands .first) (found .some) (asked .asks .inside) (λ h. found .at .first .onward h .later)
@@ -113,7 +133,7 @@ module _ {S : ℕ} {rows : List ℤ} {table : List ℕ} {row : ℕ} {u : Use} {l
   pub first-asks : OperandAsks rows (operands .first) (operands .«first_use») level base (length out)
   first-asks = record {
     inside = first-inside;
-    level-low = λ h. omega (arith, found .at .first .onward h .later, asked .asks .level-low (found .some));
+    level-low = first-levels;
     use-fits = found .at .first-fits;
     room = room-less _ (asked .asks .room) (omega (arith, all-rows));
   }
@@ -189,7 +209,7 @@ module _ {S : ℕ} {rows : List ℤ} {table : List ℕ} {row : ℕ} {u : Use} {l
   pub second-asks : OperandAsks rows (operands .second) v (level + above) (base + (firstRows + 4 * copied)) (length (part (firstRows + 4 * copied) (back-in firstRows firstTable holdWords)))
   second-asks = record {
     inside = second-inside found;
-    level-low = λ h. omega (arith, found .at .second .onward h .later, above-low found (sizes .above-is));
+    level-low = second-levels found (sizes .above-is);
     use-fits = subst UseFits (sym (found .passed)) (passed-fits (operands .passes) u);
     room = put-room _ (wrote-put held-wrote) (asked .asks .room) (omega (arith, all-rows found, sizes .first-is));
   }
@@ -224,7 +244,8 @@ module _ {S : ℕ} {rows : List ℤ} {table : List ℕ} {row : ℕ} {u : Use} {l
   pub last-asks : LastAsks rows row u level (base + behind) (length (part behind operandsTable))
   last-asks = record {
     inside = asked .asks .inside;
-    level-low = asked .asks .level-low (found .some);
+    no-call = found .no-call;
+    level-low = all-levels found;
     use-fits = asked .asks .use-fits;
     room = put-room _ (wrote-put both-wrote) (asked .asks .room) (omega (arith, last-is sizes, sizes-within sizes, sizes .all-is));
   }

@@ -9,3 +9,7 @@ pub mod BranchParts
 pub mod ChoiceParts
 -- The parts of an expression in the table: its operands' code, and what it does with their values.
 pub mod ExpressionParts
+-- The arguments of a call in the table: those behind the first, its code, and the copy of its value.
+pub mod ArgumentParts
+-- A call in the table: its arguments' code, and the call on what holds them.
+pub mod CallParts

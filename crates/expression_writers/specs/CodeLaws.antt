@@ -30,6 +30,7 @@ use Rattle.words.specs.Over.{over}
 use Rattle.leaves.specs.Room.{moreRows}
 use Rattle.leaves.specs.Straight.{lastSize}
 use Rattle.leaves.specs.Chain.{Wrote, more-is, block-words}
+use Rattle.straight_writers.specs.AtomLaws.{rows-hold}
 use Rattle.leaves.specs.declared.KernelAtom.{KernelAtom}
 use Rattle.leaves.specs.declared.KernelAtom.the-variants.{Constant, Variable}
 use Rattle.expression_writers.specs.Code.{waitCode, lastCode, finishCode, branchCode}
@@ -63,14 +64,6 @@ first-some called (call f arguments) h n = omega arith
 pub waits-some : (called : ℕ → ℕ → Bool) (e : Expression) (rows : List ℤ) (link : ℕ) → firstCopied called e ≡ 1 → partAt rows link ≡ firstOperand called e → 0 < link
 waits-some called e rows zero h p = absurd (first-some called e h p)
 waits-some called e rows (suc link) h p = omega arith
-
-pub rows-hold : (S t k : ℕ) (h : Held) → k ≤ 1 → itemsRows (holdBy S t k h) ≡ 4 * k
-unfolding itemsRows expressionRows
-rows-hold S t zero h l = refl
-rows-hold S t (suc zero) (number v) l = refl
-rows-hold S t (suc zero) (word i) l = refl
-rows-hold S t (suc zero) top l = refl
-rows-hold S t (suc (suc k)) h l = absurd (omega arith)
 
 module _ (called : ℕ → ℕ → Bool) (S : ℕ) where
   plus-none : (p : Part) (u : Use) (t : ℕ) → operandCode called S p u (t + 0) ≡ operandCode called S p u t

@@ -21,6 +21,7 @@ ghost use Rattle.words.specs.Table.{rowCount};
 ghost use Rattle.language.specs.Decode.{expressionAt};
 ghost use Rattle.translation.specs.Translate.{atomOf};
 ghost use Rattle.emission.specs.Emission.{emitItems};
+ghost use Rattle.shapes.specs.Functions.{isCall};
 ghost use Rattle.measure_table.specs.Measures.{Measured};
 ghost use Rattle.measure_table.specs.Parts.{calledIn};
 ghost use Rattle.words.specs.Over.{over};
@@ -52,9 +53,9 @@ fn end_at(rows: &[i32], table: &[usize], row: usize) -> End
     End::Copy
 }
 
-// What the code of the expression at a row ends with.
+// What the code of the expression at a row, which is no call, ends with.
 pub fn choice_at(rows: &[i32], table: &[usize], store: usize, row: usize, level: usize) -> Choice
-    requires { ⌜ Writing (now rows) (now table) store × (row < rowCount (now rows)) × (level ≤ row) ⌝ }
+    requires { ⌜ Writing (now rows) (now table) store × (row < rowCount (now rows)) × (level ≤ 2048) × (isCall (expressionAt (now rows) row) ≡ false) ⌝ }
     ensures { λ r. ⌜ ChoiceAt store (now (rows .entry)) row level r ⌝ }
 {
     let shape = expression_at(rows, row);
@@ -96,7 +97,7 @@ pub fn choice_at(rows: &[i32], table: &[usize], store: usize, row: usize, level:
                 Choice::Choose(test, yes, no)
             }
         },
-        // no form has functions yet
+        // is no call
         ExpressionShape::Call(_, _) => Choice::Straight,
     }
 }

@@ -5,6 +5,13 @@ use super::branches::branch_size;
 use super::branches::choice_at;
 use super::branches::finish_size;
 use super::branches::put_finish;
+use call_writers::arguments::argument_count;
+use call_writers::arguments::argument_value;
+use call_writers::arguments::arguments_taken;
+use call_writers::called::call_at;
+use call_writers::called::call_copies;
+use call_writers::called::is_call;
+use call_writers::calls::put_call;
 use expression_measures::parts::own_at;
 use leaves::KernelAtom;
 use leaves::control::put_block;
@@ -14,24 +21,27 @@ use leaves::rows::more;
 use measure_table::uses::second_use;
 use straight_writers::atoms::operand_copied;
 use straight_writers::atoms::operand_size;
+use straight_writers::atoms::target_word;
 use straight_writers::straight::put_hold;
 use straight_writers::straight::put_straight;
 use translation::Use;
+use words::table::number_at;
 ghost use mathlib.Core.Path.{_≡_};
 ghost use mathlib.Core.Bool.{false};
 ghost use Prim.Native.Nat.{_+_, _*_};
 ghost use lib.ListN.{length};
 ghost use Rattle.language.specs.Trees.{block};
-ghost use Rattle.language.specs.Decode.{expressionAt, partAt};
-ghost use Rattle.translation.specs.Translate.{operandCode};
+ghost use Rattle.language.specs.Decode.{expressionAt, argumentListAt, partAt};
+ghost use Rattle.translation.specs.Translate.{expressionCode, operandCode};
 ghost use Rattle.emission.specs.Emission.{emitStatement, emitItems};
 ghost use Rattle.measure_table.specs.Parts.{calledIn};
 ghost use Rattle.words.specs.Over.{over};
 ghost use Rattle.leaves.specs.Room.{Room};
 ghost use Rattle.leaves.specs.Atoms.{AtomFits};
 ghost use Rattle.expression_writers.specs.Code.{lastCode, branchCode, choiceCode};
-ghost use Rattle.straight_writers.specs.Asks.{Writing, LastAsks};
-ghost use Rattle.expression_writers.specs.Asks.{OperandAsks, branchSize, BranchFits};
+ghost use Rattle.straight_writers.specs.Asks.{Writing};
+ghost use Rattle.call_writers.specs.Arguments.{codeBy};
+ghost use Rattle.expression_writers.specs.Asks.{OperandAsks, CalledAsks, ArgumentsAsk, LastAsks, branchSize, BranchFits};
 
 // The code of the expression at a link, worked out at a level for a use of its value; an absent one has none.
 pub fn write_expression(
@@ -49,6 +59,10 @@ pub fn write_expression(
     ensures { λ _. ⌜ now (out .exit) ≡ over (emitItems follows (operandCode (calledIn (now (rows .entry))) store (partAt (now (rows .entry)) row) usage level) base) (now (out .entry)) ⌝ }
 {
     if row == 0 {
+        return;
+    }
+    if is_call(rows, row) {
+        write_call(rows, table, store, row, usage, level, base, follows, out);
         return;
     }
     let copied = operand_copied(rows, table, row);
@@ -112,7 +126,126 @@ pub fn write_expression(
     );
 }
 
-// What the expression at a row does behind its first two operands.
+// The call at a row: its arguments' code, from the last to the first, and then the call on what holds them.
+fn write_call(
+    rows: &[i32],
+    table: &[usize],
+    store: usize,
+    row: usize,
+    usage: Use,
+    level: usize,
+    base: usize,
+    follows: bool,
+    out: &mut [i32],
+)
+    requires { ⌜ Writing (now rows) (now table) store × CalledAsks (now rows) row usage level base (length (now out)) ⌝ }
+    ensures { λ _. ⌜ now (out .exit) ≡ over (emitItems follows (expressionCode (calledIn (now (rows .entry))) store (expressionAt (now (rows .entry)) row) usage level) base) (now (out .entry)) ⌝ }
+{
+    let call = call_at(rows, row);
+    let first = call.first;
+    let copies = call_copies(rows, table, row);
+    let count = argument_count(rows, first);
+    let number = target_word(store, level, usage);
+    let own = 4 + 2 * count;
+    let n = operand_size(rows, table, row, usage) - own;
+    write_arguments(
+        rows,
+        table,
+        store,
+        first,
+        count,
+        copies,
+        level,
+        n,
+        base,
+        true,
+        out,
+    );
+    put_call(
+        rows,
+        table,
+        store,
+        number,
+        call.function,
+        first,
+        copies,
+        level,
+        own,
+        base + n,
+        follows,
+        &mut out[6 * n..],
+    );
+}
+
+// The code of the arguments from a link on, which are `count` and take `size` rows; those that are copied are the binary digits of `copies`. Each
+// stands above those behind it in the list.
+fn write_arguments(
+    rows: &[i32],
+    table: &[usize],
+    store: usize,
+    argument: usize,
+    count: usize,
+    copies: usize,
+    level: usize,
+    size: usize,
+    base: usize,
+    follows: bool,
+    out: &mut [i32],
+)
+    requires { ⌜ Writing (now rows) (now table) store × ArgumentsAsk (now rows) argument count copies level size base (length (now out)) ⌝ }
+    ensures { λ _. ⌜ now (out .exit) ≡ over (emitItems follows (codeBy (calledIn (now (rows .entry))) store (argumentListAt (now (rows .entry)) argument) copies level) base) (now (out .entry)) ⌝ }
+{
+    if count == 0 {
+        return;
+    }
+    let e = argument_value(rows, argument);
+    let next = number_at(rows, argument, 5);
+    let others = copies / 2;
+    let copied = copies % 2;
+    let above = level + arguments_taken(rows, table, next, others);
+    let copy = 4 * copied;
+    let k = operand_size(rows, table, e, Use::Wanted);
+    let rest = size - (k + copy);
+    let n = rest + k;
+    let held = more(follows, copy);
+    write_arguments(
+        rows,
+        table,
+        store,
+        next,
+        count - 1,
+        others,
+        level,
+        rest,
+        base,
+        more(held, k),
+        out,
+    );
+    write_expression(
+        rows,
+        table,
+        store,
+        e,
+        Use::Wanted,
+        above,
+        base + rest,
+        held,
+        &mut out[6 * rest..],
+    );
+    put_hold(
+        rows,
+        table,
+        store,
+        e,
+        copied,
+        above,
+        base + n,
+        follows,
+        &mut out[6 * n..],
+    );
+}
+
+// What the expression at a row, which is no call, does behind its first two operands.
 fn write_last(
     rows: &[i32],
     table: &[usize],

@@ -23,9 +23,7 @@ use Rattle.computation.specs.WritesMade.{made}
 use Rattle.language.specs.Trees.{block, Items}
 use Rattle.language.specs.Decode.{decode}
 use Rattle.language.specs.Meaning.{Signal, exec}
-use Rattle.language.specs.Functions.{functionCount}
 use Rattle.language.specs.FunctionWrites.{functionsWrite}
-use Rattle.language.specs.PlainTables.{no-functions}
 use Rattle.language.specs.Program.{Finished, contents, finished, tableProgram, runTableUnder, runTable}
 use Rattle.program_meaning.specs.Program.{resolvedRows, runUnder, runProgram}
 use Rattle.language.specs.Sizes.{statementRows, statementDepth}
@@ -39,16 +37,19 @@ use Rattle.translation.specs.Copies.{statementCopies, ownCopies, ownResults, pr
 use Rattle.translation.specs.CopyLaws.{copies-exactly}
 use Rattle.translation_form.specs.TranslateKernel.{header-layout, header-declared, header-temporaries}
 use Rattle.emission.specs.EmissionLaws.{length-emit}
+use Rattle.structure.specs.StructuredLaws.{structured-tree}
+use Rattle.emission_legal.specs.Parameters.{OwnParameters}
 use Rattle.emission_legal.specs.EmittedLegal.{translated-legal, translated-decodes, translated-contents}
 use Rattle.source_check.specs.Legal.{Legal}
 use Rattle.source_check.specs.AcceptsLegal.{accepts-legal as source-accepts}
 use Rattle.source_check.specs.DeclarationLaws.{legal-declarations}
 use Rattle.kernel_check.specs.Accepts.{accepts-legal as kernel-accepts}
-use Rattle.accepted.specs.Resolved.{table-sound, table-block, table-tree, table-rows, table-depth}
+use Rattle.accepted.specs.Resolved.{table-block, table-functions, table-tree, table-rows, table-depth}
 use Rattle.fate.specs.Fate.{SourceEnds, KernelEnds, SharedFate}
 use Rattle.fate.specs.SameWrites.{SameWrites}
 use Rattle.fate.specs.Views.{DispatcherView, dispatcherView, HidesTemporaries}
 use Rattle.fate.specs.DeclaredWords.{declared-hidden, declared-write-alike}
+use Rattle.fate.specs.ParameterWords.{own-parameters}
 use Rattle.fate.specs.KernelForms.{kernelHeaderOf, kernelRowsOf, KernelFormOf, HasKernelForm}
 
 -- ---- ended is settled
@@ -101,9 +102,8 @@ module _ (header rows : List ℤ) (legal : Legal header rows) where
   shallow : statementDepth (block program) ≤ 64
   shallow = table-depth header rows legal
 
-  -- no form has functions yet
-  none-defined : functionCount program ≡ 0
-  none-defined = no-functions (resolvedRows Source header rows) (table-sound header rows legal .whole) (table-sound header rows legal .no-function)
+  own : OwnParameters (storeSize L) (declarationCount rows) program
+  own = own-parameters (storeSize L) rows (structured-tree Source _ rows (legal .structured)) (table-functions header rows legal)
 
   -- ---- the kernel's tables say the translation
 
@@ -125,11 +125,11 @@ module _ (header rows : List ℤ) (legal : Legal header rows) where
 
   kernel-tree : decode (kernelRowsOf header rows) ≡ block (translate first program)
   unfolding kernelRowsOf
-  kernel-tree = rw (source-store header rows) (translated-decodes header program (legal .header-fits) few shallow (declarationCount rows) declared (table-tree header rows legal) none-defined)
+  kernel-tree = rw (source-store header rows) (translated-decodes header program (legal .header-fits) few shallow (declarationCount rows) declared (table-tree header rows legal))
 
   kernel-contents : contents (kernelRowsOf header rows) ≡ translate first program
   unfolding kernelRowsOf
-  kernel-contents = rw (source-store header rows) (translated-contents header program (legal .header-fits) few shallow (declarationCount rows) declared (table-tree header rows legal) none-defined)
+  kernel-contents = rw (source-store header rows) (translated-contents header program (legal .header-fits) few shallow (declarationCount rows) declared (table-tree header rows legal))
 
   kernel-rows : rowCount (kernelRowsOf header rows) ≡ statementRows (block (translate first program))
   unfolding kernelRowsOf
@@ -271,7 +271,7 @@ module _ (header rows : List ℤ) (legal : Legal header rows) where
   kernel-form-of : KernelFormOf header rows (kernelHeaderOf header rows) (kernelRowsOf header rows)
   unfolding kernelHeaderOf kernelRowsOf
   kernel-form-of = record {
-    accepted = kernel-accepts (kernelHeaderOf header rows) (kernelRowsOf header rows) .1 (rw (source-store header rows) (translated-legal header program (legal .header-fits) few shallow (declarationCount rows) declared (table-tree header rows legal) none-defined));
+    accepted = kernel-accepts (kernelHeaderOf header rows) (kernelRowsOf header rows) .1 (rw (source-store header rows) (translated-legal header program (legal .header-fits) few shallow (declarationCount rows) declared (table-tree header rows legal) own));
     share-fate = λ store own others temporaryWords s d k t. shared-fate store own others temporaryWords s d k t;
     write-alike = λ store own others temporaryWords s d k t. same-writes store own others temporaryWords s d k t;
     hides-temporaries = hides-temporaries;

@@ -12,6 +12,8 @@ pub mod KernelForms
 -- ---- laws
 -- Declared words: a source run does not hang on what they held at the start.
 pub mod DeclaredWords
+-- Parameter words: the parameters of a source program's functions have words of their own.
+pub mod ParameterWords
 -- The theorem: every accepted program has such a kernel form.
 pub mod KernelFormLaws
 -- A legal kernel program that shows a temporary: the view hides them in translations, not in every kernel program.

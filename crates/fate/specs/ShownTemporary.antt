@@ -21,16 +21,18 @@ use Rattle.language.specs.Functions.{functionOf, functionCount, storing, invoke
 use Rattle.words.specs.Declarations.{isDeclaration}
 use Rattle.language.specs.Program.{contents, tableProgram, runTableUnder, runTable}
 use Rattle.program_meaning.specs.Program.{runProgram}
+use Rattle.row_roles.specs.Roles.{linksParameter, isParameterBy, isParameter, roleSort}
 use Rattle.row_fields.specs.Fields.{foreign, leadsRight, mislinked, boundsOf, numberFits, outside}
 use Rattle.structure.specs.Links.{linksAmong, linkCount, loneBlock, notOnce, deeper, depthAt, tooDeep}
 use Rattle.structure.specs.Refusal.{at, unless, _next_, rowCauses, structuralRefusal}
 use Rattle.words.specs.Declarations.{isDeclaration}
 use Rattle.declaration_causes.specs.Causes.{declaredBefore}
 use Rattle.kernel_check.specs.Labels.{isLabel, repeatedLabel, owning, ownerAt, aroundAt, labelBehind, labelAhead, gotoWithoutLabel, labelFault}
-use Rattle.function_causes.specs.Functions.{isDefinition, isCall, isReturn}
+use Rattle.row_roles.specs.Roles.{isDefinition, linksParameter, isParameterBy, isParameter, roleSort}
+use Rattle.function_causes.specs.Functions.{isCall, isReturn}
 use Rattle.function_causes.specs.Causes.{returnsOutside, outOfOrder, wrongCall, functionRefusal}
 use Rattle.kernel_check.specs.Refusal.{formCauses, kernelCauses, refusal}
-use Rattle.kernel_statements.specs.Statements.{isAtom, isAtomMinus, isAtomOperation, isAtomElement, fitsVariable, isAssignment, isBlock, isKernelIf, isKernelWhile, isKernelExpression, isKernelStatement, notKernelForm}
+use Rattle.kernel_statements.specs.Statements.{isAtom, isAtomMinus, isAtomOperation, isAtomElement, fitsVariable, isAssignment, isBlock, isKernelIf, isKernelWhile, isKernelExpression, isKernelStatement, notKernelForm, isAtomCall, isKernelReturn, isKernelParameter, isOfFunction, atomArguments}
 use Rattle.fate.specs.Views.{DispatcherView, HidesTemporaries}
 
 -- One variable and one temporary, which is variable number 1: v0 = t0.
@@ -45,7 +47,7 @@ showingRows = row 42 1 0 0 0 0
     ++ row 2 1 0 0 0 0
 
 pub showing-accepted : refusal showingHeader showingRows ≡ Accepted
-unfolding natural wordAt numberAt layoutOf sum storeSize headerStore allWithin headerFits countFits foreign fits leadsRight mislinked boundsOf numberFits outside kindOf kindIn kinds sortIn kindRow expressionFields statementFields markFields definitionFields memberFields sortOf sortAt inLanguage isExpression isPlace isStatement isLink isRequired link target linksAmong linkCount loneBlock notOnce linker received noteBy note deeper depthAt tooDeep at unless _next_ rowCauses structuralRefusal lowest some lowestRow someField isLabel repeatedLabel owning ownerAt aroundAt labelBehind labelAhead gotoWithoutLabel labelFault isDeclaration declaredBefore isReturn isDefinition isCall returnsOutside outOfOrder wrongCall functionRefusal formCauses kernelCauses refusal isAtom isAtomMinus isAtomOperation isAtomElement fitsVariable isAssignment isBlock isKernelIf isKernelWhile isKernelExpression isKernelStatement notKernelForm
+unfolding natural wordAt numberAt layoutOf sum storeSize headerStore allWithin headerFits countFits foreign fits leadsRight mislinked roleSort isParameter isParameterBy linksParameter boundsOf numberFits outside kindOf kindIn kinds sortIn kindRow expressionFields statementFields markFields definitionFields memberFields sortOf sortAt inLanguage isExpression isPlace isStatement isLink isRequired link target linksAmong linkCount loneBlock notOnce linker received noteBy note deeper depthAt tooDeep at unless _next_ rowCauses structuralRefusal lowest some lowestRow someField isLabel repeatedLabel owning ownerAt aroundAt labelBehind labelAhead gotoWithoutLabel labelFault isDeclaration declaredBefore isReturn isDefinition isCall returnsOutside outOfOrder wrongCall functionRefusal formCauses kernelCauses refusal isAtom isAtomMinus isAtomOperation isAtomElement isAtomCall isKernelReturn isKernelParameter isOfFunction fitsVariable isAssignment isBlock isKernelIf isKernelWhile isKernelExpression isKernelStatement notKernelForm atomArguments
 showing-accepted = refl
 
 -- The variable as the dispatcher sees it.

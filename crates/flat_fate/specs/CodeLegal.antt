@@ -14,7 +14,8 @@ use Rattle.words.specs.Kinds.{variable as variableSort, array as arraySort}
 use Rattle.words.specs.Layout.{Layout, layoutOf, storeSize, headerStore, behindOf, headerFits}
 use Rattle.words.specs.Laws.{or-right}
 use Rattle.words.specs.declared.Form.the-variants.{Kernel}
-use Rattle.row_fields.specs.Fields.{boundsOf, boundsIn, numberFits}
+use Rattle.row_fields.specs.Fields.{declaredRange, boundsOf, boundsIn, numberFits}
+use Rattle.row_fields.specs.declared.NumberRange.{NumberRange}
 use Rattle.row_fields.specs.declared.Bounds.{Bounds}
 use Rattle.language.specs.Trees.{Expression, Statement, Items, _then_, _here_, none}
 use Rattle.language.specs.WellFormed.{NamedExpression, NamedStatement, NamedItems}
@@ -162,20 +163,20 @@ module _ (bounds : Bounds) (lines : ℕ) where
 
 -- ---- the list of a kernel tree
 
-module _ (L : Layout) (T : ℕ) where
-  name-fits : (i : ℕ) → KernelName L T i → numberFits (boundsIn L (storeSize L + T)) variableSort i ≡ true
+module _ (L : Layout) (declared : NumberRange) (T : ℕ) where
+  name-fits : (i : ℕ) → KernelName L T i → numberFits (boundsIn L declared (storeSize L + T)) variableSort i ≡ true
   unfolding numberFits
   name-fits i (name-variable h) = rw (lt-ltb _ _ h)
   name-fits i (name-temporary {t} h) = or-right (ltb (storeSize L + t) (L .variables)) (leb (storeSize L) (storeSize L + t) && ltb (storeSize L + t) (storeSize L + T)) (rw (le-leb (storeSize L) (storeSize L + t) (omega arith), lt-ltb (storeSize L + t) (storeSize L + T) (omega arith)))
 
-  array-fits : (i : ℕ) → i < length (L .lengths) → numberFits (boundsIn L (storeSize L + T)) arraySort i ≡ true
+  array-fits : (i : ℕ) → i < length (L .lengths) → numberFits (boundsIn L declared (storeSize L + T)) arraySort i ≡ true
   unfolding numberFits
   array-fits i h = lt-ltb _ _ h
 
-  pub lines-within : (program : Items) → KernelTree L T program → (form : KernelItems false none program) → All (λ x. Within (boundsIn L (storeSize L + T)) (itemsLines program) x) (flatOf program)
+  pub lines-within : (program : Items) → KernelTree L T program → (form : KernelItems false none program) → All (λ x. Within (boundsIn L declared (storeSize L + T)) (itemsLines program) x) (flatOf program)
   unfolding flatOf
   lines-within program k form =
-      items-within (boundsIn L (storeSize L + T)) (KernelName L T) (length (L .lengths)) name-fits array-fits (itemsLines program) (addressIn program)
+      items-within (boundsIn L declared (storeSize L + T)) (KernelName L T) (length (L .lengths)) name-fits array-fits (itemsLines program) (addressIn program)
       (λ l. items-address l (itemsLines program) form 0 0 (omega arith) (omega arith)) form (k .named) 0 (omega arith)
 
 -- "Every flattened list passes the flat check": of a header within its limits, with a kernel tree of its layout and temporaries.
@@ -190,6 +191,6 @@ flattened-legal header program e k none-defined =
     record {
       header-fits = e;
       whole = omega arith;
-      lines = λ i h. subst (λ (n : ℕ). LegalLine (boundsIn L (storeSize L + behindOf Kernel header)) (wordsFrom 0 (flatOf program)) n) (let z : 0 + i ≡ i = omega arith in z)
-          (legal-from (boundsIn L (storeSize L + behindOf Kernel header)) (itemsLines program) [] 0 (flatOf program) refl count (lines-within L (behindOf Kernel header) program k (own .items)) i (omega arith));
+      lines = λ i h. subst (λ (n : ℕ). LegalLine (boundsIn L (declaredRange Kernel header) (storeSize L + behindOf Kernel header)) (wordsFrom 0 (flatOf program)) n) (let z : 0 + i ≡ i = omega arith in z)
+          (legal-from (boundsIn L (declaredRange Kernel header) (storeSize L + behindOf Kernel header)) (itemsLines program) [] 0 (flatOf program) refl count (lines-within L (declaredRange Kernel header) (behindOf Kernel header) program k (own .items)) i (omega arith));
     }

@@ -19,8 +19,8 @@ use Rattle.language.specs.Meaning.{Signal, exec}
 use Rattle.language.specs.Program.{contents, finished, tableProgram, runTableUnder, runTable}
 use Rattle.translation.specs.PlainKernel.{PlainKernel}
 use Rattle.translation.specs.KernelForm.{itemsTimes, KernelItems}
-use Rattle.kernel_check.specs.Legal.{Legal}
-use Rattle.accepted_kernel.specs.Kernel.{legal-functionless, legal-plain, legal-block}
+use Rattle.plain_check.specs.Plain.{Plain}
+use Rattle.accepted_kernel.specs.Kernel.{legal-block, plain-functionless, plain-program}
 use Rattle.flat.specs.Lines.{FlatLine, runFrom}
 use Rattle.flat.specs.Words.{Parts, lineParts, fiveWords, fieldAt, linesFrom, linesOf, Written}
 use Rattle.flat.specs.WordsLaws.{written-line}
@@ -74,9 +74,9 @@ ends-settled (ok a σ) e = tt
 ends-settled (stopped spent σ) e = e refl
 ends-settled (stopped (fault sort) σ) e = tt
 
--- ---- a legal kernel program whose labels stand once in its tree
+-- ---- a plain kernel program whose labels stand once in its tree
 
-module _ (header rows : List ℤ) (legal : Legal header rows) (once : (l : ℕ) → itemsTimes l (contents rows) ≤ 1) where
+module _ (header rows : List ℤ) (given : Plain header rows) (once : (l : ℕ) → itemsTimes l (contents rows) ≤ 1) where
   abbrev L : Layout
   L = layoutOf Kernel header
 
@@ -84,7 +84,7 @@ module _ (header rows : List ℤ) (legal : Legal header rows) (once : (l : ℕ) 
   program = contents rows
 
   own : PlainKernel program
-  own = legal-plain header rows legal
+  own = plain-program header rows given
 
   form : KernelItems false none program
   form = own .items
@@ -103,7 +103,7 @@ module _ (header rows : List ℤ) (legal : Legal header rows) (once : (l : ℕ) 
 
     kernel-run : (b : ℕ) → kernelRun header rows (flattened rows) store b ≡ finished (kernel b)
     unfolding runTable runTableUnder tableProgram
-    kernel-run b = rw (legal-block header rows legal, context-plain (layoutOf Kernel header) (contents rows) (legal-functionless header rows legal))
+    kernel-run b = rw (legal-block header rows (given .legal), context-plain (layoutOf Kernel header) (contents rows) (plain-functionless header rows given))
 
     flat-run : (d : ℕ) → flatRun header rows (flattened rows) store d ≡ runFrom L (flatOf program) d 0 0 store
     unfolding runList flattened

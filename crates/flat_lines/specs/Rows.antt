@@ -51,7 +51,7 @@ module _ {rows : List ℤ} {sizes lines labels : List ℕ} (s : Tables rows size
   pub stands : {out : List ℤ} → Exact rows out → 41 ≤ numberAt rows row 0 → (line : ℕ) → line ≡ getD lines row 0 → Standing rows row line out
   stands exact h line e =
       let table = s .table in
-      record { table = table; inside = n; at = e ∙ placed-here table n earlier (number-statement (table .header) rows (table .legal) row n (omega arith)); exact = exact }
+      record { table = table; inside = n; at = e ∙ placed-here table n earlier (number-statement (table .header) rows (table .plain) row n (omega arith)); exact = exact }
 
 -- ---- a row without lines of its own
 
@@ -78,17 +78,17 @@ module _ {rows : List ℤ} {row line : ℕ} {out : List ℤ} (s : Standing rows 
   -- the row's lines lie in the list
   row-room : 41 ≤ numberAt rows row 0 → line + statementLines (statementAt rows row) ≤ length (flatOf (contents rows))
   row-room h =
-      let t = number-statement (table .header) rows (table .legal) row n (omega arith) in
+      let t = number-statement (table .header) rows (table .plain) row n (omega arith) in
       let at = s .at in
-      omega (arith, row-within (table .header) rows (table .legal) row n t, size-split table n t)
+      omega (arith, row-within (table .header) rows (table .plain) row n t, size-split table n t)
 
   pub line-small : 41 ≤ numberAt rows row 0 → line < 40980
-  line-small h = omega (arith, row-room h, list-few (table .header) rows (table .legal))
+  line-small h = omega (arith, row-room h, list-few (table .header) rows (table .plain))
 
   -- a line of its own has room
   pub one-room : (k : ℕ) → numberAt rows row 0 ≡ k → 41 ≤ k → (k ≡ 42 → ⊥) → (k ≡ 43 → ⊥) → (k ≡ 44 → ⊥) → (k ≡ 53 → ⊥) → 5 * line + 5 ≤ length out
   one-room k e h a b c d =
-      let t = number-statement (table .header) rows (table .legal) row n (omega arith) in
+      let t = number-statement (table .header) rows (table .plain) row n (omega arith) in
       let exact = s .exact in
       omega (arith, row-room (omega arith), one-size table n t k e a b c (λ (q : k ≡ 40). omega arith) d)
 
@@ -100,7 +100,7 @@ module _ {rows : List ℤ} {row line : ℕ} {out : List ℤ} (s : Standing rows 
 
   pub assignment-at : numberAt rows row 0 ≡ 41 → (a : ℕ) → a ≡ numberAt rows row 1 → AssignmentAt a
   assignment-at k a e =
-      let r = assign-of (table .header) rows (table .legal) row n k in
+      let r = assign-of (table .header) rows (table .plain) row n k in
       let some : 41 ≤ 41 = omega arith in
       record {
         inside = rw e (r .operand .inside);
@@ -148,11 +148,11 @@ module _ {rows : List ℤ} {row line : ℕ} {out : List ℤ} (s : Standing rows 
     module _ (k : numberAt rows row 0 ≡ 43) (test y z first second : ℕ) (e : test ≡ numberAt rows row 1) (f : first ≡ numberAt rows row 2) (g : y ≡ slot sizes first) (h : second ≡ numberAt rows row 3) (i : z ≡ slot sizes second) where
       pub if-at : IfAt test y z
       if-at =
-          let r = if-of (table .header) rows (table .legal) row n k in
+          let r = if-of (table .header) rows (table .plain) row n k in
           let size : ifLines y z ≡ statementLines (statementAt rows row) = rw (yes-is k y first f g, no-is k z second h i, if-size table n k) in
           let exact = s .exact in
           let most = row-room (omega arith) in
-          record { inside = rw e (r .operand .inside); atom = rw e (r .atom); room = omega arith; few = omega (arith, list-few (table .header) rows (table .legal)) }
+          record { inside = rw e (r .operand .inside); atom = rw e (r .atom); room = omega arith; few = omega (arith, list-few (table .header) rows (table .plain)) }
 
       pub if-own : (after : List ℤ) → after ≡ putAll (ifOwn (operandOf (expressionAt rows test)) y z line) out → after ≡ putAll (ownLines rows row) out
       unfolding ownLines
@@ -161,11 +161,11 @@ module _ {rows : List ℤ} {row line : ℕ} {out : List ℤ} (s : Standing rows 
     module _ (k : numberAt rows row 0 ≡ 44) (test body first : ℕ) (e : test ≡ numberAt rows row 1) (f : first ≡ numberAt rows row 2) (g : body ≡ slot sizes first) where
       pub while-at : WhileAt test body
       while-at =
-          let r = while-of (table .header) rows (table .legal) row n k in
+          let r = while-of (table .header) rows (table .plain) row n k in
           let size : whileLines (always (operandOf (expressionAt rows test))) body ≡ statementLines (statementAt rows row) = rw (e, body-is k body first f g, while-size table n k) in
           let exact = s .exact in
           let most = row-room (omega arith) in
-          record { inside = rw e (r .operand .inside); atom = rw e (r .atom); room = omega arith; few = omega (arith, list-few (table .header) rows (table .legal)) }
+          record { inside = rw e (r .operand .inside); atom = rw e (r .atom); room = omega arith; few = omega (arith, list-few (table .header) rows (table .plain)) }
 
       pub while-own : (after : List ℤ) → after ≡ putAll (whileOwn (always (operandOf (expressionAt rows test))) (operandOf (expressionAt rows test)) body line) out → after ≡ putAll (ownLines rows row) out
       unfolding ownLines
@@ -174,7 +174,7 @@ module _ {rows : List ℤ} {row line : ℕ} {out : List ℤ} (s : Standing rows 
   -- a goto
   module _ (k : numberAt rows row 0 ≡ 52) {labels : List ℕ} (labelled : Labelled rows (rowCount rows) labels) where
     pub label-few : numberAt rows row 1 < 40980
-    label-few = structured-labels (boundsOf Kernel (table .header)) rows (table .legal .structured) row n (rw k)
+    label-few = structured-labels (boundsOf Kernel (table .header)) rows (table .plain .legal .structured) row n (rw k)
 
     pub label-room : numberAt rows row 1 < length labels
     label-room = let room = labelled .room in omega (arith, label-few)
@@ -186,9 +186,9 @@ module _ {rows : List ℤ} {row line : ℕ} {out : List ℤ} (s : Standing rows 
 
     pub goto-at : (label to : ℕ) → label ≡ numberAt rows row 1 → to ≡ getD labels label 0 → GotoAt to
     goto-at label to e f =
-        let l = label-row (table .legal .gotos-ahead row n k) in
+        let l = label-row (table .plain .legal .gotos-ahead row n k) in
         let there : getD labels label 0 ≡ addressIn (contents rows) (numberAt rows row 1) = rw (e, ← l .number-is) (labelled .labelled (l .row) (l .inside) (l .inside) (l .label)) in
-        let line-is : addressIn (contents rows) (numberAt rows (l .row) 1) ≡ lineOf rows (l .row) = label-address (table .header) rows (table .legal) (l .row) (l .inside) (l .label) in
+        let line-is : addressIn (contents rows) (numberAt rows (l .row) 1) ≡ lineOf rows (l .row) = label-address (table .header) rows (table .plain) (l .row) (l .inside) (l .label) in
         let same : addressIn (contents rows) (numberAt rows row 1) ≡ addressIn (contents rows) (numberAt rows (l .row) 1) = ap (addressIn (contents rows)) (sym (l .number-is)) in
         let few = line-few table (l .inside) (label-statement rows (l .row) (l .label)) in
         let some : 41 ≤ 52 = omega arith in

@@ -27,7 +27,7 @@ module _ {rows : List ℤ} (table : KernelTable rows) where
       rw e (record { exact = puts-length (ownLines rows row) out ∙ w .exact; written = λ other l inside. by other l inside (ℕ-discrete other row) })
     where
       here-are : (other : ℕ) → other < rowCount rows → Each (There (flatOf (contents rows))) (ownLines rows other)
-      here-are other inside = own-there (table .header) rows (table .legal) other inside
+      here-are other inside = own-there (table .header) rows (table .plain) other inside
 
       by : (other : ℕ) → other < row + 1 → other < rowCount rows → Dec (other ≡ row) → Each (Holds (putAll (ownLines rows row) out)) (ownLines rows other)
       by other l inside (yes q) = rw q (puts-hold (flatOf (contents rows)) (ownLines rows row) out (w .exact) (here-are row n))
@@ -35,4 +35,4 @@ module _ {rows : List ℤ} (table : KernelTable rows) where
           each-kept (flatOf (contents rows)) (ownLines rows other) (ownLines rows row) out (w .exact) (here-are row n) (here-are other inside) (w .written other (lt-of-le-ne (omega arith) q) inside)
 
   pub wrote-whole : (out : List ℤ) (k : ℕ) → k ≡ rowCount rows → Wrote rows k out → out ≡ flattened rows
-  wrote-whole out k e w = filled-whole (table .header) rows (table .legal) out (λ row n. w .written row (omega arith) n) (w .exact)
+  wrote-whole out k e w = filled-whole (table .header) rows (table .plain) out (λ row n. w .written row (omega arith) n) (w .exact)

@@ -12,7 +12,7 @@ use Rattle.words.specs.Laws.{HeaderFits, headerFits-facts}
 use Rattle.words.specs.Layout.{Layout, leading, layoutOf, headerStore}
 use Rattle.words.specs.declared.Form.the-variants.{Kernel}
 use Rattle.words.proofs.Lengths.{part, size-is}
-use Rattle.row_fields.specs.Fields.{boundsIn, boundsOf as numbersOf}
+use Rattle.row_fields.specs.Fields.{declaredRange, boundsIn, boundsOf as numbersOf}
 use Rattle.row_fields.specs.declared.Bounds.{Bounds}
 use Rattle.operations.specs.Bounds.{boundsFrom, layoutFrom}
 use Rattle.machine.proofs.Bounds.{layout-again, bounds-again}
@@ -96,7 +96,7 @@ module _ (header list : List ℤ) (legal : LegalFlat header list) (words : ℕ) 
     lands-is : landsInside i (lineCount list) (fieldAt list i 4) ≡ true
     lands-is = ap (landsInside i (lineCount list)) (written .distance-word) ∙ line-lands i (lineCount list) h (numbersOf Kernel header) x (legal .lines i h .within)
 
-    within-is : Within (boundsIn L words) (lineCount list) (lineAt list i)
+    within-is : Within (boundsIn L (declaredRange Kernel header) words) (lineCount list) (lineAt list i)
     unfolding numbersOf
     within-is = rw (written-line list i x written, e) (legal .lines i h .within)
 
@@ -112,7 +112,8 @@ module _ (header list : List ℤ) (legal : LegalFlat header list) (words : ℕ) 
     small = λ i h. small-is i h;
     array-left = λ i h k. left-is i h k;
     lands = λ i h. lands-is i h;
-    within = λ i h. subst (λ M. Within (boundsIn M words) (lineCount list) (lineAt list i)) (sym (layout-again L)) (within-is i h);
+    declared = declaredRange Kernel header;
+    within = λ i h. subst (λ M. Within (boundsIn M (declaredRange Kernel header) words) (lineCount list) (lineAt list i)) (sym (layout-again L)) (within-is i h);
   }
 
   module _ (first : ℕ) (f : first ≡ leading Kernel) (variables : ℕ) (q : variables ≡ natural (getD header 0 (pos 0))) where

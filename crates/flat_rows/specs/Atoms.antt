@@ -27,11 +27,11 @@ module _ {rows : List ℤ} (table : KernelTable rows) (a : ℕ) where
 
   pub constant-operand : numberAt rows a 0 ≡ 1 → operandOf (expressionAt rows a) ≡ number (wordAt rows a 1)
   unfolding kindOf kindIn kinds
-  constant-operand k = rw (at-constant rows (whole-rows Kernel (boundsOf Kernel (table .header)) rows (table .legal .structured)) a (kind-of 1 k))
+  constant-operand k = rw (at-constant rows (whole-rows Kernel (boundsOf Kernel (table .header)) rows (table .plain .legal .structured)) a (kind-of 1 k))
 
   pub variable-operand : numberAt rows a 0 ≡ 2 → operandOf (expressionAt rows a) ≡ word (numberAt rows a 1)
   unfolding kindOf kindIn kinds
-  variable-operand k = rw (at-variable rows (whole-rows Kernel (boundsOf Kernel (table .header)) rows (table .legal .structured)) a (kind-of 2 k))
+  variable-operand k = rw (at-variable rows (whole-rows Kernel (boundsOf Kernel (table .header)) rows (table .plain .legal .structured)) a (kind-of 2 k))
 
   -- "An atom is a constant or variable."
   pub other-atom : isAtom rows a ≡ true → (numberAt rows a 0 ≡ 1 → ⊥) → numberAt rows a 0 ≡ 2

@@ -20,11 +20,11 @@ use Rattle.language.specs.Calls.{arityIn}
 use Rattle.language.specs.Program.{contents}
 use Rattle.row_fields.specs.Fields.{boundsOf}
 use Rattle.structure.specs.NoteLaws.{above-zero}
-use Rattle.kernel_check.specs.Legal.{Legal}
+use Rattle.plain_check.specs.Plain.{Plain}
 use Rattle.accepted.specs.Statements.{list-some, root-inside, root-statement}
-use Rattle.accepted_kernel.specs.Kernel.{legal-plain}
+use Rattle.accepted_kernel.specs.Kernel.{plain-program}
 use Rattle.kernel_rows.specs.Rows.{Lone, Listed, BlockRow, KernelRow, empty-row, assign-row, block-row, if-row, while-row, goto-row, label-row, abort-row, next-at, kernel-row, label-list, statement-list}
-use Rattle.kernel_rows.specs.Labels.{legal-once}
+use Rattle.kernel_rows.specs.Labels.{plain-once}
 use Rattle.kernel_rows.specs.Tree.{root-items}
 use Rattle.flat.specs.Lines.{Operand, FlatLine}
 use Rattle.flat.specs.Words.{lineParts, Written}
@@ -83,9 +83,9 @@ module _ (lines : List FlatLine) (out : List ℤ) where
       filled-two i (i + 1) (i + (p + 2)) (filled-one i _ (there .0) (own .0))
       (filled-two (i + 1) j (i + (p + 2)) f (filled-cast j (j + 1) j (i + (p + 2)) refl (let e : j + 1 ≡ i + (p + 2) = omega arith in e) (filled-one j _ (there .1 .0) (own .1 .0))))
 
-module _ (header rows : List ℤ) (legal : Legal header rows) (out : List ℤ) (written : (row : ℕ) → row < rowCount rows → Each (Holds out) (ownLines rows row)) where
+module _ (header rows : List ℤ) (plain : Plain header rows) (out : List ℤ) (written : (row : ℕ) → row < rowCount rows → Each (Holds out) (ownLines rows row)) where
   abbrev lines : List FlatLine
-  lines = list header rows legal
+  lines = list header rows plain
 
   -- The list from a row on is written.
   abbrev From : ℕ → Type 0
@@ -96,7 +96,7 @@ module _ (header rows : List ℤ) (legal : Legal header rows) (out : List ℤ) (
     i = lineOf rows row
 
     there : Each (There lines) (ownLines rows row)
-    there = own-there header rows legal row n
+    there = own-there header rows plain row n
 
     own : Each (Holds out) (ownLines rows row)
     own = written row n
@@ -111,7 +111,7 @@ module _ (header rows : List ℤ) (legal : Legal header rows) (out : List ℤ) (
         go (suc l) z =
             let b = numberAt rows row field in
             let some : 0 < b = omega arith in
-            let at : lineOf rows b ≡ j = ap (lineOf rows) (sym (listed .same)) ∙ line-link header rows legal row field h (listed .leads some) ∙ e in
+            let at : lineOf rows b ≡ j = ap (lineOf rows) (sym (listed .same)) ∙ line-link header rows plain row field h (listed .leads some) ∙ e in
             let end : lineOf rows b + itemsLines (itemsAt rows b) ≡ j + itemsLines (listAt rows b) = cc (at, list-some rows b some) in
             filled-cast lines out (lineOf rows b) (lineOf rows b + itemsLines (itemsAt rows b)) j (j + itemsLines (listAt rows b)) at end (later b (listed .later some) (listed .inside some) (listed .statement some))
 
@@ -120,7 +120,7 @@ module _ (header rows : List ℤ) (legal : Legal header rows) (out : List ℤ) (
     branch-filled field h l j e =
         let b = numberAt rows row field in
         let some : 0 < b = (let q = l .later in omega arith) in
-        let at : lineOf rows b ≡ j = ap (lineOf rows) (sym (l .same)) ∙ line-link header rows legal row field h (l .leads) ∙ e in
+        let at : lineOf rows b ≡ j = ap (lineOf rows) (sym (l .same)) ∙ line-link header rows plain row field h (l .leads) ∙ e in
         let end : lineOf rows b + itemsLines (itemsAt rows b) ≡ j + itemsLines (listAt rows b) = cc (at, list-some rows b some) in
         filled-cast lines out (lineOf rows b) (lineOf rows b + itemsLines (itemsAt rows b)) j (j + itemsLines (listAt rows b)) at end (later b (l .later) (l .inside) (l .statement))
 
@@ -128,18 +128,18 @@ module _ (header rows : List ℤ) (legal : Legal header rows) (out : List ℤ) (
     statement-filled : (numberAt rows row 0 ≡ 53 → ⊥) → Filled lines out i (i + statementLines (statementAt rows row)) → From row
     unfolding itemsLines handed listLines
     statement-filled other f =
-        let size : itemsLines (itemsAt rows row) ≡ statementLines (statementAt rows row) + itemsLines (listAt rows (numberAt rows row 5)) = ap itemsLines (statement-list header rows legal row n other t) in
+        let size : itemsLines (itemsAt rows row) ≡ statementLines (statementAt rows row) + itemsLines (listAt rows (numberAt rows row 5)) = ap itemsLines (statement-list header rows plain row n other t) in
         let j = i + statementLines (statementAt rows row) in
         let end : j + itemsLines (listAt rows (numberAt rows row 5)) ≡ i + itemsLines (itemsAt rows row) = omega arith in
         filled-two lines out i j (i + itemsLines (itemsAt rows row)) f
-        (filled-cast lines out j (j + itemsLines (listAt rows (numberAt rows row 5))) j (i + itemsLines (itemsAt rows row)) refl end (listed-filled 5 (omega arith) (next-at header rows legal row n t) j refl))
+        (filled-cast lines out j (j + itemsLines (listAt rows (numberAt rows row 5))) j (i + itemsLines (itemsAt rows row)) refl end (listed-filled 5 (omega arith) (next-at header rows plain row n t) j refl))
 
     label-filled : numberAt rows row 0 ≡ 53 → statementLines (statementAt rows row) ≡ 0 → From row
     unfolding itemsLines handed listLines
     label-filled k z =
-        let size : itemsLines (itemsAt rows row) ≡ itemsLines (listAt rows (numberAt rows row 5)) = ap itemsLines (label-list header rows legal row n k t) in
+        let size : itemsLines (itemsAt rows row) ≡ itemsLines (listAt rows (numberAt rows row 5)) = ap itemsLines (label-list header rows plain row n k t) in
         let e : i + statementLines (statementAt rows row) ≡ i = omega arith in
-        filled-cast lines out i (i + itemsLines (listAt rows (numberAt rows row 5))) i (i + itemsLines (itemsAt rows row)) refl (omega arith) (listed-filled 5 (omega arith) (next-at header rows legal row n t) i e)
+        filled-cast lines out i (i + itemsLines (listAt rows (numberAt rows row 5))) i (i + itemsLines (itemsAt rows row)) refl (omega arith) (listed-filled 5 (omega arith) (next-at header rows plain row n t) i e)
 
     one-filled : (x : FlatLine) → There lines i x → Holds out i x → statementLines (statementAt rows row) ≡ 1 → (numberAt rows row 0 ≡ 53 → ⊥) → From row
     one-filled x th w e other = statement-filled other (rw e (filled-one lines out i x th w))
@@ -155,12 +155,12 @@ module _ (header rows : List ℤ) (legal : Legal header rows) (out : List ℤ) (
     filled-by (block-row k r) = block-filled k r
     filled-by (if-row k r) =
         statement-filled (λ (q : numberAt rows row 0 ≡ 53). omega arith)
-        (rw (r .is, ← branch-lines header rows legal (r .onTrue), ← branch-lines header rows legal (r .onFalse))
+        (rw (r .is, ← branch-lines header rows plain (r .onTrue), ← branch-lines header rows plain (r .onFalse))
         (if-filled lines out (testOf rows row) (listLines rows (numberAt rows row 2)) (listLines rows (numberAt rows row 3)) i (rw k at there) (rw k at own)
         (branch-filled 2 (omega arith) (r .onTrue) _ (rw k)) (branch-filled 3 (omega arith) (r .onFalse) _ (rw k))))
     filled-by (while-row k r) =
         statement-filled (λ (q : numberAt rows row 0 ≡ 53). omega arith)
-        (rw (r .is, ← branch-lines header rows legal (r .body))
+        (rw (r .is, ← branch-lines header rows plain (r .body))
         (while-filled lines out (always (testOf rows row)) (testOf rows row) (listLines rows (numberAt rows row 2)) i (rw k at there) (rw k at own) (branch-filled 2 (omega arith) (r .body) _ (rw k))))
     filled-by (goto-row k e) = one-filled _ ((rw k at there) .0) ((rw k at own) .0) (rw e) (λ (q : numberAt rows row 0 ≡ 53). omega arith)
     filled-by (label-row k e) = label-filled k (rw e)
@@ -168,16 +168,16 @@ module _ (header rows : List ℤ) (legal : Legal header rows) (out : List ℤ) (
 
   filled-from : (links row : ℕ) → rowCount rows ≤ row + links → row < rowCount rows → isStatement rows row ≡ true → From row
   filled-from zero row h n t = absurd (omega arith)
-  filled-from (suc links) row h n t = filled-by row n t (λ l later inside u. filled-from links l (omega arith) inside u) (kernel-row header rows legal row n t)
+  filled-from (suc links) row h n t = filled-by row n t (λ l later inside u. filled-from links l (omega arith) inside u) (kernel-row header rows plain row n t)
 
   -- Where each row's own lines are written, the words are the flat list's.
   pub filled-whole : length out ≡ 5 * length lines → out ≡ flattened rows
   unfolding flattened itemsLines statementLines
   filled-whole e =
-      let s = legal .structured in
+      let s = plain .legal .structured in
       let bounds = boundsOf Kernel header in
       let some = root-inside Kernel bounds rows s in
       let t = root-statement Kernel bounds rows s in
-      let size : itemsLines (itemsAt rows 0) ≡ itemsLines (contents rows) + 0 = ap itemsLines (root-items header rows legal) in
+      let size : itemsLines (itemsAt rows 0) ≡ itemsLines (contents rows) + 0 = ap itemsLines (root-items header rows plain) in
       let all = filled-from (rowCount rows) 0 (omega arith) some t in
-      written-whole out lines e (λ k h. all k (omega (arith, line-root header rows legal)) (omega (arith, line-root header rows legal, flat-size (layoutOf Kernel header) (contents rows) (legal-plain header rows legal .items) (arityIn (contents rows)) (legal-plain header rows legal .calls) (λ l. legal-once header rows legal l))))
+      written-whole out lines e (λ k h. all k (omega (arith, line-root header rows plain)) (omega (arith, line-root header rows plain, flat-size (layoutOf Kernel header) (contents rows) (plain-program header rows plain .items) (arityIn (contents rows)) (plain-program header rows plain .calls) (λ l. plain-once header rows plain l))))

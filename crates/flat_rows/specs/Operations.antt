@@ -1,18 +1,18 @@
 -- Operations: the line of an assignment, read from its rows: which kinds stand there, and the five words.
 use mathlib.Core.Path.{_≡_, refl, sym, ap, _∙_}
-use mathlib.Core.Bool.{Bool, true, false, _&&_, false≢true}
+use mathlib.Core.Bool.{Bool, true, false, _&&_, true≢false, false≢true}
 use mathlib.Core.List.{List, [], _∷_}
 use mathlib.Core.Logic.{⊎-elim}
 use Prim.Native.Nat.{ℕ, zero, suc, _+_, _*_, _^_, _≤_, _<_}
 use native.Mathlib.Omega.{arith}
-use native.Mathlib.Decide.{ℕ-discrete}
+use native.Mathlib.Decide.{ℕ-discrete, decLt}
 use lib.Dec.{eqb}
 use lib.IntN.{ℤ, pos}
 use borrow.Author.Tests.{eqb-true, eq-eqb, ne-eqb}
 use Rattle.words.specs.Word.{natural, pick}
 use Rattle.words.specs.Table.{rowCount, wordAt, numberAt, Whole}
 use Rattle.words.specs.Layout.{layoutOf, storeSize, headerStore, behindOf}
-use Rattle.words.specs.Kinds.{kinds, kindIn, kindOf, kindAt, expression, place, isRequired, sortIn, kindRow, expressionFields, statementFields, markFields, memberFields}
+use Rattle.words.specs.Kinds.{kinds, kindIn, kindOf, kindAt, expression, place, isRequired, sortIn, kindRow, expressionFields, statementFields, markFields, memberFields, isFunctionNumber}
 use Rattle.words.specs.Laws.{both, either, natural-pos, headerFits-facts}
 use Rattle.words.specs.SearchLaws.{from-on}
 use Rattle.words.specs.declared.Form.the-variants.{Kernel}
@@ -28,7 +28,10 @@ use Rattle.emission.specs.Emission.{operatorNumber}
 use Rattle.row_fields.specs.Fields.{boundsOf}
 use Rattle.row_fields.specs.declared.Bounds.{Bounds}
 use Rattle.structure.specs.Structured.{Structured}
-use Rattle.kernel_statements.specs.Statements.{isAtom, isAtomMinus, isAtomOperation, isAtomElement, fitsVariable, isAssignment}
+use Rattle.structure.specs.StructuredLaws.{structured-tree}
+use Rattle.kernel_statements.specs.Statements.{isAtom, isAtomMinus, isAtomOperation, isAtomElement, isAtomCall, fitsVariable, isAssignment}
+use Rattle.kernel_statements.specs.Laws.{number-beyond}
+use Rattle.plain_check.specs.PlainLaws.{plain-number}
 use Rattle.accepted.specs.Sorts.{between-true}
 use Rattle.accepted.specs.Fields.{holds, Linked, linked, names-variable, names-array}
 use Rattle.accepted.specs.Expressions.{whole-rows}
@@ -77,7 +80,7 @@ module _ {rows : List ℤ} (table : KernelTable rows) where
   bounds = boundsOf Kernel (table .header)
 
   s : Structured Kernel bounds rows
-  s = table .legal .structured
+  s = table .plain .legal .structured
 
   whole : Whole rows
   whole = whole-rows Kernel bounds rows s
@@ -95,7 +98,7 @@ module _ {rows : List ℤ} (table : KernelTable rows) where
   pub variable-few : (row : ℕ) → row < rowCount rows → numberAt rows row 0 ≡ 2 → numberAt rows row 1 < 65536
   unfolding kindOf kindIn kinds sortIn kindRow expressionFields boundsOf headerStore
   variable-few row n k =
-      let few = headerFits-facts Kernel (table .header) (table .legal .header-fits) in
+      let few = headerFits-facts Kernel (table .header) (table .plain .legal .header-fits) in
       let a = few .few-variables in
       let b = few .small-store in
       let c = few .few-declared in
@@ -108,7 +111,7 @@ module _ {rows : List ℤ} (table : KernelTable rows) where
   pub array-few : (row : ℕ) → row < rowCount rows → numberAt rows row 0 ≡ 3 → numberAt rows row 1 < 65536
   unfolding kindOf kindIn kinds sortIn kindRow expressionFields boundsOf
   array-few row n k =
-      let a = headerFits-facts Kernel (table .header) (table .legal .header-fits) .few-arrays in
+      let a = headerFits-facts Kernel (table .header) (table .plain .legal .header-fits) .few-arrays in
       omega (arith, names-array Kernel bounds rows s row n (kind-of row 3 k) 1 refl)
 
   array-word : (row : ℕ) → row < rowCount rows → numberAt rows row 0 ≡ 3 → wordAt rows row 1 ≡ pos (numberAt rows row 1)
@@ -189,15 +192,24 @@ module _ {rows : List ℤ} (table : KernelTable rows) where
   unfolding isAtom
   atom-few a e = between-true 1 2 (numberAt rows a 0) e .1
 
+  -- a plain program has no calls
+  no-call : (v : ℕ) → numberAt rows v 0 ≡ 31 → ⊥
+  unfolding isFunctionNumber
+  no-call v k = go (decLt v (rowCount rows))
+    where
+      go : Dec (v < rowCount rows) → ⊥
+      go (yes h) = true≢false (sym (ap isFunctionNumber k) ∙ plain-number (table .header) rows (table .plain) v h)
+      go (no h) = let z = number-beyond rows v 0 (structured-tree Kernel bounds rows s .whole) (omega (arith, h)) in omega arith
+
   pub value-at : (v : ℕ) → fitsVariable rows v ≡ true → ValueAt v
-  unfolding fitsVariable isAtomMinus isAtomOperation isAtomElement
+  unfolding fitsVariable isAtomMinus isAtomOperation isAtomElement isAtomCall
   value-at v e =
       let k = numberAt rows v 0 in
       ⊎-elim (λ h. atom-value (atom-few v h) h)
       (λ h. ⊎-elim (λ h. let p = both (eqb k 4) (isAtom rows (numberAt rows v 1)) h in minus-value (eqb-true k 4 (p .0)) (p .1))
       (λ h. ⊎-elim (λ h. let p = both _ _ h in let q = both (isAtom rows (numberAt rows v 1)) (isAtom rows (numberAt rows v 2)) (p .1) in let r = between-true 6 16 k (p .0) in operation-value (r .0) (r .1) (q .0) (q .1))
-      (λ h. let p = both (eqb k 3) (isAtom rows (numberAt rows v 2)) h in element-value (eqb-true k 3 (p .0)) (p .1))
-      (either (isAtomOperation rows v) _ h)) (either (isAtomMinus rows v) _ h)) (either (isAtom rows v) _ e)
+      (λ h. ⊎-elim (λ h. let p = both (eqb k 3) (isAtom rows (numberAt rows v 2)) h in element-value (eqb-true k 3 (p .0)) (p .1))
+      (λ h. absurd (no-call v (eqb-true k 31 (both (eqb k 31) _ h .0)))) (either (isAtomElement rows v) _ h)) (either (isAtomOperation rows v) _ h)) (either (isAtomMinus rows v) _ h)) (either (isAtom rows v) _ e)
 
   pub record MinusAt (v : ℕ) : Type 0 where
     pub inside : numberAt rows v 1 < rowCount rows

@@ -27,11 +27,11 @@ use Rattle.structure.specs.StructuredLaws.{structured-tree}
 use Rattle.grammar.specs.GrammarLaws.{kind-links-none}
 use Rattle.structure.specs.LinkLaws.{by-owner}
 use Rattle.structure.specs.NoteLaws.{above-zero, note-root, note-link}
-use Rattle.kernel_check.specs.Legal.{Legal}
+use Rattle.plain_check.specs.Plain.{Plain}
 use Rattle.accepted.specs.Statements.{list-some}
-use Rattle.accepted_kernel.specs.Kernel.{legal-plain, legal-rows}
+use Rattle.accepted_kernel.specs.Kernel.{legal-rows, plain-program}
 use Rattle.kernel_rows.specs.Rows.{Lone, Listed, BlockRow, IfRow, WhileRow, KernelRow, empty-row, assign-row, block-row, if-row, while-row, goto-row, label-row, abort-row, StatementLink, next-item, first-item, true-branch, false-branch, loop-body, expression-or-statement, statement-link, next-at, kernel-row, label-list, statement-list, lone-list, linking-statement, label-statement, as-expression, block-at, if-of, while-of}
-use Rattle.kernel_rows.specs.Labels.{legal-once}
+use Rattle.kernel_rows.specs.Labels.{plain-once}
 use Rattle.kernel_rows.specs.Tree.{root-items}
 use Rattle.flat.specs.Lines.{FlatLine}
 use Rattle.flat_fate.specs.Code.{operandOf, operationOf, always, ifLines, statementLines, itemsLines, statementCode, itemsCode}
@@ -41,7 +41,7 @@ use Rattle.flat_fate.specs.LineCount.{lines-below-rows}
 use Rattle.flat_rows.specs.Places.{listLines, testOf, handed, lineOf, ownLines, Each}
 use Rattle.flat_rows.specs.Lies.{nothing, Lies, There, lies-whole, lies-first, lies-second, lies-head, lies-cast, if-first, if-second, if-own, while-body, while-own}
 
-module _ (header rows : List ℤ) (legal : Legal header rows) where
+module _ (header rows : List ℤ) (plain : Plain header rows) where
   abbrev L : Layout
   L = layoutOf Kernel header
 
@@ -52,7 +52,7 @@ module _ (header rows : List ℤ) (legal : Legal header rows) where
   address = addressIn (contents rows)
 
   tree : Tree rows
-  tree = structured-tree Kernel (boundsOf Kernel header) rows (legal .structured)
+  tree = structured-tree Kernel (boundsOf Kernel header) rows (plain .legal .structured)
 
   -- A list of items stands from line i on.
   pub record Stands (is : Items) (i : ℕ) : Type 0 where
@@ -97,7 +97,7 @@ module _ (header rows : List ℤ) (legal : Legal header rows) where
   branch-lines {row} {field} l =
       let b = numberAt rows row field in
       let there : 0 < b = (let later = l .later in omega arith) in
-      let lines : itemsLines (listAt rows b) ≡ statementLines (statementAt rows b) + 0 = ap itemsLines (list-some rows b there ∙ lone-list header rows legal l) in
+      let lines : itemsLines (listAt rows b) ≡ statementLines (statementAt rows b) + 0 = ap itemsLines (list-some rows b there ∙ lone-list header rows plain l) in
       omega (arith, lines)
 
   abbrev At : ℕ → Type 0
@@ -109,7 +109,7 @@ module _ (header rows : List ℤ) (legal : Legal header rows) where
 
     -- The row's own statement.
     pub own-stands : (numberAt rows row 0 ≡ 53 → ⊥) → StandsOne (statementAt rows row) i
-    own-stands other = first-stands (statementAt rows row) _ i (subst (λ is. Stands is i) (statement-list header rows legal row n other t) at)
+    own-stands other = first-stands (statementAt rows row) _ i (subst (λ is. Stands is i) (statement-list header rows plain row n other t) at)
 
     -- What stands behind it.
     behind-stands : Stands (listAt rows (numberAt rows row 5)) (i + statementLines (statementAt rows row))
@@ -118,12 +118,12 @@ module _ (header rows : List ℤ) (legal : Legal header rows) where
       where
         by-label : Dec (numberAt rows row 0 ≡ 53) → Stands (listAt rows (numberAt rows row 5)) (i + statementLines (statementAt rows row))
         by-label (yes k) =
-            let st = subst (λ is. Stands is i) (label-list header rows legal row n k t) at in
+            let st = subst (λ is. Stands is i) (label-list header rows plain row n k t) at in
             let none-of : statementLines (statementAt rows row) ≡ 0 = label-lines k in
             stands-cast (listAt rows (numberAt rows row 5)) i (i + statementLines (statementAt rows row)) (omega arith) (record { lies = st .lies; labelled = st .labelled .1 })
           where
             label-lines : numberAt rows row 0 ≡ 53 → statementLines (statementAt rows row) ≡ 0
-            label-lines k = by-row (kernel-row header rows legal row n t)
+            label-lines k = by-row (kernel-row header rows plain row n t)
               where
                 by-row : KernelRow rows row → statementLines (statementAt rows row) ≡ 0
                 by-row (empty-row e q) = absurd (omega arith)
@@ -134,14 +134,14 @@ module _ (header rows : List ℤ) (legal : Legal header rows) where
                 by-row (goto-row e q) = absurd (omega arith)
                 by-row (label-row e q) = rw q
                 by-row (abort-row e q) = absurd (omega arith)
-        by-label (no k) = rest-stands (statementAt rows row) _ i (subst (λ is. Stands is i) (statement-list header rows legal row n k t) at)
+        by-label (no k) = rest-stands (statementAt rows row) _ i (subst (λ is. Stands is i) (statement-list header rows plain row n k t) at)
 
     -- ---- a branch
 
     branch-stands : {field : ℕ} (l : Lone rows row field) (j : ℕ) → lineOf rows (numberAt rows row field) ≡ j → StandsOne (statementAt rows (numberAt rows row field)) j → At (numberAt rows row field)
     branch-stands {field} l j e o =
         let b = numberAt rows row field in
-        subst (λ (m : ℕ). Stands (itemsAt rows b) m) (sym e) (subst (λ is. Stands is j) (sym (lone-list header rows legal l)) (stands-alone (statementAt rows b) j o))
+        subst (λ (m : ℕ). Stands (itemsAt rows b) m) (sym e) (subst (λ is. Stands is j) (sym (lone-list header rows plain l)) (stands-alone (statementAt rows b) j o))
 
     -- ---- what each linked row stands at
 
@@ -160,18 +160,18 @@ module _ (header rows : List ℤ) (legal : Legal header rows) where
 
     next-stands : Leads rows row 5 → At (link rows row 5)
     unfolding handed
-    next-stands leads = listed-stands 5 (omega arith) (next-at header rows legal row n t) leads _ refl behind-stands
+    next-stands leads = listed-stands 5 (omega arith) (next-at header rows plain row n t) leads _ refl behind-stands
 
     first-item-stands : numberAt rows row 0 ≡ 42 → Leads rows row 1 → At (link rows row 1)
     unfolding handed statementCode Addressed
     first-item-stands k leads =
-        let r = block-at header rows legal row n k in
+        let r = block-at header rows plain row n k in
         let o = subst (λ s. StandsOne s i) (r .is) (own-stands (λ (q : numberAt rows row 0 ≡ 53). omega arith)) in
         listed-stands 1 (omega arith) (r .listed) leads i (rw k) (record { lies = o .lies; labelled = o .labelled })
 
     module _ (k : numberAt rows row 0 ≡ 43) where
       the-if : IfRow rows row
-      the-if = if-of header rows legal row n k
+      the-if = if-of header rows plain row n k
 
       abbrev onTrue : Statement
       onTrue = statementAt rows (numberAt rows row 2)
@@ -224,7 +224,7 @@ module _ (header rows : List ℤ) (legal : Legal header rows) where
 
     module _ (k : numberAt rows row 0 ≡ 44) where
       the-while : WhileRow rows row
-      the-while = while-of header rows legal row n k
+      the-while = while-of header rows plain row n k
 
       abbrev body : Statement
       body = statementAt rows (numberAt rows row 2)
@@ -265,13 +265,13 @@ module _ (header rows : List ℤ) (legal : Legal header rows) where
   unfolding flatOf statementCode Addressed
   root-stands =
       subst (λ (m : ℕ). Stands (itemsAt rows 0) m) (sym line-root)
-      (subst (λ is. Stands is 0) (sym (root-items header rows legal)) (stands-alone (block (contents rows)) 0 whole-stands))
+      (subst (λ is. Stands is 0) (sym (root-items header rows plain)) (stands-alone (block (contents rows)) 0 whole-stands))
     where
       whole-stands : StandsOne (block (contents rows)) 0
       whole-stands =
           record {
             lies = lies-whole list;
-            labelled = items-addressed L list address (legal-plain header rows legal .items) 0 (λ l. 0) (λ l. legal-once header rows legal l) (λ l h. refl);
+            labelled = items-addressed L list address (plain-program header rows plain .items) 0 (λ l. 0) (λ l. plain-once header rows plain l) (λ l h. refl);
           }
 
   pub row-stands : (row : ℕ) → row < rowCount rows → isStatement rows row ≡ true → At row
@@ -281,7 +281,7 @@ module _ (header rows : List ℤ) (legal : Legal header rows) where
       along owner field h leads at t =
           let inside : owner < rowCount rows = (let later = leads .later in let most = leads .inside in omega arith) in
           let some : 0 < link rows owner field = (let later = leads .later in omega arith) in
-          let x = statement-link header rows legal owner inside field (first-field field some) h some t in
+          let x = statement-link header rows plain owner inside field (first-field field some) h some t in
           let u = linking-statement rows owner x in
           link-stands owner inside u (at u) field leads x
         where
@@ -322,22 +322,22 @@ module _ (header rows : List ℤ) (legal : Legal header rows) where
   -- Each row's own lines stand in the list.
   pub own-there : (row : ℕ) → row < rowCount rows → Each (There list) (ownLines rows row)
   own-there row n =
-      ⊎-elim (λ e. rw (expression-own row (as-expression rows row e)) tt) (λ t. own-by row n t (kernel-row header rows legal row n t))
-      (expression-or-statement header rows legal row n)
+      ⊎-elim (λ e. rw (expression-own row (as-expression rows row e)) tt) (λ t. own-by row n t (kernel-row header rows plain row n t))
+      (expression-or-statement header rows plain row n)
 
   -- A label's address is its row's line.
   pub label-address : (row : ℕ) → row < rowCount rows → numberAt rows row 0 ≡ 53 → address (numberAt rows row 1) ≡ lineOf rows row
   unfolding AddressedItems
   label-address row n k =
       let t = label-statement rows row k in
-      (subst (λ is. Stands is (lineOf rows row)) (label-list header rows legal row n k t) (row-stands row n t)) .labelled .0
+      (subst (λ is. Stands is (lineOf rows row)) (label-list header rows plain row n k t) (row-stands row n t)) .labelled .0
 
   -- ---- limits
 
   pub list-few : length list < 40980
   list-few =
       let rows-few = tree .few in
-      omega (arith, flat-size L (contents rows) (legal-plain header rows legal .items) (arityIn (contents rows)) (legal-plain header rows legal .calls) (λ l. legal-once header rows legal l), lines-below-rows (contents rows) (legal-plain header rows legal .items), legal-rows header rows legal)
+      omega (arith, flat-size L (contents rows) (plain-program header rows plain .items) (arityIn (contents rows)) (plain-program header rows plain .calls) (λ l. plain-once header rows plain l), lines-below-rows (contents rows) (plain-program header rows plain .items), legal-rows header rows (plain .legal))
 
   -- The lines from a row on lie in the list.
   pub row-within : (row : ℕ) → row < rowCount rows → isStatement rows row ≡ true → lineOf rows row + itemsLines (itemsAt rows row) ≤ length list

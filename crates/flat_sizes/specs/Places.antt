@@ -36,7 +36,7 @@ use Rattle.flat_sizes.specs.Sizes.{block-room, next-room, true-room, fal
 
 module _ {rows : List ℤ} (table : KernelTable rows) where
   tree : Tree rows
-  tree = structured-tree Kernel (boundsOf Kernel (table .header)) rows (table .legal .structured)
+  tree = structured-tree Kernel (boundsOf Kernel (table .header)) rows (table .plain .legal .structured)
 
   -- ---- one store
 
@@ -71,16 +71,16 @@ module _ {rows : List ℤ} (table : KernelTable rows) where
     by-same lines field same r leads t = rw same r
 
     pub listed-line : (field : ℕ) → field < 6 → Listed rows row field → 0 < numberAt rows row field → lineOf rows (numberAt rows row field) ≡ handed rows row field (lineOf rows row)
-    listed-line field h l p = ap (lineOf rows) (sym (l .same)) ∙ line-link (table .header) rows (table .legal) row field h (l .leads p)
+    listed-line field h l p = ap (lineOf rows) (sym (l .same)) ∙ line-link (table .header) rows (table .plain) row field h (l .leads p)
 
     pub lone-line : (field : ℕ) → field < 6 → Lone rows row field → lineOf rows (numberAt rows row field) ≡ handed rows row field (lineOf rows row)
-    lone-line field h l = ap (lineOf rows) (sym (l .same)) ∙ line-link (table .header) rows (table .legal) row field h (l .leads)
+    lone-line field h l = ap (lineOf rows) (sym (l .same)) ∙ line-link (table .header) rows (table .plain) row field h (l .leads)
 
     -- a field that links no statement hands nothing on
     pub none-handed : (lines : List ℕ) (field : ℕ) → field < 6 → (StatementLink rows row field → ⊥) → Handed rows lines row field
     none-handed lines field h none leads t =
         let some : 0 < link rows row field = (let later = leads .later in omega arith) in
-        absurd (none (statement-link (table .header) rows (table .legal) row n field (first-field field some) h some t))
+        absurd (none (statement-link (table .header) rows (table .plain) row n field (first-field field some) h some t))
       where
         first-field : (field : ℕ) → 0 < link rows row field → 1 ≤ field
         first-field zero p = absurd (let none-there = kind-links-none rows row in omega arith)
@@ -92,23 +92,23 @@ module _ {rows : List ℤ} (table : KernelTable rows) where
     -- the first item of a block
     pub block-line : numberAt rows row 0 ≡ 42 → 0 < numberAt rows row 1 → lineOf rows row ≡ lineOf rows (numberAt rows row 1)
     unfolding handed
-    block-line k p = sym (listed-line 1 (omega arith) (block-at (table .header) rows (table .legal) row n k .listed) p ∙ (rw k))
+    block-line k p = sym (listed-line 1 (omega arith) (block-at (table .header) rows (table .plain) row n k .listed) p ∙ (rw k))
 
     pub true-line : numberAt rows row 0 ≡ 43 → firstAt (listLines rows (numberAt rows row 2)) (listLines rows (numberAt rows row 3)) (lineOf rows row) ≡ lineOf rows (numberAt rows row 2)
     unfolding handed
-    true-line k = sym (lone-line 2 (omega arith) (if-of (table .header) rows (table .legal) row n k .onTrue) ∙ (rw k))
+    true-line k = sym (lone-line 2 (omega arith) (if-of (table .header) rows (table .plain) row n k .onTrue) ∙ (rw k))
 
     pub false-line : numberAt rows row 0 ≡ 43 → secondAt (listLines rows (numberAt rows row 2)) (listLines rows (numberAt rows row 3)) (lineOf rows row) ≡ lineOf rows (numberAt rows row 3)
     unfolding handed
-    false-line k = sym (lone-line 3 (omega arith) (if-of (table .header) rows (table .legal) row n k .onFalse) ∙ (rw k))
+    false-line k = sym (lone-line 3 (omega arith) (if-of (table .header) rows (table .plain) row n k .onFalse) ∙ (rw k))
 
     pub body-line : numberAt rows row 0 ≡ 44 → bodyAt (always (testOf rows row)) (lineOf rows row) ≡ lineOf rows (numberAt rows row 2)
     unfolding handed
-    body-line k = sym (lone-line 2 (omega arith) (while-of (table .header) rows (table .legal) row n k .body) ∙ (rw k))
+    body-line k = sym (lone-line 2 (omega arith) (while-of (table .header) rows (table .plain) row n k .body) ∙ (rw k))
 
     pub next-line : isStatement rows row ≡ true → 0 < numberAt rows row 5 → lineOf rows row + statementLines (statementAt rows row) ≡ lineOf rows (numberAt rows row 5)
     unfolding handed
-    next-line t p = sym (listed-line 5 (omega arith) (next-at (table .header) rows (table .legal) row n t) p)
+    next-line t p = sym (listed-line 5 (omega arith) (next-at (table .header) rows (table .plain) row n t) p)
 
     -- ---- the row's own line
 
@@ -146,7 +146,7 @@ module _ {rows : List ℤ} (table : KernelTable rows) where
     module _ {before after : List ℕ} (room : rowCount rows ≤ length before) where
       pub block-parts : numberAt rows row 0 ≡ 42 → (link line : ℕ) → link ≡ numberAt rows row 1 → line ≡ lineOf rows row → after ≡ stored before link line → PartsPlaced rows row before after
       block-parts k link line e f g =
-          let r = block-at (table .header) rows (table .legal) row n k in
+          let r = block-at (table .header) rows (table .plain) row n k in
           let few : numberAt rows row 1 < length before = block-room table n room k in
           rw (g, e)
           (record {
@@ -161,7 +161,7 @@ module _ {rows : List ℤ} (table : KernelTable rows) where
 
       pub while-parts : numberAt rows row 0 ≡ 44 → (link line : ℕ) → link ≡ numberAt rows row 2 → line ≡ bodyAt (always (testOf rows row)) (lineOf rows row) → after ≡ stored before link line → PartsPlaced rows row before after
       while-parts k link line e f g =
-          let r = while-of (table .header) rows (table .legal) row n k in
+          let r = while-of (table .header) rows (table .plain) row n k in
           let few : numberAt rows row 2 < length before = body-room table n room k in
           let some : 0 < numberAt rows row 2 = (let later = r .body .later in omega arith) in
           rw (g, e)
@@ -175,7 +175,7 @@ module _ {rows : List ℤ} (table : KernelTable rows) where
           → y ≡ firstAt (listLines rows (numberAt rows row 2)) (listLines rows (numberAt rows row 3)) (lineOf rows row) → z ≡ secondAt (listLines rows (numberAt rows row 2)) (listLines rows (numberAt rows row 3)) (lineOf rows row)
           → middle ≡ stored before yes-link y → after ≡ stored middle no-link z → PartsPlaced rows row before after
       if-parts k yes-link no-link middle y z e f g h i j =
-          let r = if-of (table .header) rows (table .legal) row n k in
+          let r = if-of (table .header) rows (table .plain) row n k in
           let few : numberAt rows row 2 < length before = true-room table n room k in
           let some : 0 < numberAt rows row 2 = (let later = r .onTrue .later in omega arith) in
           let first-keeps = stored-keeps before (numberAt rows row 2) y few (λ p. g ∙ true-line k) in
@@ -194,7 +194,7 @@ module _ {rows : List ℤ} (table : KernelTable rows) where
 
       pub next-parts : isStatement rows row ≡ true → (link line : ℕ) → link ≡ numberAt rows row 5 → line ≡ lineOf rows row + statementLines (statementAt rows row) → after ≡ stored before link line → NextPlaced rows row before after
       next-parts t link line e f g =
-          let l = next-at (table .header) rows (table .legal) row n t in
+          let l = next-at (table .header) rows (table .plain) row n t in
           let few : numberAt rows row 5 < length before = next-room table n room t in
           rw (g, e) (record { keeps = stored-keeps before (numberAt rows row 5) line few (λ p. f ∙ next-line t p); behind = λ leads u. next-handed l few leads u })
         where
@@ -227,7 +227,7 @@ module _ {rows : List ℤ} (table : KernelTable rows) where
     -- ---- labels
 
     pub label-few : numberAt rows row 0 ≡ 53 → numberAt rows row 1 < 40980
-    label-few k = structured-labels (boundsOf Kernel (table .header)) rows (table .legal .structured) row n (rw k)
+    label-few k = structured-labels (boundsOf Kernel (table .header)) rows (table .plain .legal .structured) row n (rw k)
 
     pub labelled-row : {labels : List ℕ} (line : ℕ) → Labelled rows row labels → numberAt rows row 0 ≡ 53 → line ≡ lineOf rows row → Labelled rows (row + 1) (set labels (numberAt rows row 1) line)
     labelled-row {labels} line s k e =
@@ -236,7 +236,7 @@ module _ {rows : List ℤ} (table : KernelTable rows) where
         record { room = omega (arith, length-set labels (numberAt rows row 1) line); labelled = λ other l inside q. by other l inside q (ℕ-discrete (numberAt rows other 1) (numberAt rows row 1)) }
       where
         here-is : line ≡ addressIn (contents rows) (numberAt rows row 1)
-        here-is = e ∙ sym (label-address (table .header) rows (table .legal) row n k)
+        here-is = e ∙ sym (label-address (table .header) rows (table .plain) row n k)
 
         by : (other : ℕ) → other < row + 1 → other < rowCount rows → numberAt rows other 0 ≡ 53 → Dec (numberAt rows other 1 ≡ numberAt rows row 1)
             → getD (set labels (numberAt rows row 1) line) (numberAt rows other 1) 0 ≡ addressIn (contents rows) (numberAt rows other 1)
@@ -259,7 +259,7 @@ module _ {rows : List ℤ} (table : KernelTable rows) where
   -- ---- the tables, before the first row
 
   pub placed-start : (lines : List ℕ) → rowCount rows ≤ length lines → getD lines 0 0 ≡ 0 → LinesPlaced rows 0 lines
-  placed-start lines room root = record { room = room; root = root ∙ sym (line-root (table .header) rows (table .legal)); linked = λ row field l. absurd (omega arith) }
+  placed-start lines room root = record { room = room; root = root ∙ sym (line-root (table .header) rows (table .plain)); linked = λ row field l. absurd (omega arith) }
 
   pub labelled-start : (labels : List ℕ) → 40980 ≤ length labels → Labelled rows 0 labels
   labelled-start labels room = record { room = room; labelled = λ row l. absurd (omega arith) }
@@ -291,15 +291,15 @@ module _ {rows : List ℤ} (table : KernelTable rows) where
     pub if-first-at : result ≡ firstAt y z line → Worked result (firstAt (listLines rows (numberAt rows row 2)) (listLines rows (numberAt rows row 3)) (lineOf rows row))
     if-first-at r =
         let whole : result ≡ firstAt (listLines rows (numberAt rows row 2)) (listLines rows (numberAt rows row 3)) (lineOf rows row) = r ∙ (rw (first-lines, second-lines, i)) in
-        record { is = whole; small = omega (arith, true-line n k, lone-small (if-of (table .header) rows (table .legal) row n k .onTrue)) }
+        record { is = whole; small = omega (arith, true-line n k, lone-small (if-of (table .header) rows (table .plain) row n k .onTrue)) }
 
     pub if-second-at : result ≡ secondAt y z line → Worked result (secondAt (listLines rows (numberAt rows row 2)) (listLines rows (numberAt rows row 3)) (lineOf rows row))
     if-second-at r =
         let whole : result ≡ secondAt (listLines rows (numberAt rows row 2)) (listLines rows (numberAt rows row 3)) (lineOf rows row) = r ∙ (rw (first-lines, second-lines, i)) in
-        record { is = whole; small = omega (arith, false-line n k, lone-small (if-of (table .header) rows (table .legal) row n k .onFalse)) }
+        record { is = whole; small = omega (arith, false-line n k, lone-small (if-of (table .header) rows (table .plain) row n k .onFalse)) }
 
   pub while-body-at : {row : ℕ} (n : row < rowCount rows) → isStatement rows row ≡ true → (k : numberAt rows row 0 ≡ 44) (atom : ℕ) (endless : Bool) (line result : ℕ) → atom ≡ numberAt rows row 1
       → endless ≡ always (operandOf (expressionAt rows atom)) → line ≡ lineOf rows row → result ≡ bodyAt endless line → Worked result (bodyAt (always (testOf rows row)) (lineOf rows row))
   while-body-at {row} n t k atom endless line result e f g r =
       let whole : result ≡ bodyAt (always (testOf rows row)) (lineOf rows row) = r ∙ (rw (f, e, g)) in
-      record { is = whole; small = omega (arith, body-line n k, lone-small (while-of (table .header) rows (table .legal) row n k .body)) }
+      record { is = whole; small = omega (arith, body-line n k, lone-small (while-of (table .header) rows (table .plain) row n k .body)) }

@@ -43,23 +43,23 @@ module _ {rows : List ℤ} (table : KernelTable rows) where
 
     pub block-size : numberAt rows row 0 ≡ 42 → statementLines (statementAt rows row) ≡ listLines rows (numberAt rows row 1)
     unfolding statementLines listLines
-    block-size k = rw (block-at (table .header) rows (table .legal) row n k .is)
+    block-size k = rw (block-at (table .header) rows (table .plain) row n k .is)
 
     pub if-size : numberAt rows row 0 ≡ 43 → statementLines (statementAt rows row) ≡ ifLines (listLines rows (numberAt rows row 2)) (listLines rows (numberAt rows row 3))
     unfolding statementLines
     if-size k =
-        let r = if-of (table .header) rows (table .legal) row n k in
-        rw (r .is, branch-lines (table .header) rows (table .legal) (r .onTrue), branch-lines (table .header) rows (table .legal) (r .onFalse))
+        let r = if-of (table .header) rows (table .plain) row n k in
+        rw (r .is, branch-lines (table .header) rows (table .plain) (r .onTrue), branch-lines (table .header) rows (table .plain) (r .onFalse))
 
     pub while-size : numberAt rows row 0 ≡ 44 → statementLines (statementAt rows row) ≡ whileLines (always (testOf rows row)) (listLines rows (numberAt rows row 2))
     unfolding statementLines
     while-size k =
-        let r = while-of (table .header) rows (table .legal) row n k in
-        rw (r .is, branch-lines (table .header) rows (table .legal) (r .body))
+        let r = while-of (table .header) rows (table .plain) row n k in
+        rw (r .is, branch-lines (table .header) rows (table .plain) (r .body))
 
     module _ (t : isStatement rows row ≡ true) where
       abbrev here-is : KernelRow rows row
-      here-is = kernel-row (table .header) rows (table .legal) row n t
+      here-is = kernel-row (table .header) rows (table .plain) row n t
 
       -- an assignment, a goto, an abort
       pub one-size : (k : ℕ) → numberAt rows row 0 ≡ k → (k ≡ 42 → ⊥) → (k ≡ 43 → ⊥) → (k ≡ 44 → ⊥) → (k ≡ 40 → ⊥) → (k ≡ 53 → ⊥) → statementLines (statementAt rows row) ≡ 1
@@ -108,18 +108,18 @@ module _ {rows : List ℤ} (table : KernelTable rows) where
 
           by : Dec (numberAt rows row 0 ≡ 53) → itemsLines (itemsAt rows row) ≡ statementLines (statementAt rows row) + itemsLines (listAt rows (numberAt rows row 5))
           by (yes k) =
-              let list : itemsLines (itemsAt rows row) ≡ itemsLines (listAt rows (numberAt rows row 5)) = ap itemsLines (label-list (table .header) rows (table .legal) row n k t) in
+              let list : itemsLines (itemsAt rows row) ≡ itemsLines (listAt rows (numberAt rows row 5)) = ap itemsLines (label-list (table .header) rows (table .plain) row n k t) in
               omega (arith, label-none k here-is)
-          by (no k) = ap itemsLines (statement-list (table .header) rows (table .legal) row n k t)
+          by (no k) = ap itemsLines (statement-list (table .header) rows (table .plain) row n k t)
 
       pub next-slot : {sizes : List ℕ} → Sized rows (row + 1) sizes → slot sizes (numberAt rows row 5) ≡ listLines rows (numberAt rows row 5)
-      next-slot s = listed-slot s (next-at (table .header) rows (table .legal) row n t)
+      next-slot s = listed-slot s (next-at (table .header) rows (table .plain) row n t)
 
       pub size-few : itemsLines (itemsAt rows row) < 40980
-      size-few = omega (arith, row-within (table .header) rows (table .legal) row n t, list-few (table .header) rows (table .legal))
+      size-few = omega (arith, row-within (table .header) rows (table .plain) row n t, list-few (table .header) rows (table .plain))
 
       pub line-few : lineOf rows row + itemsLines (itemsAt rows row) < 40980
-      line-few = omega (arith, row-within (table .header) rows (table .legal) row n t, list-few (table .header) rows (table .legal))
+      line-few = omega (arith, row-within (table .header) rows (table .plain) row n t, list-few (table .header) rows (table .plain))
 
   -- ---- room in a table that has a number for each row
 
@@ -132,34 +132,34 @@ module _ {rows : List ℤ} (table : KernelTable rows) where
         by (suc b) z = let inside = l .inside (omega arith) in omega arith
 
     pub block-room : numberAt rows row 0 ≡ 42 → numberAt rows row 1 < m
-    block-room k = listed-room (block-at (table .header) rows (table .legal) row n k .listed)
+    block-room k = listed-room (block-at (table .header) rows (table .plain) row n k .listed)
 
     pub next-room : isStatement rows row ≡ true → numberAt rows row 5 < m
-    next-room t = listed-room (next-at (table .header) rows (table .legal) row n t)
+    next-room t = listed-room (next-at (table .header) rows (table .plain) row n t)
 
     pub true-room : numberAt rows row 0 ≡ 43 → numberAt rows row 2 < m
-    true-room k = let inside = if-of (table .header) rows (table .legal) row n k .onTrue .inside in omega arith
+    true-room k = let inside = if-of (table .header) rows (table .plain) row n k .onTrue .inside in omega arith
 
     pub false-room : numberAt rows row 0 ≡ 43 → numberAt rows row 3 < m
-    false-room k = let inside = if-of (table .header) rows (table .legal) row n k .onFalse .inside in omega arith
+    false-room k = let inside = if-of (table .header) rows (table .plain) row n k .onFalse .inside in omega arith
 
     pub body-room : numberAt rows row 0 ≡ 44 → numberAt rows row 2 < m
-    body-room k = let inside = while-of (table .header) rows (table .legal) row n k .body .inside in omega arith
+    body-room k = let inside = while-of (table .header) rows (table .plain) row n k .body .inside in omega arith
 
   -- ---- what the code works out
 
   module _ {row : ℕ} {sizes : List ℕ} (n : row < rowCount rows) (s : Sized rows (row + 1) sizes) where
     pub block-answer : numberAt rows row 0 ≡ 42 → (link : ℕ) → link ≡ numberAt rows row 1 → slot sizes link ≡ statementLines (statementAt rows row)
-    block-answer k link e = ap (slot sizes) e ∙ listed-slot n s (block-at (table .header) rows (table .legal) row n k .listed) ∙ sym (block-size n k)
+    block-answer k link e = ap (slot sizes) e ∙ listed-slot n s (block-at (table .header) rows (table .plain) row n k .listed) ∙ sym (block-size n k)
 
     pub true-answer : numberAt rows row 0 ≡ 43 → (link : ℕ) → link ≡ numberAt rows row 2 → slot sizes link ≡ listLines rows (numberAt rows row 2)
-    true-answer k link e = ap (slot sizes) e ∙ lone-slot n s (if-of (table .header) rows (table .legal) row n k .onTrue)
+    true-answer k link e = ap (slot sizes) e ∙ lone-slot n s (if-of (table .header) rows (table .plain) row n k .onTrue)
 
     pub false-answer : numberAt rows row 0 ≡ 43 → (link : ℕ) → link ≡ numberAt rows row 3 → slot sizes link ≡ listLines rows (numberAt rows row 3)
-    false-answer k link e = ap (slot sizes) e ∙ lone-slot n s (if-of (table .header) rows (table .legal) row n k .onFalse)
+    false-answer k link e = ap (slot sizes) e ∙ lone-slot n s (if-of (table .header) rows (table .plain) row n k .onFalse)
 
     pub body-answer : numberAt rows row 0 ≡ 44 → (link : ℕ) → link ≡ numberAt rows row 2 → slot sizes link ≡ listLines rows (numberAt rows row 2)
-    body-answer k link e = ap (slot sizes) e ∙ lone-slot n s (while-of (table .header) rows (table .legal) row n k .body)
+    body-answer k link e = ap (slot sizes) e ∙ lone-slot n s (while-of (table .header) rows (table .plain) row n k .body)
 
     pub if-answer : numberAt rows row 0 ≡ 43 → (y z : ℕ) → y ≡ listLines rows (numberAt rows row 2) → z ≡ listLines rows (numberAt rows row 3) → ifLines y z ≡ statementLines (statementAt rows row)
     if-answer k y z e f = rw (e, f) (sym (if-size n k))
@@ -174,7 +174,7 @@ module _ {rows : List ℤ} (table : KernelTable rows) where
         omega (arith, size-split n t)
 
   pub test-atom : {row : ℕ} (n : row < rowCount rows) (a : ℕ) → a ≡ numberAt rows row 1 → numberAt rows row 0 ≡ 44 → (a < rowCount rows) × (isAtom rows a ≡ true)
-  test-atom {row} n a e k = let r = while-of (table .header) rows (table .legal) row n k in rw e (r .operand .inside, r .atom)
+  test-atom {row} n a e k = let r = while-of (table .header) rows (table .plain) row n k in rw e (r .operand .inside, r .atom)
 
   -- ---- a test that always holds
 

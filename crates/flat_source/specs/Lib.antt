@@ -4,5 +4,7 @@
 -- Source and flat: what it is for a source program and a flat list to share their fate.
 pub mod SourceFlat
 -- ---- laws
--- The theorem: every accepted program shares its fate with the flat list of its translation.
+-- Functions of a source program, and of its translation.
+pub mod SourceFunctions
+-- The theorems: every accepted program without functions shares its fate with the flat list of its translation; one with functions gets 25.
 pub mod SourceFlatLaws

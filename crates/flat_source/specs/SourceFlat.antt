@@ -1,19 +1,23 @@
 -- Source and flat: what it is for a source program and a flat list to share their fate; demand 3 and Change 10 in one.
 use mathlib.Core.Path.{_≡_}
+use mathlib.Core.Bool.{true, false}
 use mathlib.Core.Logic.{_↔_}
 use mathlib.Core.List.{List, _++_}
-use Prim.Native.Nat.{ℕ}
+use Prim.Native.Nat.{ℕ, _<_}
 use lib.IntN.{ℤ}
 use lib.ListN.{length, take}
+use Rattle.words.specs.Table.{rowCount}
 use Rattle.words.specs.Declarations.{declarationCount}
 use Rattle.words.specs.Layout.{layoutOf, storeSize, temporariesOf}
 use Rattle.words.specs.declared.Form.the-variants.{Source, Kernel}
 use Rattle.words.specs.declared.Ending.the-variants.{Spent}
-use Rattle.words.specs.declared.Verdict.the-variants.{Accepted}
+use Rattle.words.specs.declared.Verdict.the-variants.{Accepted, Refused}
 use Rattle.language.specs.Program.{Finished}
 use Rattle.program_meaning.specs.Program.{runProgram}
+use Rattle.function_causes.specs.Functions.{isDefinition}
 use Rattle.source_check.specs.Refusal.{refusal as sourceRefusal}
 use Rattle.fate.specs.KernelForms.{kernelHeaderOf, kernelRowsOf}
+use Rattle.plain_check.specs.Refusal.{plainRefusal}
 use Rattle.flat.specs.Refusal.{refusal as flatRefusal}
 use Rattle.flat.specs.Results.{runList}
 use Rattle.flat_fate.specs.FlatWords.{flattened}
@@ -51,6 +55,17 @@ pub record FlatFormOf (header rows kernelHeader list : List ℤ) : Type 0 where
       → length declared ≡ declarationCount rows → length flatDeclared ≡ declarationCount rows → length temporaries ≡ temporariesOf Kernel kernelHeader
       → SharedFate header rows kernelHeader list store declared flatDeclared temporaries
 
--- What holds of every source program that the check accepts, and of the flat list of its translation.
+-- No row defines a function.
+abbrev pub WithoutFunctions : List ℤ → Type 0
+WithoutFunctions rows = (row : ℕ) → row < rowCount rows → isDefinition rows row ≡ false
+
+-- What holds of every source program without functions that the check accepts, and of the flat list of its translation.
 abbrev pub HasFlatForm : List ℤ → List ℤ → Type 0
-HasFlatForm header rows = sourceRefusal header rows ≡ Accepted → FlatFormOf header rows (kernelHeaderOf header rows) (flattened (kernelRowsOf header rows))
+HasFlatForm header rows =
+    sourceRefusal header rows ≡ Accepted → WithoutFunctions rows → FlatFormOf header rows (kernelHeaderOf header rows) (flattened (kernelRowsOf header rows))
+
+-- Of one with functions: "the flat list refuses functions with 25 and the first one's row", which in a translation is row 1.
+abbrev pub FunctionsRefused : List ℤ → List ℤ → Type 0
+FunctionsRefused header rows =
+    sourceRefusal header rows ≡ Accepted → (row : ℕ) → row < rowCount rows → isDefinition rows row ≡ true
+    → plainRefusal (kernelHeaderOf header rows) (kernelRowsOf header rows) ≡ Refused (record { number = 25; place = 1 })

@@ -22,6 +22,7 @@ use Rattle.words.specs.declared.Operator.{Operator}
 use Rattle.arithmetic.specs.declared.Located.{Located}
 use Rattle.arithmetic.specs.declared.Located.the-variants.{At as LiesAt, Outside}
 use Rattle.row_fields.specs.Fields.{boundsIn}
+use Rattle.row_fields.specs.declared.Bounds.{Bounds}
 use Rattle.operations.specs.Bounds.{layoutFrom}
 use Rattle.operations.proofs.Bounds.{Lies, lies-in}
 use Rattle.flat.specs.Lines.{operate, fetch, does, valueOf, stored, onward, nextOf}
@@ -41,14 +42,18 @@ module _ {bounds : List ℕ} {list : List ℤ} {words line operation kind : ℕ}
   abbrev pub partsIs : Parts
   partsIs = parts kind (natural (fieldAt list line 1)) (operandOf (leftConstant operation) (fieldAt list line 2)) (operandOf (rightConstant operation) (fieldAt list line 3)) (fieldAt list line 4)
 
+  -- the numbers that it may name
+  abbrev pub numbersIs : Bounds
+  numbersIs = boundsIn (layoutFrom bounds) (o .ready .setting .declared) words
+
   pub line-is : lineAt list line ≡ lineOf line partsIs
   unfolding lineAt partsAt
   line-is = rw (← o .operation-is, o .kind-is)
 
-  pub within-is : Within (boundsIn (layoutFrom bounds) words) (lineCount list) (lineOf line partsIs)
-  within-is = subst (λ x. Within (boundsIn (layoutFrom bounds) words) (lineCount list) x) line-is (o .ready .setting .within line (o .ready .inside))
+  pub within-is : Within numbersIs (lineCount list) (lineOf line partsIs)
+  within-is = subst (λ x. Within numbersIs (lineCount list) x) line-is (o .ready .setting .within line (o .ready .inside))
 
-  pub small : Small (boundsIn (layoutFrom bounds) words)
+  pub small : Small numbersIs
   unfolding storeSize
   small =
       let s = o .ready .setting in
@@ -57,14 +62,14 @@ module _ {bounds : List ℕ} {list : List ℤ} {words line operation kind : ℕ}
   pub field-inside : (field : ℕ) → field < 5 → 5 * line + field < length list
   field-inside field h = omega (arith, o .ready .inside)
 
-  pub variable-inside : (n : ℕ) → NamesVariable (boundsIn (layoutFrom bounds) words) n → n < words
-  variable-inside n e = variable-below (boundsIn (layoutFrom bounds) words) small n e
+  pub variable-inside : (n : ℕ) → NamesVariable numbersIs n → n < words
+  variable-inside n e = variable-below numbersIs small n e
 
-  pub operand-ready : (field : ℕ) → field < 5 → (constant c : Bool) → c ≡ constant → WithinOperand (boundsIn (layoutFrom bounds) words) (operandOf constant (fieldAt list line field)) → ReadyOperand list line field c words
+  pub operand-ready : (field : ℕ) → field < 5 → (constant c : Bool) → c ≡ constant → WithinOperand numbersIs (operandOf constant (fieldAt list line field)) → ReadyOperand list line field c words
   operand-ready field h constant c e w =
       record { inside = field-inside field h; named = λ f. named constant (sym e ∙ f) w; few-words = omega (arith, o .ready .setting .few-words) }
     where
-      named : (b : Bool) → b ≡ false → WithinOperand (boundsIn (layoutFrom bounds) words) (operandOf b (fieldAt list line field)) → natural (fieldAt list line field) < words
+      named : (b : Bool) → b ≡ false → WithinOperand numbersIs (operandOf b (fieldAt list line field)) → natural (fieldAt list line field) < words
       named true e w = absurd (true≢false e)
       named false e w = variable-inside (natural (fieldAt list line field)) w
 
@@ -72,19 +77,19 @@ module _ {bounds : List ℕ} {list : List ℤ} {words line operation kind : ℕ}
   jump-ready = record { inside = o .ready .inside; lands = o .ready .setting .lands line (o .ready .inside) }
 
   -- where an array lies
-  pub lies : (n : ℕ) → NamesArray (boundsIn (layoutFrom bounds) words) n → Lies (layoutFrom bounds) bounds n
+  pub lies : (n : ℕ) → NamesArray numbersIs n → Lies (layoutFrom bounds) bounds n
   lies n e =
       let s = o .ready .setting in
-      lies-in bounds words (s .bounds-are) (s .store-fits) (omega (arith, s .few-words)) n (array-below (boundsIn (layoutFrom bounds) words) small n e)
+      lies-in bounds words (s .bounds-are) (s .store-fits) (omega (arith, s .few-words)) n (array-below numbersIs small n e)
 
   -- an element that the bounds test lets through lies in the store
-  pub element-inside-store : (n : ℕ) → NamesArray (boundsIn (layoutFrom bounds) words) n → (v : ℤ) (at : ℕ) → elementWord (getD bounds n 0) (getD bounds (n + 1) 0 - getD bounds n 0) v ≡ value at → at < words
+  pub element-inside-store : (n : ℕ) → NamesArray numbersIs n → (v : ℤ) (at : ℕ) → elementWord (getD bounds n 0) (getD bounds (n + 1) 0 - getD bounds n 0) v ≡ value at → at < words
   element-inside-store n e v at f =
       let L = layoutFrom bounds in
       let s = o .ready .setting in
       let here = lies n e in
       let inside = element-inside (getD bounds n 0) (getD bounds (n + 1) 0 - getD bounds n 0) v at f in
-      let most = array-in-store L n (array-below (boundsIn L words) small n e) in
+      let most = array-in-store L n (array-below numbersIs small n e) in
       omega (arith, inside .most, here .base, here .span, s .store-fits)
 
 -- the bounds test, with the array and the index as the code reads them
@@ -112,9 +117,9 @@ module _ {bounds : List ℕ} {list : List ℤ} {words line operation : ℕ} (s :
         let most = leb-true kind 16 (both (leb 6 kind) (leb kind 16) k .1) in
         rw (ne-eqb kind 1 (λ e. omega arith), ne-eqb kind 3 (λ e. omega arith), ne-eqb kind 4 (λ e. omega arith), ne-eqb kind 21 (λ e. omega arith), ne-eqb kind 43 (λ e. omega arith), ne-eqb kind 44 (λ e. omega arith), ne-eqb kind 52 (λ e. omega arith), ne-eqb kind 57 (λ e. omega arith))
 
-    pub operate-within : NamesVariable (boundsIn (layoutFrom bounds) words) (natural (fieldAt list line 1))
-        × WithinOperand (boundsIn (layoutFrom bounds) words) (operandOf (leftConstant operation) (fieldAt list line 2)) × WithinOperand (boundsIn (layoutFrom bounds) words) (operandOf (rightConstant operation) (fieldAt list line 3))
-    operate-within = subst (λ x. Within (boundsIn (layoutFrom bounds) words) (lineCount list) x) operate-line (within-is o)
+    pub operate-within : NamesVariable (numbersIs o) (natural (fieldAt list line 1))
+        × WithinOperand (numbersIs o) (operandOf (leftConstant operation) (fieldAt list line 2)) × WithinOperand (numbersIs o) (operandOf (rightConstant operation) (fieldAt list line 3))
+    operate-within = subst (λ x. Within (numbersIs o) (lineCount list) x) operate-line (within-is o)
 
     pub operate-next : (c d : Bool) → c ≡ leftConstant operation → d ≡ rightConstant operation → (target : ℕ) → target ≡ natural (fieldAt list line 1)
         → (v w : ℤ) → mag v < 2 ^ 31 → mag w < 2 ^ 31 → v ≡ valueOf (operandOf c (fieldAt list line 2)) s → w ≡ valueOf (operandOf d (fieldAt list line 3)) s
@@ -128,9 +133,9 @@ module _ {bounds : List ℕ} {list : List ℤ} {words line operation : ℕ} (s :
     fetch-line : lineOf line (partsIs o) ≡ does (fetch (natural (fieldAt list line 1)) (natural (fieldAt list line 2)) (operandOf (rightConstant operation) (fieldAt list line 3)))
     fetch-line = rw plain-left
 
-    pub fetch-within : NamesVariable (boundsIn (layoutFrom bounds) words) (natural (fieldAt list line 1)) × NamesArray (boundsIn (layoutFrom bounds) words) (natural (fieldAt list line 2))
-        × WithinOperand (boundsIn (layoutFrom bounds) words) (operandOf (rightConstant operation) (fieldAt list line 3))
-    fetch-within = subst (λ x. Within (boundsIn (layoutFrom bounds) words) (lineCount list) x) fetch-line (within-is o)
+    pub fetch-within : NamesVariable (numbersIs o) (natural (fieldAt list line 1)) × NamesArray (numbersIs o) (natural (fieldAt list line 2))
+        × WithinOperand (numbersIs o) (operandOf (rightConstant operation) (fieldAt list line 3))
+    fetch-within = subst (λ x. Within (numbersIs o) (lineCount list) x) fetch-line (within-is o)
 
     module _ (d : Bool) (de : d ≡ rightConstant operation) (array : ℕ) (ae : array ≡ natural (fieldAt list line 2)) (v : ℤ) (h : mag v < 2 ^ 31)
         (ve : v ≡ valueOf (operandOf d (fieldAt list line 3)) s) (l : Located) (le : located l ≡ elementWord (getD bounds array 0) (getD bounds (array + 1) 0 - getD bounds array 0) (again v)) where

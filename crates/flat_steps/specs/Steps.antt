@@ -8,6 +8,7 @@ use lib.ListN.{length}
 use Rattle.words.specs.Word.{natural}
 use Rattle.words.specs.Layout.{storeSize}
 use Rattle.row_fields.specs.Fields.{boundsIn}
+use Rattle.row_fields.specs.declared.NumberRange.{NumberRange}
 use Rattle.operations.specs.Bounds.{boundsOf, layoutFrom}
 use Rattle.flat.specs.Lines.{Next, goes, faults, ends}
 use Rattle.flat.specs.Words.{lineCount, fieldAt, operationAt, kindOf, leftConstant, lineAt}
@@ -45,7 +46,9 @@ pub record Setting (bounds : List ℕ) (list : List ℤ) (words : ℕ) : Type 0 
   -- an array's number is no constant
   pub array-left : (line : ℕ) → line < lineCount list → kindOf (operationAt list line) ≡ 3 → leftConstant (operationAt list line) ≡ false
   pub lands : (line : ℕ) → line < lineCount list → landsInside line (lineCount list) (fieldAt list line 4) ≡ true
-  pub within : (line : ℕ) → line < lineCount list → Within (boundsIn (layoutFrom bounds) words) (lineCount list) (lineAt list line)
+  -- the numbers of declarations, which no line names
+  pub declared : NumberRange
+  pub within : (line : ℕ) → line < lineCount list → Within (boundsIn (layoutFrom bounds) declared words) (lineCount list) (lineAt list line)
 
 -- The line is one of the list.
 pub record ReadyLine (bounds : List ℕ) (list : List ℤ) (words line : ℕ) : Type 0 where

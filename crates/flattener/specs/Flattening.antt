@@ -11,7 +11,7 @@ use Rattle.words.specs.Over.{over}
 use Rattle.words.specs.declared.Verdict.{Verdict}
 use Rattle.words.specs.declared.Verdict.the-variants.{Accepted, Refused}
 use Rattle.language.specs.Program.{contents}
-use Rattle.kernel_check.specs.Refusal.{refusal as kernelRefusal}
+use Rattle.plain_check.specs.Refusal.{plainRefusal}
 use Rattle.flat.specs.Refusal.{refusal as flatRefusal}
 use Rattle.flat_fate.specs.Code.{itemsLines}
 use Rattle.flat_fate.specs.FlatWords.{flattened, SharedFate}
@@ -37,17 +37,18 @@ abbrev pub written : (list out : List ℤ) → FlattenResult
 written list out =
     pick (leb (length list) (length out)) (answerAndList (Flattened (length list)) (over list out)) (answerAndList (FlattenRefused (record { number = 10; place = 0 })) out)
 
--- The kernel check's causes first; then the list of docs/FLAT.md.
+-- A refusal first; then the list of docs/FLAT.md.
 abbrev pub flattenAfter : Verdict → (rows out : List ℤ) → FlattenResult
 flattenAfter (Refused refusal) rows out = answerAndList (FlattenRefused refusal) out
 flattenAfter Accepted rows out = written (flattened rows) out
 
+-- "The flat list refuses functions with 25 and the first one's row, just before its 10": the kernel check's causes, 25, then 10.
 unfoldable pub flattenResult : (header rows out : List ℤ) → FlattenResult
-flattenResult header rows out = flattenAfter (kernelRefusal header rows) rows out
+flattenResult header rows out = flattenAfter (plainRefusal header rows) rows out
 
 -- ---- the words written
 
--- What a flat list has to be for a kernel program.
+-- What a flat list has to be for a kernel program without functions.
 pub record FlatFormOf (header rows list : List ℤ) : Type 0 where
   -- "the list's exact size": five words a line
   pub size : length list ≡ 5 * itemsLines (contents rows)

@@ -1,5 +1,5 @@
--- Laws of flattening: every legal kernel program has its flat list; the list's exact size, from the table of sizes; what the code leaves is
--- what the definition says.
+-- Laws of flattening: every kernel program without functions has its flat list; the list's exact size, from the table of sizes; what the
+-- code leaves is what the definition says.
 use mathlib.Core.Path.{_≡_, refl, sym, ap, _∙_}
 use mathlib.Core.Bool.{Bool, true, false}
 use mathlib.Core.List.{List, _++_}
@@ -23,14 +23,14 @@ use Rattle.language.specs.Program.{contents}
 use Rattle.language.specs.Calls.{arityIn}
 use Rattle.row_fields.specs.Fields.{boundsOf}
 use Rattle.structure.specs.StructuredLaws.{structured-tree}
-use Rattle.kernel_check.specs.Legal.{Legal}
-use Rattle.kernel_check.specs.Refusal.{refusal as kernelRefusal}
-use Rattle.kernel_check.specs.Accepts.{accepted-legal}
+use Rattle.plain_check.specs.Refusal.{plainRefusal}
+use Rattle.plain_check.specs.Plain.{Plain}
+use Rattle.plain_check.specs.Accepts.{accepted-plain}
 use Rattle.accepted.specs.Statements.{root-inside, root-statement}
-use Rattle.accepted_kernel.specs.Kernel.{legal-functionless, legal-plain}
+use Rattle.accepted_kernel.specs.Kernel.{plain-functionless, plain-program}
 use Rattle.kernel_rows.specs.Rows.{KernelTable}
-use Rattle.kernel_rows.specs.Labels.{legal-once}
-use Rattle.kernel_rows.specs.Tree.{legal-tree, root-items}
+use Rattle.kernel_rows.specs.Labels.{plain-once}
+use Rattle.kernel_rows.specs.Tree.{plain-tree, root-items}
 use Rattle.flat.specs.Accepts.{legal-accepted as flat-accepts}
 use Rattle.flat_fate.specs.Code.{statementLines, itemsLines}
 use Rattle.flat_fate.specs.Addresses.{flatOf, flat-size}
@@ -44,42 +44,42 @@ use Rattle.flattener.specs.declared.FlattenAnswer.{FlattenAnswer}
 use Rattle.flattener.specs.declared.FlattenAnswer.the-variants.{Flattened, Refused as FlattenRefused}
 use Rattle.flattener.specs.Flattening.{FlattenResult, answerAndList, written, flattenResult, FlatFormOf, WroteList, WritesList}
 
--- Every legal kernel program, foreign ones too, has its flat list.
-pub has-flat-form : (header rows : List ℤ) → kernelRefusal header rows ≡ Accepted → FlatFormOf header rows (flattened rows)
+-- Every plain kernel program, foreign ones too, has its flat list.
+pub has-flat-form : (header rows : List ℤ) → plainRefusal header rows ≡ Accepted → FlatFormOf header rows (flattened rows)
 unfolding flattened
 has-flat-form header rows e =
-    let legal = accepted-legal header rows e in
+    let plain = accepted-plain header rows e in
     record {
-      size = flattened-size header rows legal (λ l. legal-once header rows legal l);
-      accepted = flat-accepts header (wordsFrom 0 (flatOf (contents rows))) (flattened-legal header (contents rows) (legal .header-fits) (legal-tree header rows legal) (legal-functionless header rows legal));
-      shares-fate = λ store. shares-fate header rows legal (λ l. legal-once header rows legal l) store;
+      size = flattened-size header rows plain (λ l. plain-once header rows plain l);
+      accepted = flat-accepts header (wordsFrom 0 (flatOf (contents rows))) (flattened-legal header (contents rows) (plain .legal .header-fits) (plain-tree header rows plain) (plain-functionless header rows plain));
+      shares-fate = λ store. shares-fate header rows plain (λ l. plain-once header rows plain l) store;
     }
 
 module _ {rows : List ℤ} (table : KernelTable rows) where
-  abbrev legal : Legal (table .header) rows
-  legal = table .legal
+  abbrev plain : Plain (table .header) rows
+  plain = table .plain
 
   -- the size of row 0 is the list's
   pub root-size : {sizes : List ℕ} → Sized rows 0 sizes → (words : ℕ) → words ≡ 5 * getD sizes 0 0 → words ≡ length (flattened rows)
   unfolding itemsLines statementLines
   root-size s words e =
-      let t = legal .structured in
+      let t = plain .legal .structured in
       let bounds = boundsOf Kernel (table .header) in
       let some = root-inside Kernel bounds rows t in
-      let lines : itemsLines (itemsAt rows 0) ≡ itemsLines (contents rows) + 0 = ap itemsLines (root-items (table .header) rows legal) in
-      omega (arith, s .sized 0 (omega arith) some (root-statement Kernel bounds rows t), flattened-size (table .header) rows legal (λ l. legal-once (table .header) rows legal l))
+      let lines : itemsLines (itemsAt rows 0) ≡ itemsLines (contents rows) + 0 = ap itemsLines (root-items (table .header) rows plain) in
+      omega (arith, s .sized 0 (omega arith) some (root-statement Kernel bounds rows t), flattened-size (table .header) rows plain (λ l. plain-once (table .header) rows plain l))
 
   pub list-size : length (flattened rows) ≡ 5 * length (flatOf (contents rows))
   list-size =
-      let own = legal-plain (table .header) rows legal in
-      omega (arith, flattened-size (table .header) rows legal (λ l. legal-once (table .header) rows legal l), flat-size (layoutOf Kernel (table .header)) (contents rows) (own .items) (arityIn (contents rows)) (own .calls) (λ l. legal-once (table .header) rows legal l))
+      let own = plain-program (table .header) rows plain in
+      omega (arith, flattened-size (table .header) rows plain (λ l. plain-once (table .header) rows plain l), flat-size (layoutOf Kernel (table .header)) (contents rows) (own .items) (arityIn (contents rows)) (own .calls) (λ l. plain-once (table .header) rows plain l))
 
   -- the tables have a place for each row
   pub rows-few : rowCount rows ≤ 40980
-  rows-few = structured-tree Kernel (boundsOf Kernel (table .header)) rows (legal .structured) .few
+  rows-few = structured-tree Kernel (boundsOf Kernel (table .header)) rows (plain .legal .structured) .few
 
   pub lines-few : length (flattened rows) < 204900
-  lines-few = omega (arith, list-size, list-few (table .header) rows legal)
+  lines-few = omega (arith, list-size, list-few (table .header) rows plain)
 
   -- where the list is too short nothing is written
   pub too-short : (out : List ℤ) (words : ℕ) → words ≡ length (flattened rows) → length out < words → answerAndList (FlattenRefused (record { number = 10; place = 0 })) out ≡ written (flattened rows) out
@@ -104,17 +104,17 @@ zeros-first room h = getD-replicate room 0 0 0 h
 -- ---- the check's answer comes first
 
 module _ (header rows out : List ℤ) where
-  pub refused-first : (refusal : Refusal) → kernelRefusal header rows ≡ Refused refusal → answerAndList (FlattenRefused refusal) out ≡ flattenResult header rows out
+  pub refused-first : (refusal : Refusal) → plainRefusal header rows ≡ Refused refusal → answerAndList (FlattenRefused refusal) out ≡ flattenResult header rows out
   unfolding flattenResult
   refused-first refusal e = rw e
 
-  pub accepted-next : (result : FlattenResult) → kernelRefusal header rows ≡ Accepted → result ≡ written (flattened rows) out → result ≡ flattenResult header rows out
+  pub accepted-next : (result : FlattenResult) → plainRefusal header rows ≡ Accepted → result ≡ written (flattened rows) out → result ≡ flattenResult header rows out
   unfolding flattenResult
   accepted-next result e f = rw e f
 
   -- ---- what is written has the flat form
 
-  module _ (e : kernelRefusal header rows ≡ Accepted) (left : List ℤ) where
+  module _ (e : plainRefusal header rows ≡ Accepted) (left : List ℤ) where
     wrote : (words : ℕ) → Flattened words ≡ Flattened (length (flattened rows)) → left ≡ over (flattened rows) out → length (flattened rows) ≤ length out → WroteList header rows words left
     wrote words f g h =
         let same : words ≡ length (flattened rows) = cc in

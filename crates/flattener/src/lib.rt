@@ -1,4 +1,4 @@
-// The flattener: writes the flat list of a legal kernel program.
+// The flattener: writes the flat list of a legal kernel program without functions.
 use flat_lines::rows::put_rows;
 use flat_sizes::places::place_rows;
 use flat_sizes::sizes::size_rows;
@@ -29,7 +29,7 @@ fn write_sized(rows: &[i32], sizes: &[u16], out: &mut [i32])
     put_rows(out, rows, sizes, &lines, &labels);
 }
 
-// Writes the list of a legal kernel table: cause 10, before the first word is written.
+// Writes the list of a plain kernel table: cause 10, before the first word is written.
 fn flatten_accepted(rows: &[i32], out: &mut [i32]) -> FlattenAnswer
     requires { ⌜ KernelTable (now rows) ⌝ }
     ensures { λ r. ⌜ answerAndList r (now (out .exit)) ≡ written (flattened (now (rows .entry))) (now (out .entry)) ⌝ }
@@ -47,13 +47,13 @@ fn flatten_accepted(rows: &[i32], out: &mut [i32]) -> FlattenAnswer
     FlattenAnswer::Flattened(words)
 }
 
-// Flattens a kernel program: the kernel check's causes, then 10. The second promise is about the words that were written: the list's own
-// check takes them, they are as many as they must be, and both runs share their fate.
+// Flattens a kernel program: the kernel check's causes, 25 where it has functions, then 10. The second promise is about the words that were
+// written: the list's own check takes them, they are as many as they must be, and both runs share their fate.
 pub fn flatten(header: &[i32], rows: &[i32], out: &mut [i32]) -> FlattenAnswer
     ensures { λ r. ⌜ answerAndList r (now (out .exit)) ≡ flattenResult (now (header .entry)) (now (rows .entry)) (now (out .entry)) ⌝ }
     ensures { λ r. ⌜ WritesList (now (header .entry)) (now (rows .entry)) r (now (out .exit)) ⌝ }
 {
-    let verdict = kernel_check::check(header, rows);
+    let verdict = plain_check::check(header, rows);
     match verdict {
         Verdict::Accepted => flatten_accepted(rows, out),
         Verdict::Refused(refusal) => FlattenAnswer::Refused(refusal),

@@ -59,7 +59,7 @@ item-cases Other word s words body is P o t c d l f = o refl
 ownDefinition : ℕ → Kind → Bool
 ownDefinition number kind = pick (isDefinition kind) (eqb number 59) true
 
-definition-test : (rows : List ℤ) (row : ℕ) (t : Bool) → isDefinition (kindAt rows row) ≡ t → eqb (numberAt rows row 0) 59 ≡ t
+pub definition-test : (rows : List ℤ) (row : ℕ) (t : Bool) → isDefinition (kindAt rows row) ≡ t → eqb (numberAt rows row 0) 59 ≡ t
 unfolding everyLine kinds kindIn kindOf kindAt ownDefinition
 definition-test rows row true e = rw e at (every-number ownDefinition refl (λ n. refl) (numberAt rows row 0))
 definition-test rows row false e = by (eqb (numberAt rows row 0) 59) refl

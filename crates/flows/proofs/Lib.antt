@@ -5,5 +5,7 @@ pub mod Answers
 pub mod Enter
 -- Items: the items of a list by the rows that hold them.
 pub mod Items
--- Walks: functions, arguments and parameters by the rows that hold them.
+-- Walks: arguments and parameters by the rows that hold them.
 pub mod Walks
+-- Definitions: the definitions of row 0's list in turn.
+pub mod Definitions

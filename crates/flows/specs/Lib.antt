@@ -5,5 +5,7 @@
 pub mod Flows
 -- Lists: where a list goes on.
 pub mod Lists
--- Calls: the rows of functions, arguments and parameters.
+-- Calls: the rows of arguments and parameters.
 pub mod Calls
+-- FunctionRows: the rows of the functions of a table as a list.
+pub mod FunctionRows

@@ -1,7 +1,8 @@
 // What a statement's answer says, and where a list goes on. An answer is one number, so that it comes back in a register: flows.rt says
 // what it means.
-pub mod calls; // calls.rt: the rows of functions, arguments and parameters
+pub mod calls; // calls.rt: the rows of arguments and parameters
 pub mod flows; // flows.rt: what a statement's answer says
+pub mod functions; // functions.rt: the rows of functions as a list
 pub mod lists; // lists.rt: where a list goes on: the search for a mark
 
 // How a statement ended, as an answer, where it seeks no label and the run goes on.

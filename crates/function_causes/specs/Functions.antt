@@ -9,11 +9,9 @@ use Rattle.words.specs.Word.{pick}
 use Rattle.words.specs.Table.{rowCount, numberAt}
 use Rattle.words.specs.Links.{link, note}
 use Rattle.words.specs.Search.{some}
+unfoldable pub use Rattle.row_roles.specs.Roles.{isDefinition}
 
--- "Kind 59 defines a function", "Kind 31, an expression, calls", "Kind 60 returns".
-unfoldable pub isDefinition : List ℤ → ℕ → Bool
-isDefinition rows row = eqb (numberAt rows row 0) 59
-
+-- "Kind 31, an expression, calls", "Kind 60 returns". The rows that define functions are told by row_roles.
 unfoldable pub isCall : List ℤ → ℕ → Bool
 isCall rows row = eqb (numberAt rows row 0) 31
 

@@ -16,5 +16,3 @@ pub mod AroundLaws
 pub mod LengthLaws
 -- The theorem: the causes accept exactly the tables whose functions are as the request demands; so a table without functions.
 pub mod AcceptsFunctions
--- Functionless: a structured table has no functions, while no form has their kinds; it is as the request demands.
-pub mod Functionless

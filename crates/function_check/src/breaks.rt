@@ -2,8 +2,8 @@
 use super::Cause;
 use super::calls::is_wrong_call;
 use super::front::function_of;
-use super::front::is_definition;
 use grammar::KindTable;
+use row_roles::is_definition;
 use structure::row_number::wide;
 use words::Found;
 use words::table::number_at;

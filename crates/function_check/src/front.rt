@@ -1,9 +1,9 @@
 // The definitions at the front: the row of each, at its number.
 use grammar::KindTable;
 use grammar::link;
+use row_roles::is_definition;
 use structure::row_number::narrow;
 use structure::row_number::wide;
-use words::table::number_at;
 ghost use mathlib.Core.Path.{_≡_};
 ghost use mathlib.Core.Bool.{false};
 ghost use Prim.Native.Nat.{_*_, _<_};
@@ -13,13 +13,6 @@ ghost use Rattle.structure.specs.Structured.{Tree};
 ghost use Rattle.structure.specs.Passes.{Notes};
 ghost use Rattle.function_causes.specs.Functions.{isDefinition, functionAt};
 ghost use Rattle.function_check.specs.Passes.{Blank};
-
-pub fn is_definition(rows: &[i32], row: usize) -> bool
-    requires { ⌜ 6 * row < length (now rows) ⌝ }
-    ensures { λ r. ⌜ r ≡ isDefinition (now (rows .entry)) row ⌝ }
-{
-    number_at(rows, row, 0) == 59
-}
 
 // The definition of each number: a walk along row 0's list, while it has definitions.
 pub fn write_functions(kinds: &KindTable, rows: &[i32], functions: &mut [u16])

@@ -3,7 +3,7 @@ use mathlib.Core.Bool.{Bool, _||_}
 use mathlib.Core.List.{List, [], _∷_}
 use Prim.Native.Nat.{ℕ}
 use Rattle.words.specs.Word.{pick}
-use Rattle.words.specs.Kinds.{unused, value, variable, array, label, declaredNumber, functionNumber, expression, optionalExpression, place, branch, optionalBranch, optionalItem, bodyBlock, optionalArm, optionalArgument, optionalParameter, expressionRow, placeRow, statementRow, armRow, argumentRow, between, Forms, inBoth, inSource, inKernel, inNeither, KindRow, kindRow}
+use Rattle.words.specs.Kinds.{unused, value, variable, array, label, declaredNumber, functionNumber, expression, optionalExpression, place, branch, optionalBranch, optionalItem, bodyBlock, optionalArm, optionalArgument, optionalParameter, expressionRow, placeRow, statementRow, armRow, argumentRow, between, Forms, inBoth, inSource, inKernel, KindRow, kindRow}
 use Rattle.words.specs.declared.Kind.the-variants.{Other}
 
 -- A line is about the kinds from one number to another, and says what a, b, c and d hold.
@@ -72,12 +72,14 @@ nextSaid number =
 abbrev pub inParagraph : ℕ → Bool
 inParagraph number = between 1 4 number || (between 6 16 number || (between 21 21 number || (between 40 44 number || between 52 53 number)))
 
--- "(kernel only)". "The kernel's new kind 57". "Kinds not named in this paragraph are not in the kernel language." The kinds of functions stand in
--- no form until both checks know their causes.
+-- Functions, in the source and, as "kernel calls", "a kernel return" and parameters that "in the kernel .. name their words", there too.
+abbrev pub ofFunctions : ℕ → Bool
+ofFunctions number = between 31 32 number || between 58 60 number
+
+-- "(kernel only)". "The kernel's new kind 57". "Kinds not named in this paragraph are not in the kernel language."
 abbrev pub formsSaid : ℕ → Forms
 formsSaid number =
-    pick (between 52 53 number || between 57 57 number) inKernel
-    (pick (inParagraph number) inBoth (pick (between 59 60 number || between 31 32 number) inNeither inSource))
+    pick (between 52 53 number || between 57 57 number) inKernel (pick (inParagraph number || ofFunctions number) inBoth inSource)
 
 abbrev pub rowSaid : ℕ → KindLine → KindRow
 rowSaid number l =

@@ -63,8 +63,8 @@ const KINDS: KindTable = [
     [EXPRESSION, PLACE, NONE, NONE, NONE, NONE, SOURCE], // 28 −−e
     [EXPRESSION, PLACE, NONE, NONE, NONE, NONE, SOURCE], // 29 e++
     [EXPRESSION, PLACE, NONE, NONE, NONE, NONE, SOURCE], // 30 e−−
-    [EXPRESSION, FUNCTION, ARGUMENT, NONE, NONE, NONE, NEITHER], // 31 call
-    [ARGUMENT_ROW, OPERAND, NONE, NONE, NONE, ARGUMENT, NEITHER], // 32 argument
+    [EXPRESSION, FUNCTION, ARGUMENT, NONE, NONE, NONE, BOTH], // 31 call
+    [ARGUMENT_ROW, OPERAND, NONE, NONE, NONE, ARGUMENT, BOTH], // 32 argument
     [NO_ROW, NONE, NONE, NONE, NONE, NONE, NEITHER], // 33
     [NO_ROW, NONE, NONE, NONE, NONE, NONE, NEITHER], // 34
     [NO_ROW, NONE, NONE, NONE, NONE, NONE, NEITHER], // 35
@@ -90,17 +90,9 @@ const KINDS: KindTable = [
     [STATEMENT, ARM, NONE, NONE, NONE, ITEM, SOURCE], // 55 guarded do
     [ARM_ROW, OPERAND, BODY_BLOCK, NONE, NONE, ARM, SOURCE], // 56 arm
     [STATEMENT, NONE, NONE, NONE, NONE, ITEM, KERNEL], // 57 abort
-    [STATEMENT, DECLARED, OPERAND, NONE, NONE, ITEM, SOURCE], // 58 declaration
-    [
-        STATEMENT,
-        FUNCTION,
-        PARAMETER,
-        BODY_BLOCK,
-        NONE,
-        ITEM,
-        NEITHER,
-    ], // 59 definition of a function
-    [STATEMENT, OPTIONAL, NONE, NONE, NONE, ITEM, NEITHER], // 60 return
+    [STATEMENT, DECLARED, OPERAND, NONE, NONE, ITEM, BOTH], // 58 declaration
+    [STATEMENT, FUNCTION, PARAMETER, BODY_BLOCK, NONE, ITEM, BOTH], // 59 definition of a function
+    [STATEMENT, OPTIONAL, NONE, NONE, NONE, ITEM, BOTH], // 60 return
 ];
 
 // The table, for a pass to build once and lend on. Only here is the array held to the definition.

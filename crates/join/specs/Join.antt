@@ -1,12 +1,13 @@
 -- Join: two source programs as one, that runs the first and then the second. Its rows, and what it refuses.
-use mathlib.Core.Bool.{Bool, true, false, _&&_}
+use mathlib.Core.Bool.{Bool, true, false, not, _&&_, _||_}
 use mathlib.Core.List.{List, [], _∷_, _++_}
-use Prim.Native.Nat.{ℕ, _+_, _/_, _%_}
+use Prim.Native.Nat.{ℕ, zero, suc, _+_}
 use lib.Dec.{eqb, leb}
 use lib.IntN.{ℤ, pos}
-use lib.ListN.{length, set}
-use Rattle.words.specs.Word.{pick, sameWord}
-use Rattle.words.specs.Table.{rowCount, wordAt}
+use lib.ListN.{length}
+use Rattle.words.specs.Word.{pick, one, sameWord}
+use Rattle.words.specs.Table.{rowCount, wordAt, numberAt}
+use Rattle.words.specs.Kinds.{functionNumber, isLink, sortAt}
 use Rattle.words.specs.Layout.{rowLimit}
 use Rattle.words.specs.Links.{link}
 use Rattle.words.specs.Search.{lowestRow}
@@ -16,34 +17,114 @@ use Rattle.grammar.specs.Grammar.{tabulate}
 use Rattle.structure.specs.Links.{tooDeep}
 use Rattle.structure.specs.Refusal.{at, unless, _next_}
 use Rattle.declaration_causes.specs.Causes.{oneTooMany}
+use Rattle.function_causes.specs.Functions.{isDefinition, functionAround}
 use Rattle.source_check.specs.Refusal.{refusal}
+
+-- ---- the rows of definitions, and the others
+
+-- A definition's row, and all rows below it: those of its parameters, its block and everything in it.
+unfoldable pub ofDefinition : List ℤ → ℕ → Bool
+ofDefinition rows row = isDefinition rows row || not (eqb (functionAround rows row) 0)
+
+unfoldable pub isOther : List ℤ → ℕ → Bool
+isOther rows row = not (ofDefinition rows row)
+
+-- How many numbers below this one have the property.
+unfoldable pub before : (ℕ → Bool) → ℕ → ℕ
+before property zero = 0
+before property (suc number) = before property number + one (property number)
+
+abbrev pub definitionRows : List ℤ → ℕ
+definitionRows rows = before (ofDefinition rows) (rowCount rows)
+
+abbrev pub otherRows : List ℤ → ℕ
+otherRows rows = before (isOther rows) (rowCount rows)
+
+-- ---- the definitions at the front of row 0's list
+
+-- How many there are from this row on.
+unfoldable pub functionsFrom : ℕ → List ℤ → ℕ → ℕ
+functionsFrom zero rows row = 0
+functionsFrom (suc most) rows row = let rest = functionsFrom most rows (link rows row 5) in pick (isDefinition rows row) (1 + rest) 0
+
+-- The item behind them, from this row on; 0 where there is none.
+unfoldable pub itemFrom : ℕ → List ℤ → ℕ → ℕ
+itemFrom zero rows row = row
+itemFrom (suc most) rows row = let rest = itemFrom most rows (link rows row 5) in pick (isDefinition rows row) rest row
+
+-- Links lead to later rows, so as many as there are rows are enough.
+unfoldable pub functionsOf : List ℤ → ℕ
+functionsOf rows = functionsFrom (rowCount rows) rows (link rows 0 1)
+
+unfoldable pub firstItem : List ℤ → ℕ
+firstItem rows = itemFrom (rowCount rows) rows (link rows 0 1)
 
 -- ---- rows
 
--- A word of a row whose table begins so many rows later: a link leads as many rows further, "0 means absent"; kinds, values, variable and array
--- numbers stay as they were.
-unfoldable pub movedWord : ℕ → List ℤ → ℕ → ℕ → ℤ
-movedWord by rows row field = let to = link rows row field in pick (eqb to 0) (wordAt rows row field) (pos (by + to))
+-- Where a program stands in a join.
+pub record Placement : Type 0 where
+  -- the rows at which the rows of its definitions begin, and its others, of which row 0 is the first
+  pub definitions : ℕ
+  pub others : ℕ
+  -- how many functions come before its own
+  pub functions : ℕ
+  -- the item of the new block behind its definitions, and the one behind its own block; "0 means absent"
+  pub behind : ℕ
+  pub after : ℕ
 
--- The rows of a table that begins so many rows later.
-unfoldable pub movedRows : ℕ → List ℤ → List ℤ
-movedRows by rows = tabulate (λ word. movedWord by rows (word / 6) (word % 6)) 0 (length rows)
+-- The new number of a row: "each in old order".
+unfoldable pub placeOf : Placement → List ℤ → ℕ → ℕ
+placeOf placement rows row = pick (ofDefinition rows row) (placement .definitions + before (ofDefinition rows) row) (placement .others + before (isOther rows) row)
 
--- "The new outer block": a block whose first item is row 1.
-unfoldable pub outerBlock : List ℤ
-outerBlock = pos 42 ∷ pos 1 ∷ pos 0 ∷ pos 0 ∷ pos 0 ∷ pos 0 ∷ []
+-- From this item on the list of the new block: a definition, or what stands behind the program's definitions.
+unfoldable pub frontOf : Placement → List ℤ → ℕ → ℕ
+frontOf placement rows item = pick (isDefinition rows item) (placeOf placement rows item) (placement .behind)
 
--- Where the second's rows begin.
-abbrev pub secondBegins : List ℤ → ℕ
-secondBegins first = 1 + rowCount first
+-- The row that a field links in the join. Definitions are items of the new block, so that the old one begins behind them.
+unfoldable pub placedLink : Placement → List ℤ → ℕ → ℕ → ℕ
+placedLink placement rows row field =
+    let to = pick (eqb row 0 && eqb field 1) (firstItem rows) (link rows row field) in
+    pick (isDefinition rows row && eqb field 5) (frontOf placement rows (link rows row 5))
+    (pick (eqb row 0 && eqb field 5) (placement .after)
+    (pick (eqb to 0) 0 (placeOf placement rows to)))
 
--- The first's rows, its block followed by that of the second: word 5 is the next of row 0.
-unfoldable pub firstRows : List ℤ → List ℤ
-firstRows first = set (movedRows 1 first) 5 (pos (secondBegins first))
+-- A word of a row: links lead to the new rows, functions have numbers behind those before them; kinds, values, variable and array numbers stay as they
+-- were.
+unfoldable pub placedWord : Placement → List ℤ → ℕ → ℕ → ℤ
+placedWord placement rows row field =
+    pick (isLink (sortAt rows row field)) (pos (placedLink placement rows row field))
+    (pick (eqb (sortAt rows row field) functionNumber) (pos (placement .functions + numberAt rows row field)) (wordAt rows row field))
 
--- "The joined rows are the new block, the first's, the second's."
+-- The rows with the property among so many, "each in old order".
+unfoldable pub placedRows : Placement → (ℕ → Bool) → List ℤ → ℕ → List ℤ
+placedRows placement property rows zero = []
+placedRows placement property rows (suc row) = placedRows placement property rows row ++ pick (property row) (tabulate (placedWord placement rows row) 0 6) []
+
+-- The second's definitions stand behind the first's, and its other rows behind those of the first; its functions are "renumbered".
+unfoldable pub secondPlacement : List ℤ → List ℤ → Placement
+secondPlacement first second =
+    let others = 1 + definitionRows first + definitionRows second in
+    record { definitions = 1 + definitionRows first; others = others + otherRows first; functions = functionsOf first; behind = others; after = 0 }
+
+unfoldable pub firstPlacement : List ℤ → List ℤ → Placement
+firstPlacement first second =
+    let ofSecond = secondPlacement first second in
+    record { definitions = 1; others = ofSecond .behind; functions = 0; behind = frontOf ofSecond second (link second 0 1); after = ofSecond .others }
+
+-- "The new outer block": a block with this first item.
+unfoldable pub outerBlock : ℕ → List ℤ
+outerBlock item = pos 42 ∷ pos item ∷ pos 0 ∷ pos 0 ∷ pos 0 ∷ pos 0 ∷ []
+
+-- "A join's rows: the new block, both sets of definitions (the second's renumbered), the first's other rows, the second's, each in old order."
 unfoldable pub joinedRows : List ℤ → List ℤ → List ℤ
-joinedRows first second = outerBlock ++ (firstRows first ++ movedRows (secondBegins first) second)
+joinedRows first second =
+    let ofFirst = firstPlacement first second in
+    let ofSecond = secondPlacement first second in
+    outerBlock (frontOf ofFirst first (link first 0 1))
+    ++ (placedRows ofFirst (ofDefinition first) first (rowCount first)
+    ++ (placedRows ofSecond (ofDefinition second) second (rowCount second)
+    ++ (placedRows ofFirst (isOther first) first (rowCount first)
+    ++ placedRows ofSecond (isOther second) second (rowCount second))))
 
 -- ---- refusals
 

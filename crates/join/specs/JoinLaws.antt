@@ -11,8 +11,8 @@ use Rattle.words.specs.Laws.{both, sameWord-equal}
 use Rattle.words.specs.Table.{rowCount, wordAt, numberAt}
 use Rattle.words.specs.Layout.{rowLimit}
 use Rattle.words.specs.Kinds.{kinds, kindIn, kindOf, isLink, kindRow, expressionFields, statementFields, markFields, definitionFields, memberFields, sortIn, sortOf, sortAt}
-use Rattle.words.specs.Links.{link}
-use Rattle.words.specs.Search.{lowestRow}
+use Rattle.words.specs.Links.{link, target, linker, received, noteBy, note}
+use Rattle.words.specs.Search.{lowest, lowestRow}
 use Rattle.words.specs.declared.Form.the-variants.{Source}
 use Rattle.words.specs.declared.Found.the-variants.{At, Nothing}
 use Rattle.words.specs.declared.Verdict.the-variants.{Accepted, Refused}
@@ -23,7 +23,8 @@ use Rattle.declaration_causes.specs.Causes.{oneTooMany}
 use Rattle.source_check.specs.Refusal.{refusal}
 use Rattle.source_check.specs.Legal.{Legal}
 use Rattle.source_check.specs.AcceptsLegal.{accepts-legal}
-use Rattle.join.specs.Join.{movedWord, movedRows, outerBlock, firstRows, joinedRows, sameHeader, rowsRefusal, ownRefusal, joinRefusal}
+use Rattle.function_causes.specs.Functions.{isDefinition, aroundOf, functionAround}
+use Rattle.join.specs.Join.{ofDefinition, isOther, before, functionsFrom, itemFrom, functionsOf, firstItem, placeOf, frontOf, placedLink, placedWord, placedRows, firstPlacement, secondPlacement, outerBlock, joinedRows, sameHeader, rowsRefusal, ownRefusal, joinRefusal}
 use Rattle.join.specs.JoinedLegal.{joined-legal}
 
 -- ---- a join worked by hand: v0 = 7, and a switch on v0 whose case 7 breaks
@@ -58,8 +59,38 @@ by-hand : joinedRows assigns switches
     pos 2 ∷ pos 0 ∷ pos 0 ∷ pos 0 ∷ pos 0 ∷ pos 0 ∷
     pos 48 ∷ pos 7 ∷ pos 0 ∷ pos 0 ∷ pos 0 ∷ pos 10 ∷  -- 9 case 7, next 10
     pos 50 ∷ pos 0 ∷ pos 0 ∷ pos 0 ∷ pos 0 ∷ pos 0 ∷ [])
-unfolding assigns switches joinedRows firstRows movedRows movedWord outerBlock link sortAt sortOf sortIn kindOf kindIn kinds kindRow expressionFields statementFields markFields definitionFields memberFields isLink numberAt wordAt natural
+unfolding assigns switches joinedRows outerBlock firstPlacement secondPlacement placedRows placedWord placedLink frontOf placeOf firstItem functionsOf functionsFrom itemFrom before isOther ofDefinition isDefinition functionAround aroundOf note noteBy received linker lowest target link sortAt sortOf sortIn kindOf kindIn kinds kindRow expressionFields statementFields markFields definitionFields memberFields isLink numberAt wordAt natural
 by-hand = refl
+
+-- ---- functions worked by hand: a row and the rows behind it
+
+abbrev row : ℕ → ℕ → ℕ → ℕ → ℕ → ℕ → List ℤ → List ℤ
+row kind a b c d behind rest = pos kind ∷ pos a ∷ pos b ∷ pos c ∷ pos d ∷ pos behind ∷ rest
+
+-- f0(v0) { return v0; } f0(7); with the row of the call before those of the function
+calls : List ℤ
+calls =
+    row 42 1 0 0 0 0 ( -- 0 block
+    row 59 0 4 5 0 2 ( -- 1 function 0, next 2
+    row 41 3 0 0 0 0 ( -- 2 expression statement
+    row 31 0 8 0 0 0 ( -- 3 call of function 0
+    row 58 0 0 0 0 0 ( -- 4 parameter v0
+    row 42 6 0 0 0 0 ( -- 5 its block
+    row 60 7 0 0 0 0 ( -- 6 return
+    row 2 0 0 0 0 0 ( -- 7 v0
+    row 32 9 0 0 0 0 ( -- 8 argument
+    row 1 7 0 0 0 0 [])))))))))  -- 9 constant 7
+
+-- both functions come first, the second's with the next number, and then both blocks
+functions-by-hand : joinedRows calls calls
+    ≡ (row 42 1 0 0 0 0 ( -- 0 the new block
+    row 59 0 2 3 0 6 (row 58 0 0 0 0 0 (row 42 4 0 0 0 0 (row 60 5 0 0 0 0 (row 2 0 0 0 0 0 ( -- 1 the first's function, next 6
+    row 59 1 7 8 0 11 (row 58 0 0 0 0 0 (row 42 9 0 0 0 0 (row 60 10 0 0 0 0 (row 2 0 0 0 0 0 ( -- 6 the second's, next 11
+    row 42 12 0 0 0 16 (row 41 13 0 0 0 0 (row 31 0 14 0 0 0 (row 32 15 0 0 0 0 (row 1 7 0 0 0 0 ( -- 11 the first's block, next 16
+    row 42 17 0 0 0 0 (row 41 18 0 0 0 0 (row 31 1 19 0 0 0 (row 32 20 0 0 0 0 (row 1 7 0 0 0 0 []  -- 16 the second's
+    )))))))))))))))))))))
+unfolding calls joinedRows outerBlock firstPlacement secondPlacement placedRows placedWord placedLink frontOf placeOf firstItem functionsOf functionsFrom itemFrom before isOther ofDefinition isDefinition functionAround aroundOf note noteBy received linker lowest target link sortAt sortOf sortIn kindOf kindIn kinds kindRow expressionFields statementFields markFields definitionFields memberFields isLink numberAt wordAt natural
+functions-by-hand = refl
 
 -- ---- refusals
 

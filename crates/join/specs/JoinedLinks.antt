@@ -1,32 +1,33 @@
--- Links of the joined rows: which word links which row. In its own part each row is linked once, in the other never; the two old rows 0 by the new block
--- and by the first's next.
+-- Links of the joined rows: which word links which row. Each row but row 0 is linked once, and the items of a list are those of before.
 use mathlib.Core.Path.{_≡_, refl, sym, _∙_, ap, subst}
-use mathlib.Core.Bool.{Bool, true, false}
+use mathlib.Core.Bool.{true, false}
 use mathlib.Core.List.{List}
-use Prim.Native.Nat.{ℕ, zero, suc, _+_, _-_, _*_, _/_, _%_, _≤_, _<_}
+use Prim.Native.Nat.{ℕ, zero, suc, _+_, _*_, _/_, _%_, _≤_, _<_}
 use native.Mathlib.Omega.{arith}
 use native.Mathlib.Decide.{ℕ-discrete}
 use lib.Arith.{lt-of-le-ne}
-use lib.Dec.{ltb}
-use lib.IntN.{ℤ, pos}
-use lib.ListN.{getD}
-use borrow.Author.Tests.{ltb-true, ltb-false}
-use Rattle.words.specs.Word.{natural}
-use Rattle.words.specs.Table.{rowCount, Whole, numberAt}
-use Rattle.words.specs.Kinds.{kinds, kindIn, kindOf, optionalItem, isLink, kindRow, expressionFields, statementFields, markFields, definitionFields, memberFields, sortIn, sortOf, sortAt}
-use Rattle.words.specs.Links.{link, target, linker}
-use Rattle.words.specs.declared.Found.the-variants.{At}
+use lib.IntN.{ℤ}
+use borrow.Author.Tests.{ne-eqb}
+use Rattle.words.specs.Laws.{by-cases}
+use Rattle.words.specs.Table.{rowCount}
+use Rattle.words.specs.Links.{link, target}
 use Rattle.words.specs.declared.Form.{Form}
 use Rattle.grammar.specs.GrammarLaws.{kind-links-none, zero-links-none}
 use Rattle.structure.specs.Links.{linksAmong, linkCount}
-use Rattle.structure.specs.LinkLaws.{word-of, links-hit, links-miss, linker-of, Owner, owner-of}
-use Rattle.structure.specs.Structured.{Leads, Structured, Tree}
-use Rattle.structure.specs.StructuredLaws.{structured-tree}
+use Rattle.structure.specs.LinkLaws.{word-of, links-hit, links-miss, owner-of}
+use Rattle.structure.specs.Structured.{Leads, Structured}
 use Rattle.row_fields.specs.declared.Bounds.{Bounds}
-use Rattle.join.specs.Join.{outerBlock, secondBegins, joinedRows}
-use Rattle.join.specs.Moved.{Holds, link-is, number-held, link-leads}
-use Rattle.join.specs.MovedLegal.{Earlier, link-back}
-use Rattle.join.specs.JoinedRows.{count-joined, outer-number, first-holds, first-next, second-holds, second-next}
+use Rattle.function_causes.specs.Functions.{isDefinition}
+use Rattle.function_causes.specs.Demands.{InFront, foremost, behind}
+use Rattle.function_causes.specs.FrontLaws.{front-defines, front-inside}
+use Rattle.join.specs.Join.{firstItem, joinedRows}
+use Rattle.join.specs.Fronts.{atSeam, Seam, first-of-root, next-of-root, next-of-definition, seam-is, Front, empty, ending}
+use Rattle.join.specs.Kept.{InOrder, Ordered, definition-some, end-of-front, seam-links, first-inside}
+use Rattle.join.specs.Moved.{movedLink, Holds, Earlier, moved-some, moved-back, link-leads, link-back}
+use Rattle.join.specs.Placements.{place-apart, front-definition, front-behind}
+use Rattle.join.specs.JoinedRows.{ofFirst, ofSecond, firstPlace, secondPlace, first-stands, second-stands, programs-apart}
+use Rattle.join.specs.JoinedSeams.{ordered-first, ordered-second, whole-first, whole-second, count, holds-first, holds-second, every-row, outer-first, outer-rest, block-seam, no-seam, items-of-first, items-of-second, next-of-first, next-of-second, behind-first, behind-second}
+use Rattle.join.specs.Linkers.{frontWord, newLinker, linker-root, linker-item, linker-kept, linker-front, endWord, end-head, end-definition}
 
 -- ---- a row that one word links is linked once
 
@@ -46,221 +47,265 @@ links-one rows (suc words) word row b e only = go (ℕ-discrete words word) (λ 
         omega arith
     go (no q) earlier = links-miss rows words row (λ t. q (only words (omega arith) t)) ∙ earlier (lt-of-le-ne (omega arith) (λ (z : word ≡ words). q (sym z)))
 
--- in a tree of rows one word links a row
-one-word : (rows : List ℤ) → Tree rows → (row field other place : ℕ) → field < 6 → place < 6 → Leads rows row field → Leads rows other place → link rows row field ≡ link rows other place
-    → 6 * row + field ≡ 6 * other + place
-one-word rows t row field other place f g a b e =
-    let la = a .later in let ia = a .inside in let lb = b .later in let ib = b .inside in
-    found (sym (linker-of rows t row field f a (omega arith)) ∙ ap (linker rows) e ∙ linker-of rows t other place g b (omega arith))
-  where
-    found : {m n : ℕ} → At m ≡ At n → m ≡ n
-    found q = cc
-
-pub block-next : (rows : List ℤ) (row : ℕ) → numberAt rows row 0 ≡ 42 → sortAt rows row 5 ≡ optionalItem
-unfolding sortAt sortOf sortIn kindOf kindIn kinds kindRow expressionFields statementFields markFields definitionFields memberFields
-block-next rows row e = rw e
-
-pub block-first : (rows : List ℤ) (row : ℕ) → numberAt rows row 0 ≡ 42 → sortAt rows row 1 ≡ optionalItem
-unfolding sortAt sortOf sortIn kindOf kindIn kinds kindRow expressionFields statementFields markFields definitionFields memberFields
-block-first rows row e = rw e
-
-module _ {form : Form} {bounds : Bounds} (first second : List ℤ) (s : Structured form bounds first) (z : Structured form bounds second) where
+module _ {form : Form} {bounds : Bounds} (first second : List ℤ) (s : Structured form bounds first) (z : Structured form bounds second) (p : InOrder first) (q : InOrder second) where
   abbrev joined : List ℤ
   joined = joinedRows first second
 
-  abbrev begins : ℕ
-  begins = secondBegins first
+  abbrev ρ : ℕ → ℕ
+  ρ = firstPlace first second
 
-  tree-first : Tree first
-  tree-first = structured-tree form bounds first s
+  abbrev ρ' : ℕ → ℕ
+  ρ' = secondPlace first second
 
-  tree-second : Tree second
-  tree-second = structured-tree form bounds second z
+  o : Ordered first
+  o = ordered-first first second s z p q
 
-  whole-first : Whole first
-  whole-first = sym (tree-first .whole)
+  o' : Ordered second
+  o' = ordered-second first second s z p q
 
-  whole-second : Whole second
-  whole-second = sym (tree-second .whole)
+  h : Holds joined first ρ (λ f. ofFirst first second .functions + f)
+  h = holds-first first second s z p q
 
-  some-first : 0 < rowCount first
-  some-first = tree-first .some-rows
-
-  some-second : 0 < rowCount second
-  some-second = tree-second .some-rows
-
-  pub count : rowCount joined ≡ 1 + rowCount first + rowCount second
-  count = count-joined first second whole-first whole-second some-first
-
-  pub holds-first : Holds joined first (λ r. 1 + r)
-  holds-first = first-holds first second whole-first whole-second some-first
-
-  pub holds-second : Holds joined second (λ r. begins + r)
-  holds-second = second-holds first second whole-first whole-second some-first
-
-  -- ---- rows of the join
-
-  pub every-row : (P : ℕ → Type 0) → P 0 → ((r : ℕ) → r < rowCount first → P (1 + r)) → ((r : ℕ) → r < rowCount second → P (begins + r)) → (row : ℕ) → row < rowCount joined → P row
-  every-row P outer inFirst inSecond zero n = outer
-  every-row P outer inFirst inSecond (suc row) n = by (ltb row (rowCount first)) refl
-    where
-      by : (t : Bool) → ltb row (rowCount first) ≡ t → P (suc row)
-      by true e = let l = ltb-true row (rowCount first) e in subst P (let q : 1 + row ≡ suc row = omega arith in q) (inFirst row l)
-      by false e =
-          let l = ltb-false row (rowCount first) e in
-          let c = count in
-          subst P (let q : begins + (row - rowCount first) ≡ suc row = omega arith in q) (inSecond (row - rowCount first) (omega arith))
-
-  -- ---- the new block and the seam
-
-  pub outer-block : numberAt joined 0 0 ≡ 42
-  unfolding natural outerBlock
-  outer-block = outer-number first second whole-first whole-second some-first 0 (omega arith)
-
-  pub outer-first : link joined 0 1 ≡ 1
-  unfolding natural outerBlock isLink
-  outer-first = link-is joined 0 1 (rw (block-first joined 0 outer-block)) ∙ outer-number first second whole-first whole-second some-first 1 (omega arith)
-
-  pub outer-rest : (field : ℕ) → 2 ≤ field → field < 6 → numberAt joined 0 field ≡ 0
-  unfolding natural outerBlock
-  outer-rest field least most = outer-number first second whole-first whole-second some-first field most ∙ go field least most
-    where
-      go : (field : ℕ) → 2 ≤ field → field < 6 → natural (getD outerBlock field (pos 0)) ≡ 0
-      go zero least most = absurd (omega arith)
-      go (suc zero) least most = absurd (omega arith)
-      go (suc (suc zero)) least most = refl
-      go (suc (suc (suc zero))) least most = refl
-      go (suc (suc (suc (suc zero)))) least most = refl
-      go (suc (suc (suc (suc (suc zero))))) least most = refl
-      go (suc (suc (suc (suc (suc (suc field)))))) least most = absurd (omega arith)
-
-  pub block-of-first : numberAt joined 1 0 ≡ 42
-  block-of-first = number-held holds-first 0 some-first ∙ s .block
-
-  pub block-of-second : numberAt joined begins 0 ≡ 42
-  block-of-second = ap (λ (r : ℕ). numberAt joined r 0) (let e : begins ≡ begins + 0 = omega arith in e) ∙ number-held holds-second 0 some-second ∙ z .block
-
-  pub seam : link joined 1 5 ≡ begins
-  unfolding isLink
-  seam = link-is joined 1 5 (rw (block-next joined 1 block-of-first)) ∙ first-next first second whole-first whole-second some-first
-
-  pub no-seam : link joined (begins + 0) 5 ≡ 0
-  no-seam =
-      ap (λ (r : ℕ). link joined r 5) (let e : begins + 0 ≡ begins = omega arith in e)
-      ∙ zero-links-none joined begins 5 (second-next first second whole-first whole-second some-first some-second (z .lone))
+  h' : Holds joined second ρ' (λ f. ofSecond first second .functions + f)
+  h' = holds-second first second s z p q
 
   -- ---- which word links which row
 
-  data LinkOf (word place : ℕ) : Type 0 where
-    byOuter : word ≡ 1 → place ≡ 1 → LinkOf word place
-    bySeam : word ≡ 11 → place ≡ begins → LinkOf word place
-    byFirst : (row field : ℕ) → field < 6 → Leads first row field → word ≡ 6 * (1 + row) + field → place ≡ 1 + link first row field → LinkOf word place
-    bySecond : (row field : ℕ) → field < 6 → Leads second row field → word ≡ 6 * (begins + row) + field → place ≡ begins + link second row field → LinkOf word place
+  -- The words that link the rows 0: the end of the second's front, whose head is the end of the first's; and the next of the first's block.
+  rootWord : ℕ
+  rootWord = endWord o' ρ' (endWord o ρ 1 0 (end-of-front o)) 0 (end-of-front o')
 
-  -- All but the next of a row 0, or that.
-  pub own-or-root : (A : Type 0) (row field : ℕ) → field < 6 → (field < 5 + row → A) → (row ≡ 0 → field ≡ 5 → A) → A
-  own-or-root A (suc row) field f own root = own (omega arith)
-  own-or-root A zero field f own root = by (ℕ-discrete field 5)
-    where
-      by : Dec (field ≡ 5) → A
-      by (yes q) = root refl q
-      by (no q) = own (lt-of-le-ne (omega arith) q)
+  abbrev linkerOf : ℕ → ℕ
+  linkerOf = newLinker o ρ 1 rootWord
+
+  abbrev linkerOf' : ℕ → ℕ
+  linkerOf' = newLinker o' ρ' (endWord o ρ 1 0 (end-of-front o)) (6 * ρ 0 + 5)
+
+  data LinkOf (word place : ℕ) : Type 0 where
+    inFirst : (row : ℕ) → row < rowCount first → place ≡ ρ row → word ≡ linkerOf row → LinkOf word place
+    inSecond : (row : ℕ) → row < rowCount second → place ≡ ρ' row → word ≡ linkerOf' row → LinkOf word place
+
+  -- what the end of the first's front links
+  behind-linked : (word : ℕ) → word ≡ endWord o ρ 1 0 (end-of-front o) → LinkOf word (ofFirst first second .behind)
+  unfolding rootWord
+  behind-linked word e =
+      by-cases (isDefinition second (link second 0 1))
+      (λ d. let leads = o' .tree .forward 0 1 (o' .tree .some-rows) (omega arith) (definition-some o' (link second 0 1) d) in
+      inSecond (link second 0 1) (leads .inside) (behind-first first second s z p q ∙ front-definition (ofSecond first second) second (link second 0 1) d)
+      (e ∙ sym (linker-front o' ρ' (endWord o ρ 1 0 (end-of-front o)) (6 * ρ 0 + 5) 0 1 (omega arith) leads d)))
+      (λ d. inFirst 0 (o .tree .some-rows) (behind-first first second s z p q ∙ front-behind (ofSecond first second) second (link second 0 1) d ∙ behind-second first second s z p q)
+      (e ∙ end-head o' ρ' (endWord o ρ 1 0 (end-of-front o)) 0 (end-of-front o') d ∙ sym (linker-root o ρ 1 rootWord)))
+
+  front-word : (row : ℕ) → 0 < row → frontWord o ρ 1 rootWord row ≡ 6 * ρ row + 5
+  front-word row some = rw (ne-eqb row 0 (λ e. omega arith))
+
+  front-word' : (row : ℕ) → 0 < row → frontWord o' ρ' (endWord o ρ 1 0 (end-of-front o)) (6 * ρ 0 + 5) row ≡ 6 * ρ' row + 5
+  front-word' row some = rw (ne-eqb row 0 (λ e. omega arith))
+
+  outer-linked : LinkOf 1 (link joined 0 1)
+  outer-linked =
+      let to = outer-first first second s z p q in
+      by-cases (isDefinition first (link first 0 1))
+      (λ d. let leads = o .tree .forward 0 1 (o .tree .some-rows) (omega arith) (definition-some o (link first 0 1) d) in
+      inFirst (link first 0 1) (leads .inside) (to ∙ front-definition (ofFirst first second) first (link first 0 1) d) (sym (linker-front o ρ 1 rootWord 0 1 (omega arith) leads d)))
+      (λ d. subst (LinkOf 1) (sym (to ∙ front-behind (ofFirst first second) first (link first 0 1) d)) (behind-linked 1 (end-head o ρ 1 0 (end-of-front o) d)))
+
+  -- words at the seam of the first
+  item-linked : 0 < link joined (ρ 0) 1 → LinkOf (6 * ρ 0 + 1) (link joined (ρ 0) 1)
+  item-linked c =
+      let to = items-of-first first second s z p q in
+      let some = moved-back ρ (firstItem first) (rw to at c) in
+      inFirst (firstItem first) (first-inside o some) (to ∙ moved-some ρ (firstItem first) some) (sym (linker-item o ρ 1 rootWord some))
+
+  definition-linked : (row : ℕ) → row < rowCount first → isDefinition first row ≡ true → LinkOf (6 * ρ row + 5) (link joined (ρ row) 5)
+  definition-linked row n d =
+      let to = next-of-first first second s z p q row n d in
+      by-cases (isDefinition first (link first row 5))
+      (λ e. let leads = o .tree .forward row 5 n (omega arith) (definition-some o (link first row 5) e) in
+      inFirst (link first row 5) (leads .inside) (to ∙ front-definition (ofFirst first second) first (link first row 5) e)
+      (sym (linker-front o ρ 1 rootWord row 5 (omega arith) leads e ∙ front-word row (definition-some o row d))))
+      (λ e. subst (LinkOf (6 * ρ row + 5)) (sym (to ∙ front-behind (ofFirst first second) first (link first row 5) e)) (behind-linked (6 * ρ row + 5) (end-definition o ρ 1 0 (end-of-front o) row n d e)))
+
+  -- of the second
+  item-linked' : 0 < link joined (ρ' 0) 1 → LinkOf (6 * ρ' 0 + 1) (link joined (ρ' 0) 1)
+  item-linked' c =
+      let to = items-of-second first second s z p q in
+      let some = moved-back ρ' (firstItem second) (rw to at c) in
+      inSecond (firstItem second) (first-inside o' some) (to ∙ moved-some ρ' (firstItem second) some) (sym (linker-item o' ρ' (endWord o ρ 1 0 (end-of-front o)) (6 * ρ 0 + 5) some))
+
+  definition-linked' : (row : ℕ) → row < rowCount second → isDefinition second row ≡ true → LinkOf (6 * ρ' row + 5) (link joined (ρ' row) 5)
+  unfolding rootWord
+  definition-linked' row n d =
+      let to = next-of-second first second s z p q row n d in
+      by-cases (isDefinition second (link second row 5))
+      (λ e. let leads = o' .tree .forward row 5 n (omega arith) (definition-some o' (link second row 5) e) in
+      inSecond (link second row 5) (leads .inside) (to ∙ front-definition (ofSecond first second) second (link second row 5) e)
+      (sym (linker-front o' ρ' (endWord o ρ 1 0 (end-of-front o)) (6 * ρ 0 + 5) row 5 (omega arith) leads e ∙ front-word' row (definition-some o' row d))))
+      (λ e. inFirst 0 (o .tree .some-rows) (to ∙ front-behind (ofSecond first second) second (link second row 5) e ∙ behind-second first second s z p q)
+      (end-definition o' ρ' (endWord o ρ 1 0 (end-of-front o)) 0 (end-of-front o') row n d e ∙ sym (linker-root o ρ 1 rootWord)))
 
   links-are : (row : ℕ) → row < rowCount joined → (field : ℕ) → 1 ≤ field → field < 6 → 0 < link joined row field → LinkOf (6 * row + field) (link joined row field)
-  links-are = every-row (λ row. (field : ℕ) → 1 ≤ field → field < 6 → 0 < link joined row field → LinkOf (6 * row + field) (link joined row field)) outer inFirst inSecond
+  links-are = every-row first second s z p q (λ row. (field : ℕ) → 1 ≤ field → field < 6 → 0 < link joined row field → LinkOf (6 * row + field) (link joined row field)) outer ofTheFirst ofTheSecond
     where
       outer : (field : ℕ) → 1 ≤ field → field < 6 → 0 < link joined 0 field → LinkOf (6 * 0 + field) (link joined 0 field)
-      outer zero least most p = absurd (omega arith)
-      outer (suc zero) least most p = byOuter (omega arith) outer-first
-      outer (suc (suc field)) least most p = absurd (let none = zero-links-none joined 0 (suc (suc field)) (outer-rest (suc (suc field)) (omega arith) most) in omega arith)
+      outer zero least most some = absurd (omega arith)
+      outer (suc zero) least most some = outer-linked
+      outer (suc (suc field)) least most some = absurd (let none = zero-links-none joined 0 (suc (suc field)) (outer-rest first second s z p q (suc (suc field)) (omega arith) most) in omega arith)
 
-      inFirst : (r : ℕ) → r < rowCount first → (field : ℕ) → 1 ≤ field → field < 6 → 0 < link joined (1 + r) field → LinkOf (6 * (1 + r) + field) (link joined (1 + r) field)
-      inFirst r n field least most p = own-or-root _ r field most
-          (λ own. let leads = link-back s holds-first r field n least most own p in byFirst r field most leads refl (link-leads s holds-first r field most leads))
-          (λ q f. bySeam (rw (q, f)) (rw (q, f) seam))
+      at-seam : (r field : ℕ) → r < rowCount first → 0 < link joined (ρ r) field → Seam first r field → LinkOf (6 * ρ r + field) (link joined (ρ r) field)
+      at-seam r field n some (first-of-root a b) = let there : 0 < link joined (ρ 0) 1 = (rw (a, b) at some) in rw (a, b) (item-linked there)
+      at-seam r field n some (next-of-root a b) = rw (a, b) (inSecond 0 (o' .tree .some-rows) (block-seam first second s z p q) (sym (linker-root o' ρ' (endWord o ρ 1 0 (end-of-front o)) (6 * ρ 0 + 5))))
+      at-seam r field n some (next-of-definition d b) = rw b (definition-linked r n d)
 
-      inSecond : (r : ℕ) → r < rowCount second → (field : ℕ) → 1 ≤ field → field < 6 → 0 < link joined (begins + r) field → LinkOf (6 * (begins + r) + field) (link joined (begins + r) field)
-      inSecond r n field least most p = own-or-root _ r field most
-          (λ own. let leads = link-back z holds-second r field n least most own p in bySecond r field most leads refl (link-leads z holds-second r field most leads))
-          (λ q f. absurd (let p0 : 0 < link joined (begins + 0) 5 = (rw (q, f) at p) in let none = no-seam in omega arith))
+      at-seam' : (r field : ℕ) → r < rowCount second → 0 < link joined (ρ' r) field → Seam second r field → LinkOf (6 * ρ' r + field) (link joined (ρ' r) field)
+      at-seam' r field n some (first-of-root a b) = let there : 0 < link joined (ρ' 0) 1 = (rw (a, b) at some) in rw (a, b) (item-linked' there)
+      at-seam' r field n some (next-of-root a b) = absurd (let there : 0 < link joined (ρ' 0) 5 = (rw (a, b) at some) in let none = no-seam first second s z p q in omega arith)
+      at-seam' r field n some (next-of-definition d b) = rw b (definition-linked' r n d)
+
+      ofTheFirst : (r : ℕ) → r < rowCount first → (field : ℕ) → 1 ≤ field → field < 6 → 0 < link joined (ρ r) field → LinkOf (6 * ρ r + field) (link joined (ρ r) field)
+      ofTheFirst r n field least most some =
+          by-cases (atSeam first r field) (λ e. at-seam r field n some (seam-is first r field e))
+          (λ e. let leads = link-back s h r field n least most e some in
+          inFirst (link first r field) (leads .inside) (link-leads h r field most leads e) (sym (linker-kept o ρ 1 rootWord r field most leads e)))
+
+      ofTheSecond : (r : ℕ) → r < rowCount second → (field : ℕ) → 1 ≤ field → field < 6 → 0 < link joined (ρ' r) field → LinkOf (6 * ρ' r + field) (link joined (ρ' r) field)
+      ofTheSecond r n field least most some =
+          by-cases (atSeam second r field) (λ e. at-seam' r field n some (seam-is second r field e))
+          (λ e. let leads = link-back z h' r field n least most e some in
+          inSecond (link second r field) (leads .inside) (link-leads h' r field most leads e) (sym (linker-kept o' ρ' (endWord o ρ 1 0 (end-of-front o)) (6 * ρ 0 + 5) r field most leads e)))
 
   same-word : {word other place : ℕ} → LinkOf word place → LinkOf other place → word ≡ other
-  same-word (byOuter a b) (byOuter c d) = omega arith
-  same-word (byOuter a b) (bySeam c d) = absurd (let n = some-first in omega arith)
-  same-word (byOuter a b) (byFirst r f m leads c d) = absurd (let l = leads .later in omega arith)
-  same-word (byOuter a b) (bySecond r f m leads c d) = absurd (let l = leads .later in omega arith)
-  same-word (bySeam a b) (byOuter c d) = absurd (let n = some-first in omega arith)
-  same-word (bySeam a b) (bySeam c d) = omega arith
-  same-word (bySeam a b) (byFirst r f m leads c d) = absurd (let l = leads .inside in omega arith)
-  same-word (bySeam a b) (bySecond r f m leads c d) = absurd (let l = leads .later in omega arith)
-  same-word (byFirst q g k to a b) (byOuter c d) = absurd (let l = to .later in omega arith)
-  same-word (byFirst q g k to a b) (bySeam c d) = absurd (let l = to .inside in omega arith)
-  same-word (byFirst q g k to a b) (byFirst r f m leads c d) = let w = one-word first tree-first q g r f k m to leads (omega arith) in omega arith
-  same-word (byFirst q g k to a b) (bySecond r f m leads c d) = absurd (let l = leads .later in let i = to .inside in omega arith)
-  same-word (bySecond q g k to a b) (byOuter c d) = absurd (let l = to .later in omega arith)
-  same-word (bySecond q g k to a b) (bySeam c d) = absurd (let l = to .later in omega arith)
-  same-word (bySecond q g k to a b) (byFirst r f m leads c d) = absurd (let l = to .later in let i = leads .inside in omega arith)
-  same-word (bySecond q g k to a b) (bySecond r f m leads c d) = let w = one-word second tree-second q g r f k m to leads (omega arith) in omega arith
+  same-word (inFirst r n a b) (inFirst t m c d) =
+      let same = place-apart (ofFirst first second) first (first-stands first second (whole-first first second s z p q) (whole-second first second s z p q) .above) r t n m (sym a ∙ c) in b ∙ ap linkerOf same ∙ sym d
+  same-word (inFirst r n a b) (inSecond t m c d) = absurd (programs-apart first second (whole-first first second s z p q) (whole-second first second s z p q) r t n m (sym a ∙ c))
+  same-word (inSecond r n a b) (inFirst t m c d) = absurd (programs-apart first second (whole-first first second s z p q) (whole-second first second s z p q) t r m n (sym c ∙ a))
+  same-word (inSecond r n a b) (inSecond t m c d) =
+      let same = place-apart (ofSecond first second) second (second-stands first second (whole-first first second s z p q) (whole-second first second s z p q) .above) r t n m (sym a ∙ c) in b ∙ ap linkerOf' same ∙ sym d
 
   word-links : (word : ℕ) → word < 6 * rowCount joined → 0 < target joined word → LinkOf word (target joined word)
   unfolding target
-  word-links word b p = subst (λ (w : ℕ). LinkOf w (link joined (word / 6) (word % 6))) (let e : 6 * (word / 6) + word % 6 ≡ word = omega arith in e)
-      (links-are (word / 6) (omega arith) (word % 6) (some (word % 6) p) (omega arith) p)
+  word-links word b c = subst (λ (w : ℕ). LinkOf w (link joined (word / 6) (word % 6))) (let e : 6 * (word / 6) + word % 6 ≡ word = omega arith in e)
+      (links-are (word / 6) (omega arith) (word % 6) (some (word % 6) c) (omega arith) c)
     where
       some : (field : ℕ) → 0 < link joined (word / 6) field → 1 ≤ field
-      some zero p = absurd (let none = kind-links-none joined (word / 6) in omega arith)
-      some (suc field) p = omega arith
+      some zero c = absurd (let none = kind-links-none joined (word / 6) in omega arith)
+      some (suc field) c = omega arith
+
+  -- ---- every row but row 0 is linked
+
+  record Linked (place : ℕ) : Type 0 where
+    row : ℕ
+    field : ℕ
+    inside : row < rowCount joined
+    most : field < 6
+    is : link joined row field ≡ place
+
+  -- by the end of the first's front, and by that of the second's
+  behind-from : Linked (ofFirst first second .behind)
+  behind-from = go (end-of-front o)
+    where
+      go : Front first → Linked (ofFirst first second .behind)
+      go (empty d) =
+          let c = count first second s z p q in
+          record { row = 0; field = 1; inside = omega arith; most = omega arith; is = outer-first first second s z p q ∙ front-behind (ofFirst first second) first (link first 0 1) d }
+      go (ending {row} f last) =
+          let n = front-inside first f in
+          record { row = ρ row; field = 5; inside = h .inside row n; most = omega arith; is = next-of-first first second s z p q row n (front-defines first f) ∙ front-behind (ofFirst first second) first (link first row 5) last }
+
+  root-from : Linked (ρ 0)
+  root-from = go (end-of-front o')
+    where
+      go : Front second → Linked (ρ 0)
+      go (empty d) = subst Linked (behind-first first second s z p q ∙ front-behind (ofSecond first second) second (link second 0 1) d ∙ behind-second first second s z p q) behind-from
+      go (ending {row} f last) =
+          let n = front-inside second f in
+          record { row = ρ' row; field = 5; inside = h' .inside row n; most = omega arith; is = next-of-second first second s z p q row n (front-defines second f) ∙ front-behind (ofSecond first second) second (link second row 5) last ∙ behind-second first second s z p q }
+
+  front-from : {row place : ℕ} → InFront first row place → Linked (ρ row)
+  front-from (foremost leads d) =
+      let c = count first second s z p q in
+      record { row = 0; field = 1; inside = omega arith; most = omega arith; is = outer-first first second s z p q ∙ front-definition (ofFirst first second) first (link first 0 1) d }
+  front-from (behind {row} f leads d) =
+      let n = front-inside first f in
+      record { row = ρ row; field = 5; inside = h .inside row n; most = omega arith; is = next-of-first first second s z p q row n (front-defines first f) ∙ front-definition (ofFirst first second) first (link first row 5) d }
+
+  front-from' : {row place : ℕ} → InFront second row place → Linked (ρ' row)
+  front-from' (foremost leads d) = subst Linked (behind-first first second s z p q ∙ front-definition (ofSecond first second) second (link second 0 1) d) behind-from
+  front-from' (behind {row} f leads d) =
+      let n = front-inside second f in
+      record { row = ρ' row; field = 5; inside = h' .inside row n; most = omega arith; is = next-of-second first second s z p q row n (front-defines second f) ∙ front-definition (ofSecond first second) second (link second row 5) d }
+
+  first-from : (row : ℕ) → row < rowCount first → Linked (ρ row)
+  first-from zero n = root-from
+  first-from (suc row) n =
+      by-cases (isDefinition first (suc row)) (λ d. front-from (o .in-order n d))
+      (λ d. let w = owner-of first (o .tree) (suc row) (omega arith) n in let e = w .earlier in
+      by-cases (atSeam first (w .owner) (w .field))
+      (λ k. let item = sym (w .is) ∙ seam-links o (w .owner) (w .field) (w .leads) k (rw (w .is) d) in
+      record { row = ρ 0; field = 1; inside = h .inside 0 (o .tree .some-rows); most = omega arith; is = items-of-first first second s z p q ∙ ap (movedLink ρ) (sym item) })
+      (λ k. record { row = ρ (w .owner); field = w .field; inside = h .inside (w .owner) (omega arith); most = w .last; is = link-leads h (w .owner) (w .field) (w .last) (w .leads) k ∙ ap ρ (w .is) }))
+
+  second-from : (row : ℕ) → row < rowCount second → Linked (ρ' row)
+  second-from zero n = record { row = ρ 0; field = 5; inside = h .inside 0 (o .tree .some-rows); most = omega arith; is = block-seam first second s z p q }
+  second-from (suc row) n =
+      by-cases (isDefinition second (suc row)) (λ d. front-from' (o' .in-order n d))
+      (λ d. let w = owner-of second (o' .tree) (suc row) (omega arith) n in let e = w .earlier in
+      by-cases (atSeam second (w .owner) (w .field))
+      (λ k. let item = sym (w .is) ∙ seam-links o' (w .owner) (w .field) (w .leads) k (rw (w .is) d) in
+      record { row = ρ' 0; field = 1; inside = h' .inside 0 (o' .tree .some-rows); most = omega arith; is = items-of-second first second s z p q ∙ ap (movedLink ρ') (sym item) })
+      (λ k. record { row = ρ' (w .owner); field = w .field; inside = h' .inside (w .owner) (omega arith); most = w .last; is = link-leads h' (w .owner) (w .field) (w .last) (w .leads) k ∙ ap ρ' (w .is) }))
 
   -- a row that some word links is linked once
-  linked-once : (row field place : ℕ) → row < rowCount joined → field < 6 → link joined row field ≡ place → 0 < place → linkCount joined place ≡ 1
+  linked-once : (place : ℕ) → 0 < place → Linked place → linkCount joined place ≡ 1
   unfolding linkCount target
-  linked-once row field place n f e p =
-      let w = word-of row field f in
-      let is : target joined (6 * row + field) ≡ place = rw (w .0, w .1) e in
-      links-one joined (6 * rowCount joined) (6 * row + field) place (omega arith) is
-      (λ k b t. same-word (subst (LinkOf k) t (word-links k b (rw t p))) (subst (LinkOf (6 * row + field)) is (word-links (6 * row + field) (omega arith) (rw is p))))
+  linked-once place c l =
+      let row = l .row in
+      let field = l .field in
+      let n = l .inside in
+      let f = l .most in
+      let w = word-of (l .row) (l .field) (l .most) in
+      let is : target joined (6 * l .row + l .field) ≡ place = rw (w .0, w .1) (l .is) in
+      links-one joined (6 * rowCount joined) (6 * l .row + l .field) place (omega arith) is
+      (λ k b t. same-word (subst (LinkOf k) t (word-links k b (rw t c))) (subst (LinkOf (6 * l .row + l .field)) is (word-links (6 * l .row + l .field) (omega arith) (rw is c))))
 
   -- "every other row is linked exactly once"
   pub joined-once : (row : ℕ) → row < rowCount joined → 0 < row → linkCount joined row ≡ 1
-  joined-once = every-row (λ row. 0 < row → linkCount joined row ≡ 1) (λ p. absurd (omega arith)) inFirst inSecond
-    where
-      inFirst : (r : ℕ) → r < rowCount first → 0 < 1 + r → linkCount joined (1 + r) ≡ 1
-      inFirst zero n p = linked-once 0 1 1 (let c = count in omega arith) (omega arith) outer-first (omega arith)
-      inFirst (suc r) n p =
-          let o = owner-of first tree-first (suc r) (omega arith) n in
-          let up = o .earlier in
-          let c = count in
-          linked-once (1 + o .owner) (o .field) (1 + suc r) (omega arith) (o .last)
-          (link-leads s holds-first (o .owner) (o .field) (o .last) (o .leads) ∙ ap (λ (l : ℕ). 1 + l) (o .is)) p
+  joined-once =
+      every-row first second s z p q (λ row. 0 < row → linkCount joined row ≡ 1) (λ c. absurd (omega arith))
+      (λ r n c. linked-once (ρ r) c (first-from r n)) (λ r n c. linked-once (ρ' r) c (second-from r n))
 
-      inSecond : (r : ℕ) → r < rowCount second → 0 < begins + r → linkCount joined (begins + r) ≡ 1
-      inSecond zero n p = linked-once 1 5 (begins + 0) (let c = count in omega arith) (omega arith) (seam ∙ (let e : begins ≡ begins + 0 = omega arith in e)) p
-      inSecond (suc r) n p =
-          let o = owner-of second tree-second (suc r) (omega arith) n in
-          let up = o .earlier in
-          let c = count in
-          linked-once (begins + o .owner) (o .field) (begins + suc r) (omega arith) (o .last)
-          (link-leads z holds-second (o .owner) (o .field) (o .last) (o .leads) ∙ ap (λ (l : ℕ). begins + l) (o .is)) p
+  -- ---- the item before a row, in its own part
 
-  -- the item before a row, in its own part
-  pub back-first : (row item : ℕ) → 0 < row → row < rowCount first → Leads joined item 5 → link joined item 5 ≡ 1 + row → Earlier s holds-first row item
-  back-first row item p n leads e = let l = leads .later in let i = leads .inside in go (links-are item (omega arith) 5 (omega arith) (omega arith) (omega arith))
+  pub back-first : (row item : ℕ) → 0 < row → row < rowCount first → isDefinition first row ≡ false → Leads joined item 5 → link joined item 5 ≡ ρ row → Earlier first ρ row item
+  back-first row item some n d leads e = let l = leads .later in let i = leads .inside in go (links-are item (omega arith) 5 (omega arith) (omega arith) (omega arith))
     where
-      go : LinkOf (6 * item + 5) (link joined item 5) → Earlier s holds-first row item
-      go (byOuter a b) = absurd (omega arith)
-      go (bySeam a b) = absurd (omega arith)
-      go (byFirst r f m to a b) =
-          let five : f ≡ 5 = omega arith in
-          record { old = r; is = omega arith; leads = rw five at to; to = (let q : link first r f ≡ row = omega arith in rw five at q) }
-      go (bySecond r f m to a b) = absurd (let up = to .later in omega arith)
+      old : 6 * item + 5 ≡ linkerOf row → Earlier first ρ row item
+      old is =
+          let w = owner-of first (o .tree) row some n in
+          by-cases (atSeam first (w .owner) (w .field))
+          (λ k. let item = seam-links o (w .owner) (w .field) (w .leads) k (rw (w .is) d) in
+          absurd (let new = ap linkerOf (sym (w .is) ∙ item) ∙ linker-item o ρ 1 rootWord (rw (sym item, w .is) some) in omega arith))
+          (λ k. let f = w .last in let new = ap linkerOf (sym (w .is)) ∙ linker-kept o ρ 1 rootWord (w .owner) (w .field) (w .last) (w .leads) k in
+          let five : w .field ≡ 5 = omega arith in
+          record { old = w .owner; is = omega arith; leads = rw five at (w .leads); kept = rw five at k; to = rw five at (w .is) })
 
-  pub back-second : (row item : ℕ) → 0 < row → row < rowCount second → Leads joined item 5 → link joined item 5 ≡ begins + row → Earlier z holds-second row item
-  back-second row item p n leads e = let l = leads .later in let i = leads .inside in go (links-are item (omega arith) 5 (omega arith) (omega arith) (omega arith))
+      go : LinkOf (6 * item + 5) (link joined item 5) → Earlier first ρ row item
+      go (inFirst r m a b) = old (b ∙ ap linkerOf (sym (place-apart (ofFirst first second) first (first-stands first second (whole-first first second s z p q) (whole-second first second s z p q) .above) row r n m (sym e ∙ a))))
+      go (inSecond r m a b) = absurd (programs-apart first second (whole-first first second s z p q) (whole-second first second s z p q) row r n m (sym e ∙ a))
+
+  pub back-second : (row item : ℕ) → 0 < row → row < rowCount second → isDefinition second row ≡ false → Leads joined item 5 → link joined item 5 ≡ ρ' row → Earlier second ρ' row item
+  back-second row item some n d leads e = let l = leads .later in let i = leads .inside in go (links-are item (omega arith) 5 (omega arith) (omega arith) (omega arith))
     where
-      go : LinkOf (6 * item + 5) (link joined item 5) → Earlier z holds-second row item
-      go (byOuter a b) = absurd (omega arith)
-      go (bySeam a b) = absurd (omega arith)
-      go (byFirst r f m to a b) = absurd (let below = to .inside in omega arith)
-      go (bySecond r f m to a b) =
-          let five : f ≡ 5 = omega arith in
-          record { old = r; is = omega arith; leads = rw five at to; to = (let q : link second r f ≡ row = omega arith in rw five at q) }
+      old : 6 * item + 5 ≡ linkerOf' row → Earlier second ρ' row item
+      old is =
+          let w = owner-of second (o' .tree) row some n in
+          by-cases (atSeam second (w .owner) (w .field))
+          (λ k. let item = seam-links o' (w .owner) (w .field) (w .leads) k (rw (w .is) d) in
+          absurd (let new = ap linkerOf' (sym (w .is) ∙ item) ∙ linker-item o' ρ' (endWord o ρ 1 0 (end-of-front o)) (6 * ρ 0 + 5) (rw (sym item, w .is) some) in omega arith))
+          (λ k. let f = w .last in let new = ap linkerOf' (sym (w .is)) ∙ linker-kept o' ρ' (endWord o ρ 1 0 (end-of-front o)) (6 * ρ 0 + 5) (w .owner) (w .field) (w .last) (w .leads) k in
+          let five : w .field ≡ 5 = omega arith in
+          record { old = w .owner; is = omega arith; leads = rw five at (w .leads); kept = rw five at k; to = rw five at (w .is) })
+
+      go : LinkOf (6 * item + 5) (link joined item 5) → Earlier second ρ' row item
+      go (inFirst r m a b) = absurd (programs-apart first second (whole-first first second s z p q) (whole-second first second s z p q) r row m n (sym a ∙ e))
+      go (inSecond r m a b) = old (b ∙ ap linkerOf' (sym (place-apart (ofSecond first second) second (second-stands first second (whole-first first second s z p q) (whole-second first second s z p q) .above) row r n m (sym e ∙ a))))

@@ -1,23 +1,43 @@
--- The run of a join, at every budget: one step for the new block, the first, and then the second on the steps left.
+-- The run of a join, at every budget: one step for the new block, the first, and then the second on the steps left. The run passes over definitions.
 use mathlib.Core.Path.{_≡_, refl, sym, _∙_, ap}
-use mathlib.Core.Bool.{Bool, true, false}
 use mathlib.Core.List.{List}
-use Prim.Native.Nat.{ℕ, zero, suc, _+_, _-_, _≤_}
+use Prim.Native.Nat.{ℕ, suc, _+_, _-_, _≤_}
 use native.Mathlib.Omega.{arith}
 use lib.IntN.{ℤ}
-use Rattle.words.specs.Word.{pick}
-use Rattle.computation.specs.Run.{State, start, Stop, spent, fault, Result, ok, stopped, steps, run, final}
+use Rattle.computation.specs.Run.{start, spent, fault, Result, ok, stopped, steps, run, final}
 use Rattle.computation.specs.RunLaws.{count-never-passes}
 use Rattle.computation.specs.Remaining.{Rest, gives, halts, onward, spend, told, spend-is-run}
 use Rattle.words.specs.declared.Ending.the-variants.{Plain, Spent, Fault}
-use Rattle.language.specs.Trees.{Statement, block, Items, none, _then_}
-use Rattle.language.specs.Meaning.{Context, Signal, next, perform, items, exec}
+use Rattle.language.specs.Trees.{Statement, block, Items, none, _then_, _here_, define}
+use Rattle.language.specs.Meaning.{enter, Context, Signal, next, perform, items, exec}
 use Rattle.language.specs.Program.{Finished, finished}
 use Rattle.accepted.specs.Gives.{Gives}
 use Rattle.join.specs.Followed.{raised, followed}
+use Rattle.join.specs.JoinedTrees.{frontThen, behindFront, joinedItems}
+
+-- ---- definitions are passed over
+
+module _ (C : Context) where
+  front-passed : (is others : Items) (signal : Signal) → items C (frontThen is others) signal ≡ items C others signal
+  unfolding items frontThen
+  front-passed none others signal = refl
+  front-passed (s then is) others signal = refl
+  front-passed (m here is) others signal = refl
+  front-passed (define f words body is) others signal = front-passed is others signal
+
+  behind-passed : (is : Items) (signal : Signal) → items C (behindFront is) signal ≡ items C is signal
+  unfolding items behindFront
+  behind-passed none signal = refl
+  behind-passed (s then is) signal = refl
+  behind-passed (m here is) signal = refl
+  behind-passed (define f words body is) signal = behind-passed is signal
+
+  block-passed : (is : Items) → exec C (block (behindFront is)) ≡ exec C (block is)
+  unfolding perform
+  block-passed is = ap enter (behind-passed is next)
 
 -- Both programs as items of a new block.
-abbrev pub joinedTree : Statement → Statement → Statement
+abbrev joinedTree : Statement → Statement → Statement
 joinedTree first second = block (first then second then none)
 
 onward-same : {A B : Type 0} (r : Rest A) (f g : A → ℕ → List ℤ → Rest B) → ((a : A) (n : ℕ) (t : List ℤ) → r ≡ gives a n t → f a n t ≡ g a n t) → onward r f ≡ onward r g
@@ -67,7 +87,7 @@ module _ (C : Context) (first second : Statement) where
     after (stopped (fault sort) σ) most = told-after {A = Signal} (suc b) 1 b (stopped (fault sort) σ) most (omega arith)
 
     -- The join with budget b + 1, from the first with budget b.
-    pub tree-run : finished (runOf (joinedTree first second) (suc b) s) ≡ followed (λ n t. finished (runOf second n t)) b (finished (runOf first b s))
+    tree-run : finished (runOf (joinedTree first second) (suc b) s) ≡ followed (λ n t. finished (runOf second n t)) b (finished (runOf first b s))
     tree-run =
         let few = count-never-passes (suc b) (exec C (joinedTree first second)) (start s) (omega arith) in
         let most = count-never-passes b (exec C first) (start s) (omega arith) in
@@ -79,3 +99,19 @@ module _ (C : Context) (first second : Statement) where
       where
         unraised : (r : Result Signal) → raised 0 (finished r) ≡ finished r
         unraised r = let q : 0 + (final r) .count ≡ (final r) .count = omega arith in ap (λ (n : ℕ). record { ending = (finished r) .ending; count = n; store = (finished r) .store }) q
+
+-- ---- both programs by their items
+
+module _ (C : Context) (first second : Items) where
+  joined-passed : exec C (block (joinedItems first second)) ≡ exec C (joinedTree (block (behindFront first)) (block (behindFront second)))
+  unfolding perform joinedItems
+  joined-passed = ap enter (front-passed C first _ next ∙ front-passed C second _ next)
+
+  pub items-run : (b : ℕ) (store : List ℤ) → Gives (λ signal. signal ≡ next) (run (steps b) (exec C (block first)) (start store))
+      → finished (run (steps (suc b)) (exec C (block (joinedItems first second))) (start store))
+      ≡ followed (λ n t. finished (run (steps n) (exec C (block second)) (start t))) b (finished (run (steps b) (exec C (block first)) (start store)))
+  items-run b store plain =
+      ap (λ m. finished (run (steps (suc b)) m (start store))) joined-passed
+      ∙ tree-run C (block (behindFront first)) (block (behindFront second)) b store (rw (block-passed C first) plain)
+      ∙ ap (λ m. followed (λ n t. finished (run (steps n) m (start t))) b (finished (run (steps b) (exec C (block (behindFront first))) (start store)))) (block-passed C second)
+      ∙ ap (λ m. followed (λ n t. finished (run (steps n) (exec C (block second)) (start t))) b (finished (run (steps b) m (start store)))) (block-passed C first)

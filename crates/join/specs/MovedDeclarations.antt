@@ -1,9 +1,9 @@
 -- Declarations of moved rows: what legality asks of a declaration's number holds at its new place. Its initial expression is the old one, row
 -- by row, and the items before it in its list are the old ones.
 use mathlib.Core.Path.{_≡_, refl, sym, _∙_, ap, subst}
-use mathlib.Core.Bool.{true, true≢false}
+use mathlib.Core.Bool.{true, false, true≢false}
 use mathlib.Core.List.{List}
-use Prim.Native.Nat.{ℕ, zero, suc, _+_, _≤_, _<_}
+use Prim.Native.Nat.{ℕ, zero, suc, _≤_, _<_}
 use native.Mathlib.Omega.{arith}
 use lib.IntN.{ℤ}
 use borrow.Author.Tests.{eqb-true}
@@ -20,8 +20,11 @@ use Rattle.names.specs.Names.{isName}
 use Rattle.words.specs.Declarations.{declarationKind, isDeclaration}
 use Rattle.declaration_causes.specs.Demands.{InInitial, whole, below, NotOwn, NotTwice}
 use Rattle.declaration_causes.specs.DeclarationLaws.{block-undeclared}
-use Rattle.join.specs.Moved.{Holds, number-held, link-leads}
-use Rattle.join.specs.MovedLegal.{link-back, Earlier, before-back}
+use Rattle.function_causes.specs.Functions.{isDefinition}
+use Rattle.join.specs.Fronts.{atSeam, kept-part, kept-row}
+use Rattle.join.specs.Kept.{InOrder, Ordered, ordered, kept-undefined}
+use Rattle.join.specs.Moved.{Holds, Earlier, number-held, declaration-held, link-leads, link-back}
+use Rattle.join.specs.MovedLegal.{before-back}
 
 -- no row is linked by its kind
 leads-part : (rows : List ℤ) (row field : ℕ) → Leads rows row field → 1 ≤ field
@@ -29,71 +32,89 @@ unfolding link sortAt
 leads-part rows row zero leads = absurd (let later : row < 0 = (rw (kind-no-link (numberAt rows row 0)) at (leads .later)) in omega arith)
 leads-part rows row (suc field) leads = omega arith
 
-module _ {form : Form} {bounds : Bounds} {joined rows : List ℤ} {ρ : ℕ → ℕ} (s : Structured form bounds rows) (h : Holds joined rows ρ) where
-  pub declaration-held : (row : ℕ) → row < rowCount rows → isDeclaration joined (ρ row) ≡ isDeclaration rows row
-  unfolding isDeclaration
-  declaration-held row n = rw (number-held h row n)
+module _ {form : Form} {bounds : Bounds} {joined rows : List ℤ} {ρ φ : ℕ → ℕ} (s : Structured form bounds rows) (i : InOrder rows) (h : Holds joined rows ρ φ) where
+  o : Ordered rows
+  o = ordered s i
 
   pub name-held : (row : ℕ) → row < rowCount rows → isName joined (ρ row) ≡ isName rows row
   unfolding isName
   name-held row n = rw (number-held h row n)
 
-  -- the number that a declaration or a name has is no link, and stays
-  pub declared-number : (row : ℕ) → row < rowCount rows → isDeclaration rows row ≡ true → numberAt joined (ρ row) 1 ≡ numberAt rows row 1
-  unfolding isDeclaration numberAt sortAt sortOf sortIn kindOf kindIn kinds kindRow expressionFields statementFields markFields definitionFields memberFields isLink
-  declared-number row n d = ap natural (h .stays row 1 n (omega arith) (omega arith) (rw (eqb-true (numberAt rows row 0) declarationKind d)))
-
-  pub named-number : (row : ℕ) → row < rowCount rows → isName rows row ≡ true → numberAt joined (ρ row) 1 ≡ numberAt rows row 1
-  unfolding isName numberAt sortAt sortOf sortIn kindOf kindIn kinds kindRow expressionFields statementFields markFields definitionFields memberFields isLink
-  named-number row n d = ap natural (h .stays row 1 n (omega arith) (omega arith) (rw (eqb-true (numberAt rows row 0) 2 d)))
-
-  -- a declaration is not row 0, which is a block
+  -- a declaration or a name is neither row 0, which is a block, nor a definition
   pub not-root : (row : ℕ) → isDeclaration rows row ≡ true → 0 < row
   not-root zero d = absurd (true≢false (sym d ∙ block-undeclared rows 0 (s .block)))
   not-root (suc row) d = omega arith
 
+  pub declaration-undefined : (row : ℕ) → isDeclaration rows row ≡ true → isDefinition rows row ≡ false
+  unfolding isDeclaration isDefinition
+  declaration-undefined row d = rw (eqb-true (numberAt rows row 0) declarationKind d)
+
+  name-not-root : (row : ℕ) → isName rows row ≡ true → 0 < row
+  unfolding isName
+  name-not-root zero d = absurd (let two = eqb-true (numberAt rows 0 0) 2 d in let block = s .block in omega arith)
+  name-not-root (suc row) d = omega arith
+
+  -- the number that they have is no link and no function's, and stays
+  pub declared-number : (row : ℕ) → row < rowCount rows → isDeclaration rows row ≡ true → numberAt joined (ρ row) 1 ≡ numberAt rows row 1
+  unfolding isDeclaration numberAt sortAt sortOf sortIn kindOf kindIn kinds kindRow expressionFields statementFields markFields definitionFields memberFields isLink
+  declared-number row n d =
+      ap natural (h .stays row 1 n (omega arith) (kept-part rows row 1 (not-root row d) (omega arith)) (rw (eqb-true (numberAt rows row 0) declarationKind d)) (rw (eqb-true (numberAt rows row 0) declarationKind d)))
+
+  pub named-number : (row : ℕ) → row < rowCount rows → isName rows row ≡ true → numberAt joined (ρ row) 1 ≡ numberAt rows row 1
+  unfolding isName numberAt sortAt sortOf sortIn kindOf kindIn kinds kindRow expressionFields statementFields markFields definitionFields memberFields isLink
+  named-number row n d = ap natural (h .stays row 1 n (omega arith) (kept-part rows row 1 (name-not-root row d) (omega arith)) (rw (eqb-true (numberAt rows row 0) 2 d)) (rw (eqb-true (numberAt rows row 0) 2 d)))
+
+  -- ---- rows below a declaration or a definition
+
+  -- Such a row, at its old place, with what is known of it there.
+  pub record OldRow (P : ℕ → Type 0) (row : ℕ) : Type 0 where
+    pub old : ℕ
+    pub is : row ≡ ρ old
+    pub has : P old
+    pub later : 0 < old
+    pub inside : old < rowCount rows
+    pub other : isDefinition rows old ≡ false
+
+  -- what a kept link of the other table leads to
+  old-link : (P : ℕ → Type 0) (row field : ℕ) → row < rowCount rows → 1 ≤ field → field < 6 → atSeam rows row field ≡ false → Leads joined (ρ row) field → (Leads rows row field → P (link rows row field)) → OldRow P (link joined (ρ row) field)
+  old-link P row field n least f k there has =
+      let leads = link-back s h row field n least f k (let l = there .later in omega arith) in
+      record { old = link rows row field; is = link-leads h row field f leads k; has = has leads; later = (let l = leads .later in omega arith); inside = leads .inside; other = kept-undefined o row field f leads k }
+
+  pub old-part : (P : ℕ → Type 0) (row field : ℕ) → 0 < row → row < rowCount rows → 1 ≤ field → field < 5 → Leads joined (ρ row) field → (Leads rows row field → P (link rows row field)) → OldRow P (link joined (ρ row) field)
+  old-part P row field some n least f there has = old-link P row field n least (omega arith) (kept-part rows row field some f) there has
+
+  -- from such a row on
+  pub old-along : {P : ℕ → Type 0} (Q : ℕ → Type 0) {here : ℕ} (w : OldRow P here) (field : ℕ) → field < 6 → Leads joined here field → (Leads rows (w .old) field → Q (link rows (w .old) field)) → OldRow Q (link joined here field)
+  old-along Q {here} w field f leads has =
+      subst (λ (x : ℕ). OldRow Q (link joined x field)) (sym (w .is))
+      (old-link Q (w .old) field (w .inside) (leads-part joined here field leads) f (kept-row rows (w .old) field (w .later) (w .other)) (subst (λ (x : ℕ). Leads joined x field) (w .is) leads) has)
+
   -- ---- cause 18
 
-  -- A row of the initial expression, at its old place.
-  record OldInitial (row name : ℕ) : Type 0 where
-    old : ℕ
-    is : name ≡ ρ old
-    initial : InInitial rows row old
-    later : 0 < old
-    inside : old < rowCount rows
-
-  initial-by : (row old field : ℕ) → field < 6 → (leads : Leads rows old field) → InInitial rows row (link rows old field) → OldInitial row (link joined (ρ old) field)
-  initial-by row old field f leads i =
-      record { old = link rows old field; is = link-leads s h old field f leads; initial = i; later = (let l = leads .later in omega arith); inside = leads .inside }
-
-  initial-back : (row : ℕ) → row < rowCount rows → {name : ℕ} → InInitial joined (ρ row) name → OldInitial row name
-  initial-back row n (whole leads) =
-      let l = link-back s h row 2 n (omega arith) (omega arith) (omega arith) (let later = leads .later in omega arith) in
-      initial-by row row 2 (omega arith) l (whole l)
-  initial-back row n (below {row = here} {field = field} f leads i) =
-      let o = initial-back row n i in
-      let some = o .later in
-      let there : Leads joined (ρ (o .old)) field = subst (λ (x : ℕ). Leads joined x field) (o .is) leads in
-      let l = link-back s h (o .old) field (o .inside) (leads-part joined here field leads) f (omega arith) (let later = there .later in omega arith) in
-      subst (λ (x : ℕ). OldInitial row (link joined x field)) (sym (o .is)) (initial-by row (o .old) field f l (below f l (o .initial)))
+  initial-back : (row : ℕ) → row < rowCount rows → 0 < row → {name : ℕ} → InInitial joined (ρ row) name → OldRow (InInitial rows row) name
+  initial-back row n some (whole leads) = old-part (InInitial rows row) row 2 some n (omega arith) (omega arith) leads (λ l. whole l)
+  initial-back row n some (below {row = here} {field = field} f leads initial) =
+      let w = initial-back row n some initial in
+      old-along (InInitial rows row) w field f leads (λ l. below f l (w .has))
 
   pub not-own-held : (row : ℕ) → row < rowCount rows → NotOwn rows row → NotOwn joined (ρ row)
-  not-own-held row n own d name i k same =
-      let o = initial-back row n i in
-      let declared : isDeclaration rows row ≡ true = sym (declaration-held row n) ∙ d in
-      let names : isName rows (o .old) ≡ true = sym (name-held (o .old) (o .inside)) ∙ sym (ap (isName joined) (o .is)) ∙ k in
-      own declared (o .old) (o .initial) names
-      (sym (named-number (o .old) (o .inside) names) ∙ sym (ap (λ (x : ℕ). numberAt joined x 1) (o .is)) ∙ same ∙ declared-number row n declared)
+  not-own-held row n own d name initial k same =
+      let declared : isDeclaration rows row ≡ true = sym (declaration-held h row n) ∙ d in
+      let w = initial-back row n (not-root row declared) initial in
+      let names : isName rows (w .old) ≡ true = sym (name-held (w .old) (w .inside)) ∙ sym (ap (isName joined) (w .is)) ∙ k in
+      own declared (w .old) (w .has) names
+      (sym (named-number (w .old) (w .inside) names) ∙ sym (ap (λ (x : ℕ). numberAt joined x 1) (w .is)) ∙ same ∙ declared-number row n declared)
 
   -- ---- cause 19
 
-  module _ (back : (row item : ℕ) → 0 < row → row < rowCount rows → Leads joined item 5 → link joined item 5 ≡ ρ row → Earlier s h row item) where
+  module _ (back : (row item : ℕ) → 0 < row → row < rowCount rows → isDefinition rows row ≡ false → Leads joined item 5 → link joined item 5 ≡ ρ row → Earlier rows ρ row item) where
     pub not-twice-held : (row : ℕ) → row < rowCount rows → NotTwice rows row → NotTwice joined (ρ row)
     not-twice-held row n once d earlier before k same =
-        let declared : isDeclaration rows row ≡ true = sym (declaration-held row n) ∙ d in
-        let m = before-back s h back before row (not-root row declared) n refl in
+        let declared : isDeclaration rows row ≡ true = sym (declaration-held h row n) ∙ d in
+        let m = before-back s i h back before row (not-root row declared) n (declaration-undefined row declared) refl in
         let up = before-later (m .before) in
         let inside : m .old < rowCount rows = omega arith in
-        let also : isDeclaration rows (m .old) ≡ true = sym (declaration-held (m .old) inside) ∙ sym (ap (isDeclaration joined) (m .is)) ∙ k in
+        let also : isDeclaration rows (m .old) ≡ true = sym (declaration-held h (m .old) inside) ∙ sym (ap (isDeclaration joined) (m .is)) ∙ k in
         once declared (m .old) (m .before) also
         (sym (declared-number (m .old) inside also) ∙ sym (ap (λ (x : ℕ). numberAt joined x 1) (m .is)) ∙ same ∙ declared-number row n declared)

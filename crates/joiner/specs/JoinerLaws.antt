@@ -1,19 +1,19 @@
 -- Laws of what the code writes and tests: equal headers, rows written word by word, the order of causes, what the checks leave to the join.
 use mathlib.Core.Path.{_≡_, refl, sym, _∙_, ap, subst}
 use mathlib.Core.Bool.{true, false}
-use mathlib.Core.List.{List, [], _∷_, _++_, append-assoc}
-use Prim.Native.Nat.{ℕ, zero, suc, _+_, _/_, _%_, _≤_, _<_}
+use mathlib.Core.List.{List}
+use Prim.Native.Nat.{ℕ, zero, suc, _+_, _≤_, _<_}
 use native.Mathlib.Omega.{arith}
 use native.Mathlib.Numerals.{add-one}
 use lib.Dec.{leb}
 use lib.IntN.{ℤ, pos}
-use lib.ListN.{length, getD, take, drop, set, length-set, length-append, length-drop, drop-of-length-le}
-use lib.Seq.{drop-cons, take-all, set-append-left}
-use borrow.Author.Tests.{le-leb, lt-leb, ne-eqb}
+use lib.ListN.{length, getD, take, drop, length-append, drop-of-length-le}
+use lib.Seq.{drop-cons, take-all}
+use borrow.Author.Tests.{le-leb, lt-leb}
 use Rattle.words.specs.Word.{sameWord}
 use Rattle.words.specs.Laws.{by-cases, countFits-facts}
 use Rattle.words.specs.Over.{over}
-use Rattle.words.specs.OverLaws.{length-over, take-over, part, back-in, part-is, over-set, over-next}
+use Rattle.words.specs.OverLaws.{length-over, take-over}
 use Rattle.words.specs.Table.{rowCount}
 use Rattle.words.specs.Links.{link}
 use Rattle.words.specs.declared.Form.the-variants.{Source}
@@ -21,20 +21,25 @@ use Rattle.words.specs.declared.Refusal.{Refusal}
 use Rattle.words.specs.declared.Verdict.{Verdict}
 use Rattle.words.specs.declared.Verdict.the-variants.{Accepted, Refused}
 use Rattle.row_fields.specs.Fields.{boundsOf}
-use Rattle.grammar.specs.Grammar.{tabulate}
 use Rattle.structure.specs.Refusal.{unless, _next_}
 use Rattle.structure.specs.RefusalLaws.{next-accepts}
 use Rattle.row_fields.specs.declared.Bounds.{Bounds}
-use Rattle.structure.specs.Structured.{Structured, Tree}
+use Rattle.structure.specs.Structured.{Structured}
 use Rattle.structure.specs.StructuredLaws.{structured-tree}
 use Rattle.source_check.specs.Refusal.{refusal}
 use Rattle.source_check.specs.AcceptsLegal.{accepts-legal}
-use Rattle.join.specs.Join.{movedWord, movedRows, outerBlock, firstRows, joinedRows, secondBegins, sameHeader, rowsRefusal, ownRefusal, joinRefusal}
+use Rattle.source_check.specs.Legal.{Legal}
+use Rattle.function_causes.specs.Functions.{isDefinition}
+use Rattle.function_causes.specs.Demands.{WellCalled}
+use Rattle.function_causes.specs.FrontLaws.{block-undefined}
+use Rattle.join.specs.Join.{functionsFrom, functionsOf, joinedRows, sameHeader, rowsRefusal, ownRefusal, joinRefusal}
 use Rattle.join.specs.JoinLaws.{same-header}
 use Rattle.joined_names.specs.JoinedFateLaws.{accepted-joins}
-use Rattle.join.specs.JoinedLegal.{joined-structured}
-use Rattle.join.specs.JoinedRows.{length-tabulate, length-moved, length-first, length-joined, count-joined}
-use Rattle.joiner.specs.Joinable.{Parts, Joinable}
+use Rattle.joined_names.specs.JoinedNames.{function-below}
+use Rattle.join.specs.JoinedRows.{length-joined, count-joined}
+use Rattle.join.specs.JoinedStructured.{joined-structured}
+use Rattle.joined_rows.specs.Parts.{FunctionNumbers, Parts}
+use Rattle.joiner.specs.Joinable.{Joinable}
 use Rattle.joiner.specs.Joining.{JoinResult, answerAndRows, joinAfter, joinResult, WritesJoin}
 use Rattle.joiner.specs.declared.JoinAnswer.{JoinAnswer}
 use Rattle.joiner.specs.declared.JoinAnswer.the-variants.{Joined, Refused as JoinRefused}
@@ -60,98 +65,41 @@ module _ (header other : List ℤ) where
 
 -- ---- rows
 
--- a link leads further
-pub moved-further : (by : ℕ) (rows : List ℤ) (row field to : ℕ) → to ≡ link rows row field → (to ≡ 0 → ⊥) → movedWord by rows row field ≡ pos (by + to)
-unfolding movedWord
-moved-further by rows row field to e d = rw (← e, ne-eqb to 0 d)
-
--- it leads into the table
-pub link-most : (rows : List ℤ) (row field to : ℕ) → Tree rows → row < rowCount rows → field < 6 → to ≡ link rows row field → to ≤ 40980
-link-most rows row field to tree n f e = go to e
-  where
-    go : (to : ℕ) → to ≡ link rows row field → to ≤ 40980
-    go zero e = omega arith
-    go (suc to) e = omega (arith, e, tree .forward row field n f (omega (arith, e)) .inside, tree .few)
-
--- one entry more
-tabulate-next : {A : Type 0} (entry : ℕ → A) (from count : ℕ) → tabulate entry from (suc count) ≡ tabulate entry from count ++ (entry (from + count) ∷ [])
-tabulate-next entry from zero = ap (λ (n : ℕ). entry n ∷ []) (let e : from ≡ from + 0 = omega arith in e)
-tabulate-next entry from (suc count) =
-    ap (λ (l : List _). entry from ∷ l) (tabulate-next entry (suc from) count
-    ∙ ap (λ (n : ℕ). tabulate entry (suc from) count ++ (entry n ∷ [])) (let e : suc from + count ≡ from + suc count = omega arith in e))
-
--- The words of moved rows up to one of them.
-abbrev pub movedTo : ℕ → List ℤ → ℕ → List ℤ
-movedTo by rows words = tabulate (λ word. movedWord by rows (word / 6) (word % 6)) 0 words
-
-pub length-movedTo : (by : ℕ) (rows : List ℤ) (words : ℕ) → length (movedTo by rows words) ≡ words
-length-movedTo by rows words = length-tabulate _ 0 words
-
-pub movedTo-next : (by : ℕ) (rows : List ℤ) (words : ℕ) → movedTo by rows (words + 1) ≡ movedTo by rows words ++ (movedWord by rows (words / 6) (words % 6) ∷ [])
-movedTo-next by rows words = rw (add-one words) (tabulate-next (λ (word : ℕ). movedWord by rows (word / 6) (word % 6)) 0 words
-    ∙ ap (λ (n : ℕ). movedTo by rows words ++ (movedWord by rows (n / 6) (n % 6) ∷ [])) (let e : 0 + words ≡ words = omega arith in e))
-
-pub movedTo-all : (by : ℕ) (rows : List ℤ) → movedTo by rows (length rows) ≡ movedRows by rows
-unfolding movedRows
-movedTo-all by rows = refl
-
--- one word more is written
-pub moved-more : (by : ℕ) (rows out left : List ℤ) (words : ℕ) (w : ℤ) → left ≡ over (movedTo by rows words) out → words < length out → w ≡ movedWord by rows (words / 6) (words % 6)
-    → set left words w ≡ over (movedTo by rows (words + 1)) out
-moved-more by rows out left words w e h is =
-    let many = length-movedTo by rows words in
-    over-set (movedTo by rows words) out left words w e (sym many) (omega arith)
-    ∙ ap (λ (v : ℤ). over (movedTo by rows words ++ (v ∷ [])) out) is
-    ∙ ap (λ (l : List ℤ). over l out) (sym (movedTo-next by rows words))
-
--- the next of row 0, set among the words written
-pub first-set : (rows out left : List ℤ) (w : ℤ) → left ≡ over (movedRows 1 rows) out → 5 < length rows → w ≡ pos (secondBegins rows) → set left 5 w ≡ over (firstRows rows) out
-unfolding over firstRows
-first-set rows out left w e h is =
-    let long : 5 < length (movedRows 1 rows) = omega (arith, length-moved 1 rows) in
-    rw (e, is, set-append-left (movedRows 1 rows) (drop (length (movedRows 1 rows)) out) 5 (pos (secondBegins rows)) long, length-set (movedRows 1 rows) 5 (pos (secondBegins rows)))
-
--- the room behind what is written
-pub room-behind : (u l m : List ℤ) (k : ℕ) → k ≡ length u → m ≡ over u l → length u ≤ length l → length (part k m) + k ≡ length l
-room-behind u l m k e w h = rw (part-is k m, length-drop k m) (let long = length-over u l m w h in omega arith)
-
 -- what fills a table is all that it holds
 pub filled : (u l m : List ℤ) → m ≡ over u l → length l ≡ length u → m ≡ u
 filled u l m e h = sym (take-all (length u) m (let long = length-over u l m e (omega arith) in omega arith)) ∙ ap (take (length u)) e ∙ take-over u l
 
--- the new block, the first's rows, the second's, one behind the other
-pub joined-written : (first second l l1 l2 l3 : List ℤ) (k : ℕ) → k ≡ 6 + length first → l1 ≡ over outerBlock l → l2 ≡ over (firstRows first) (part 6 l1)
-    → l3 ≡ over (movedRows (secondBegins first) second) (part k (back-in 6 l1 l2)) → back-in k (back-in 6 l1 l2) l3 ≡ over (joinedRows first second) l
-unfolding joinedRows outerBlock
-joined-written first second l l1 l2 l3 k e w1 w2 w3 =
-    over-next (outerBlock ++ firstRows first) (movedRows (secondBegins first) second) l (back-in 6 l1 l2) l3 k
-    (let long = length-append outerBlock (firstRows first) in let f = length-first first in omega arith)
-    (over-next outerBlock (firstRows first) l l1 l2 6 refl w1 w2) w3
-    ∙ ap (λ (u : List ℤ). over u l) (append-assoc outerBlock (firstRows first) (movedRows (secondBegins first) second))
-
--- the room that is left for the second's rows
-pub room-second : (first l l1 l2 : List ℤ) (k : ℕ) → k ≡ 6 + length first → 6 + length first ≤ length l → l1 ≡ over outerBlock l → l2 ≡ over (firstRows first) (part 6 l1)
-    → length (part k (back-in 6 l1 l2)) + k ≡ length l
-unfolding outerBlock
-room-second first l l1 l2 k e h w1 w2 =
-    let long : length (outerBlock ++ firstRows first) ≡ 6 + length first = length-append outerBlock (firstRows first) ∙ ap (λ (n : ℕ). 6 + n) (length-first first) in
-    room-behind (outerBlock ++ firstRows first) l (back-in 6 l1 l2) k (e ∙ sym long) (over-next outerBlock (firstRows first) l l1 l2 6 refl w1 w2) (omega (arith, long))
-
 -- ---- what the checks leave to the join
+
+functions-most : (most : ℕ) (rows : List ℤ) (row : ℕ) → functionsFrom most rows row ≤ most
+unfolding functionsFrom
+functions-most zero rows row = omega arith
+functions-most (suc most) rows row = let rest = functions-most most rows (link rows row 5) in by-cases (isDefinition rows row) (λ d. rw d (omega arith)) (λ d. rw d (omega arith))
+
+-- a number of a function is one of as many as there are rows at most
+numbers-small : (rows : List ℤ) → rowCount rows ≤ 2048 → WellCalled rows → FunctionNumbers rows
+unfolding functionsOf
+numbers-small rows few w row field n f e = let below = function-below rows w row field n f e in let most = functions-most (rowCount rows) rows (link rows 0 1) in omega arith
 
 module _ (first second : List ℤ) (parts : Parts first second) where
   pub parts-length : length (joinedRows first second) ≡ 6 + length first + length second
-  parts-length = length-joined first second (sym (parts .tree-first .whole)) (sym (parts .tree-second .whole)) (parts .tree-first .some-rows)
+  parts-length = length-joined first second (sym (parts .tree-first .whole)) (sym (parts .tree-second .whole))
 
   pub parts-count : rowCount (joinedRows first second) ≡ 1 + rowCount first + rowCount second
-  parts-count = count-joined first second (sym (parts .tree-first .whole)) (sym (parts .tree-second .whole)) (parts .tree-first .some-rows)
+  parts-count = count-joined first second (sym (parts .tree-first .whole)) (sym (parts .tree-second .whole))
 
 module _ (header first secondHeader second : List ℤ) (accepted : refusal header first ≡ Accepted) (second-accepted : refusal secondHeader second ≡ Accepted) where
+  legal-first : Legal header first
+  legal-first = accepts-legal header first .0 accepted
+
+  legal-second : Legal secondHeader second
+  legal-second = accepts-legal secondHeader second .0 second-accepted
+
   of-first : Structured Source (boundsOf Source header) first
-  of-first = accepts-legal header first .0 accepted .structured
+  of-first = legal-first .structured
 
   of-second : Structured Source (boundsOf Source secondHeader) second
-  of-second = accepts-legal secondHeader second .0 second-accepted .structured
+  of-second = legal-second .structured
 
   few-rows : {bounds : Bounds} {rows : List ℤ} → Structured Source bounds rows → rowCount rows ≤ 2048
   few-rows {bounds} {rows} s = let facts = countFits-facts Source (length rows) (s .count-fits) in let most = facts .most in omega arith
@@ -162,6 +110,10 @@ module _ (header first secondHeader second : List ℤ) (accepted : refusal heade
     tree-second = structured-tree Source _ second of-second;
     few-first = few-rows of-first;
     few-second = few-rows of-second;
+    root-first = block-undefined first 0 (of-first .block);
+    root-second = block-undefined second 0 (of-second .block);
+    numbers-first = numbers-small first (few-rows of-first) (legal-first .well-called);
+    numbers-second = numbers-small second (few-rows of-second) (legal-second .well-called);
   }
 
   pub accepted-joinable : sameHeader header secondHeader ≡ true → 1 + rowCount first + rowCount second ≤ 2048 → Joinable first second
@@ -170,7 +122,7 @@ module _ (header first secondHeader second : List ℤ) (accepted : refusal heade
       record {
         parts = accepted-parts;
         few = few;
-        tree = structured-tree Source _ (joinedRows first second) (joined-structured first second of-first alike (let c = parts-count first second accepted-parts in omega arith));
+        tree = structured-tree Source _ (joinedRows first second) (joined-structured first second of-first alike (legal-first .well-called .in-order) (legal-second .well-called .in-order) (let c = parts-count first second accepted-parts in omega arith));
       }
 
 -- ---- causes in order

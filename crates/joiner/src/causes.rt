@@ -1,9 +1,9 @@
 // What a join refuses before it writes: the first's own causes, the second's, unequal headers, too many rows, a join too deep, a 65th declaration.
 use super::declarations::lowest_too_many;
 use super::headers::same_header;
-use super::rows::put_joined;
 use grammar::KindTable;
 use grammar::kinds::kind_table;
+use joined_rows::rows::put_joined;
 use structure::causes::at;
 use structure::depth::lowest_deep_by;
 use words::Form;

@@ -1,6 +1,6 @@
 // The join of two source programs: one that runs the first, then the second. Both are checked, and their join is not: that it is legal is a
 // theorem.
-use rows::write_joined;
+use joined_rows::rows::write_joined;
 use words::Refusal;
 use words::Verdict;
 ghost use mathlib.Core.Path.{_≡_};
@@ -9,13 +9,12 @@ ghost use lib.ListN.{length};
 ghost use Rattle.words.specs.declared.Verdict.the-variants.{Accepted};
 ghost use Rattle.structure.specs.Refusal.{unless};
 ghost use Rattle.join.specs.Join.{joinedRows};
-ghost use Rattle.joiner.specs.Joinable.{Parts};
+ghost use Rattle.joined_rows.specs.Parts.{Parts};
 ghost use Rattle.joiner.specs.Joining.{answerAndRows, joinAfter, joinResult, WritesJoin};
 
 pub mod causes; // causes.rt: what a join refuses, before it writes
 pub mod declarations; // declarations.rt: the 65th declaration
 pub mod headers; // headers.rt: equal headers
-pub mod rows; // rows.rt: the joined rows
 
 // What a join answers: how many words the joined rows have.
 pub enum JoinAnswer {

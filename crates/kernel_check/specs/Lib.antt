@@ -16,5 +16,6 @@ pub mod ListLaws
 pub mod LabelLaws
 -- Accepts: the check accepts the legal kernel programs and no others.
 pub mod Accepts
--- Sample: a small kernel program that is legal.
+-- Sample: a small kernel program that is legal; the same with a function.
 pub mod Sample
+pub mod FunctionSample

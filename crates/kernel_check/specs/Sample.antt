@@ -11,6 +11,7 @@ use Rattle.words.specs.Layout.{layoutOf, sum, storeSize, headerStore, allWithin
 use Rattle.words.specs.declared.Verdict.{Verdict}
 use Rattle.words.specs.declared.Verdict.the-variants.{Accepted, Refused}
 use Rattle.words.specs.Links.{fits, isExpression, isPlace, isStatement, link, target, linker, received, noteBy, note}
+use Rattle.row_roles.specs.Roles.{linksParameter, isParameterBy, isParameter, roleSort}
 use Rattle.row_fields.specs.Fields.{foreign, leadsRight, mislinked, boundsOf, numberFits, outside}
 use Rattle.words.specs.Kinds.{sortOf, sortAt, inLanguage, isLink, isRequired, sortIn, kindOf, kindIn, kinds, kindRow, expressionFields, statementFields, markFields, memberFields}
 use Rattle.structure.specs.Links.{linksAmong, linkCount, loneBlock, notOnce, deeper, depthAt, tooDeep}
@@ -20,7 +21,7 @@ use Rattle.kernel_check.specs.Accepts.{accepted-legal}
 use Rattle.kernel_check.specs.Labels.{isLabel, repeatedLabel, owning, ownerAt, aroundAt, labelBehind, labelAhead, gotoWithoutLabel, labelFault}
 use Rattle.kernel_check.specs.Legal.{Legal}
 use Rattle.kernel_check.specs.Refusal.{formCauses, kernelCauses, refusal}
-use Rattle.kernel_statements.specs.Statements.{isAtom, isAtomMinus, isAtomOperation, isAtomElement, fitsVariable, isAssignment, isBlock, isKernelIf, isKernelWhile, isKernelExpression, isKernelStatement, notKernelForm}
+use Rattle.kernel_statements.specs.Statements.{isAtom, isAtomMinus, isAtomOperation, isAtomElement, fitsVariable, isAssignment, isBlock, isKernelIf, isKernelWhile, isKernelExpression, isKernelStatement, notKernelForm, isAtomCall, isKernelReturn, isKernelParameter, isOfFunction}
 use Rattle.words.specs.Declarations.{isDeclaration}
 use Rattle.declaration_causes.specs.Causes.{declaredBefore}
 use Rattle.function_causes.specs.Functions.{isDefinition, isCall, isReturn}
@@ -30,7 +31,7 @@ use Rattle.function_causes.specs.Causes.{returnsOutside, outOfOrder, wrongCall,
 abbrev header : List ℤ
 header = pos 1 ∷ pos 0 ∷ pos 1 ∷ pos 3 ∷ []
 
-abbrev row : ℕ → ℕ → ℕ → ℕ → ℕ → List ℤ → List ℤ
+abbrev pub row : ℕ → ℕ → ℕ → ℕ → ℕ → List ℤ → List ℤ
 row kind a b c following rest = pos kind ∷ pos a ∷ pos b ∷ pos c ∷ pos 0 ∷ pos following ∷ rest
 
 -- v4 = 7; if (v4) { goto 0 } else {} ; label 0
@@ -53,7 +54,7 @@ program =
 abbrev changed : ℕ → ℕ → List ℤ
 changed word value = set program word (pos value)
 
-abbrev refused : ℕ → ℕ → Verdict
+abbrev pub refused : ℕ → ℕ → Verdict
 refused cause place = Refused (record { number = cause; place = place })
 
 -- What the check answers, of the program and of four changes: variable number V; an else that is no block; a goto without its label; a
@@ -66,7 +67,7 @@ pub record Answers : Type 0 where
   pub label-twice : refusal header (changed 60 53) ≡ refused 13 11
 
 pub sample-answers : Answers
-unfolding natural wordAt numberAt layoutOf sum storeSize headerStore allWithin headerFits countFits foreign fits leadsRight mislinked boundsOf numberFits outside sortOf sortIn kindOf kindIn kinds kindRow expressionFields statementFields markFields memberFields sortAt inLanguage isExpression isPlace isStatement isLink isRequired link target linksAmong linkCount loneBlock notOnce linker received noteBy note deeper depthAt tooDeep at unless _next_ rowCauses structuralRefusal lowest some lowestRow someField isLabel repeatedLabel owning ownerAt aroundAt labelBehind labelAhead gotoWithoutLabel labelFault isDeclaration declaredBefore isReturn isDefinition isCall returnsOutside outOfOrder wrongCall functionRefusal formCauses kernelCauses refusal isAtom isAtomMinus isAtomOperation isAtomElement fitsVariable isAssignment isBlock isKernelIf isKernelWhile isKernelExpression isKernelStatement notKernelForm
+unfolding natural wordAt numberAt layoutOf sum storeSize headerStore allWithin headerFits countFits foreign fits leadsRight mislinked roleSort isParameter isParameterBy linksParameter boundsOf numberFits outside sortOf sortIn kindOf kindIn kinds kindRow expressionFields statementFields markFields memberFields sortAt inLanguage isExpression isPlace isStatement isLink isRequired link target linksAmong linkCount loneBlock notOnce linker received noteBy note deeper depthAt tooDeep at unless _next_ rowCauses structuralRefusal lowest some lowestRow someField isLabel repeatedLabel owning ownerAt aroundAt labelBehind labelAhead gotoWithoutLabel labelFault isDeclaration declaredBefore isReturn isDefinition isCall returnsOutside outOfOrder wrongCall functionRefusal formCauses kernelCauses refusal isAtom isAtomMinus isAtomOperation isAtomElement isAtomCall isKernelReturn isKernelParameter isOfFunction fitsVariable isAssignment isBlock isKernelIf isKernelWhile isKernelExpression isKernelStatement notKernelForm
 sample-answers = record { whole = refl; variable-V = refl; no-block = refl; no-label = refl; label-twice = refl }
 
 pub sample-legal : Legal header program

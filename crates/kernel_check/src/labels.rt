@@ -2,8 +2,8 @@
 use super::LabelNote;
 use super::chains::chain_rows;
 use super::notes::write_notes;
-use function_check::front::is_definition;
 use kernel_statements::number_or_zero;
+use row_roles::is_definition;
 use structure::row_number::narrow;
 use structure::row_number::wide;
 use words::Found;

@@ -1,4 +1,4 @@
--- Labels: a label number stands once in the tree of a legal kernel program, since it stands in one row. Row 0 gathers what all rows have.
+-- Labels: a label number stands once in the tree of a plain kernel program, since it stands in one row. Row 0 gathers what all rows have.
 use mathlib.Core.Path.{_≡_, refl, sym, ap, _∙_}
 use mathlib.Core.Bool.{Bool, true, false, _&&_, true≢false}
 use mathlib.Core.List.{List}
@@ -20,7 +20,8 @@ use Rattle.row_fields.specs.Fields.{boundsOf}
 use Rattle.structure.specs.NoteLaws.{above-zero}
 use Rattle.structure.specs.StructuredLaws.{structured-tree}
 use Rattle.translation.specs.KernelForm.{statementTimes, itemsTimes}
-use Rattle.kernel_check.specs.Legal.{Label, Legal}
+use Rattle.kernel_check.specs.Legal.{Label}
+use Rattle.plain_check.specs.Plain.{Plain}
 use Rattle.accepted.specs.Sums.{total, totalFrom, along, brought, gathers}
 use Rattle.accepted.specs.Statements.{list-some, root-inside, root-statement, program-contents}
 use Rattle.kernel_rows.specs.Rows.{Lone, Listed, KernelRow, empty-row, assign-row, block-row, if-row, while-row, goto-row, label-row, abort-row, StatementLink, expression-or-statement, statement-link, next-at, block-at, kernel-row, label-list, statement-list, lone-list, linking-statement, label-statement, mayLink, none-linked, as-expression}
@@ -40,7 +41,7 @@ module _ (here? : ℕ → Bool) (single : (i j : ℕ) → here? i ≡ true → h
   total-single zero = omega arith
   total-single (suc n) = by-cases (here? n) (λ e. rw e (omega (arith, none-before n e n (omega arith)))) (λ e. rw e (omega (arith, total-single n)))
 
-module _ (header rows : List ℤ) (legal : Legal header rows) (l : ℕ) where
+module _ (header rows : List ℤ) (plain : Plain header rows) (l : ℕ) where
   -- how often the label stands in the list from a row on
   unfoldable weight : ℕ → ℕ
   weight row = pick (isStatement rows row) (itemsTimes l (itemsAt rows row)) 0
@@ -84,7 +85,7 @@ module _ (header rows : List ℤ) (legal : Legal header rows) (l : ℕ) where
         there e =
             let there-is : (link rows row field ≡ 0 → ⊥) = (λ q. true≢false (sym (eq-eqb (link rows row field) 0 q) ∙ e)) in
             let p : 0 < link rows row field = above-zero (link rows row field) there-is in
-            some field there-is ∙ by-cases (isStatement rows (link rows row field)) (λ t. absurd (h (statement-link header rows legal row n field first last p t))) (λ t. other-weight (link rows row field) t)
+            some field there-is ∙ by-cases (isStatement rows (link rows row field)) (λ t. absurd (h (statement-link header rows plain row n field first last p t))) (λ t. other-weight (link rows row field) t)
 
     unlinked : (number : ℕ) → numberAt rows row 0 ≡ number → (field : ℕ) → 1 ≤ field → field < 5 → mayLink number field ≡ false → brings field ≡ 0
     unlinked number k field first last m = quiet field first (omega arith) (none-linked rows row number field k m last)
@@ -103,7 +104,7 @@ module _ (header rows : List ℤ) (legal : Legal header rows) (l : ℕ) where
     unfolding itemsTimes
     lone-brings field lone =
         let b = numberAt rows row field in
-        let alone : itemsTimes l (itemsAt rows b) ≡ statementTimes l (statementAt rows b) + 0 = ap (itemsTimes l) (lone-list header rows legal lone) in
+        let alone : itemsTimes l (itemsAt rows b) ≡ statementTimes l (statementAt rows b) + 0 = ap (itemsTimes l) (lone-list header rows plain lone) in
         some field (λ (q : link rows row field ≡ 0). let same = lone .same in let later = lone .later in omega arith) ∙ (rw (lone .same) (statement-weight b (lone .statement) ∙ alone ∙ (let e : statementTimes l (statementAt rows b) + 0 ≡ statementTimes l (statementAt rows b) = omega arith in e)))
 
     -- an expression
@@ -128,19 +129,19 @@ module _ (header rows : List ℤ) (legal : Legal header rows) (l : ℕ) where
     statement-adds : isStatement rows row ≡ true → (numberAt rows row 0 ≡ 53 → ⊥) → statementTimes l (statementAt rows row) ≡ totalFrom brings 1 4 → weight row ≡ own row + totalFrom brings 1 5
     unfolding totalFrom itemsTimes
     statement-adds t other e =
-        let list : itemsTimes l (itemsAt rows row) ≡ statementTimes l (statementAt rows row) + itemsTimes l (listAt rows (numberAt rows row 5)) = ap (itemsTimes l) (statement-list header rows legal row n other t) in
-        omega (arith, statement-weight row t, not-here row other, listed-brings 5 (next-at header rows legal row n t), list, e)
+        let list : itemsTimes l (itemsAt rows row) ≡ statementTimes l (statementAt rows row) + itemsTimes l (listAt rows (numberAt rows row 5)) = ap (itemsTimes l) (statement-list header rows plain row n other t) in
+        omega (arith, statement-weight row t, not-here row other, listed-brings 5 (next-at header rows plain row n t), list, e)
 
     label-adds : isStatement rows row ≡ true → numberAt rows row 0 ≡ 53 → weight row ≡ own row + totalFrom brings 1 5
     unfolding totalFrom itemsTimes isHere
     label-adds t k =
-        let list : itemsTimes l (itemsAt rows row) ≡ pick (eqb l (numberAt rows row 1)) 1 0 + itemsTimes l (listAt rows (numberAt rows row 5)) = ap (itemsTimes l) (label-list header rows legal row n k t) in
+        let list : itemsTimes l (itemsAt rows row) ≡ pick (eqb l (numberAt rows row 1)) 1 0 + itemsTimes l (listAt rows (numberAt rows row 5)) = ap (itemsTimes l) (label-list header rows plain row n k t) in
         let own-is : own row ≡ pick (eqb l (numberAt rows row 1)) 1 0 = (rw k) in
         let at = unlinked 53 k in
         omega (
           arith,
           statement-weight row t,
-          listed-brings 5 (next-at header rows legal row n t),
+          listed-brings 5 (next-at header rows plain row n t),
           list,
           own-is,
           at 1 (omega arith) (omega arith) refl,
@@ -162,28 +163,28 @@ module _ (header rows : List ℤ) (legal : Legal header rows) (l : ℕ) where
 
     row-adds : weight row ≡ own row + totalFrom brings 1 5
     row-adds =
-        ⊎-elim (λ e. expression-adds (as-expression rows row e)) (λ t. times-by (kernel-row header rows legal row n t) t)
-        (expression-or-statement header rows legal row n)
+        ⊎-elim (λ e. expression-adds (as-expression rows row e)) (λ t. times-by (kernel-row header rows plain row n t) t)
+        (expression-or-statement header rows plain row n)
 
   one-row : (i j : ℕ) → isHere i ≡ true → isHere j ≡ true → i ≡ j
   unfolding isHere
   one-row i j p q =
       let a = both (eqb (numberAt rows i 0) 53) _ p in
       let b = both (eqb (numberAt rows j 0) 53) _ q in
-      legal .labels-once l i j (record { label = eqb-true _ _ (a .0); number-is = sym (eqb-true _ _ (a .1)) }) (record { label = eqb-true _ _ (b .0); number-is = sym (eqb-true _ _ (b .1)) })
+      plain .legal .labels-once l i j (record { label = eqb-true _ _ (a .0); number-is = sym (eqb-true _ _ (a .1)) }) (record { label = eqb-true _ _ (b .0); number-is = sym (eqb-true _ _ (b .1)) })
 
   -- "A label number stands once."
-  pub legal-once : itemsTimes l (contents rows) ≤ 1
+  pub plain-once : itemsTimes l (contents rows) ≤ 1
   unfolding itemsTimes
-  legal-once =
-      let s = legal .structured in
+  plain-once =
+      let s = plain .legal .structured in
       let bounds = boundsOf Kernel header in
       let some = root-inside Kernel bounds rows s in
       let t = root-statement Kernel bounds rows s in
-      let root = block-at header rows legal 0 some (s .block) in
+      let root = block-at header rows plain 0 some (s .block) in
       let all = gathers weight rows (structured-tree Kernel bounds rows s) own row-adds in
       let list : itemsTimes l (itemsAt rows 0) ≡ statementTimes l (statementAt rows 0) + itemsTimes l (listAt rows (numberAt rows 0 5)) =
-      ap (itemsTimes l) (statement-list header rows legal 0 some (λ (q : numberAt rows 0 0 ≡ 53). let k = s .block in omega arith) t) in
+      ap (itemsTimes l) (statement-list header rows plain 0 some (λ (q : numberAt rows 0 0 ≡ 53). let k = s .block in omega arith) t) in
       let behind : itemsTimes l (listAt rows (numberAt rows 0 5)) ≡ 0 = (rw (s .lone)) in
       let inside : statementTimes l (statementAt rows 0) ≡ itemsTimes l (contents rows) = (rw (root .is, program-contents Kernel bounds rows s, root .listed .same)) in
       omega (arith, all, statement-weight 0 t, list, behind, inside, total-single isHere one-row (rowCount rows))

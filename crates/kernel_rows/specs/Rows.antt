@@ -1,4 +1,4 @@
--- Rows of a legal kernel program: the statement at a row, by the number of its kind, with its links; and the list from a row on.
+-- Rows of a plain kernel program, a legal one without functions: the statement at a row, by the number of its kind, with its links; and the list from a row on.
 use mathlib.Core.Path.{_≡_, refl, sym, ap, _∙_}
 use mathlib.Core.Bool.{Bool, true, false, not, _&&_, _||_, true≢false}
 use mathlib.Core.List.{List}
@@ -9,8 +9,8 @@ use lib.Dec.{ltb, eqb}
 use lib.IntN.{ℤ}
 use borrow.Author.Tests.{ltb-false, le-ltb, eqb-true, eq-eqb, ne-eqb, not-true}
 use Rattle.words.specs.Table.{rowCount, numberAt, Whole}
-use Rattle.words.specs.Kinds.{kinds, kindIn, kindOf, kindAt, expression, optionalExpression, place, branch, optionalBranch, optionalItem, bodyBlock, optionalArm, optionalArgument, optionalParameter, absentLink, expressionRow, placeRow, statementRow, armRow, argumentRow, between, sortAt, sortOf, isLink, isRequired, sortIn, kindRow, expressionFields, statementFields, markFields, definitionFields, memberFields, standsIn, isStatementKind}
-use Rattle.words.specs.KindLaws.{everyLine, every-number}
+use Rattle.words.specs.Kinds.{kinds, kindIn, kindOf, kindAt, expression, optionalExpression, place, branch, optionalBranch, optionalItem, bodyBlock, optionalArm, optionalArgument, optionalParameter, absentLink, expressionRow, placeRow, statementRow, armRow, argumentRow, between, sortAt, sortOf, isLink, isRequired, sortIn, kindRow, expressionFields, statementFields, markFields, definitionFields, memberFields, standsIn, isStatementKind, isFunctionNumber}
+use Rattle.words.specs.KindLaws.{everyLine, every-number, definition-number}
 use Rattle.words.specs.SearchLaws.{from-on}
 use Rattle.words.specs.Word.{pick}
 use Rattle.words.specs.Laws.{both, either, by-cases}
@@ -28,10 +28,11 @@ use Rattle.row_fields.specs.Fields.{boundsOf}
 use Rattle.structure.specs.NoteLaws.{above-zero}
 use Rattle.row_fields.specs.declared.Bounds.{Bounds}
 use Rattle.structure.specs.Structured.{Leads, Structured}
-use Rattle.kernel_check.specs.Legal.{Legal}
-use Rattle.kernel_statements.specs.Statements.{isAtom, isAssignment, isBlock, isKernelIf, isKernelWhile, isKernelExpression, isKernelStatement}
-use Rattle.accepted.specs.Sorts.{statementNumber, between-true, number-is, sort-is, statement-kind, in-language, no-definition, row-sort, arm-is, argument-is}
-use Rattle.accepted.specs.Fields.{holds, Linked, MayLink, linked, may-link, next-link}
+use Rattle.plain_check.specs.Plain.{Plain}
+use Rattle.plain_check.specs.PlainLaws.{no-parameter, plain-fitting, plain-undeclared, plain-number}
+use Rattle.kernel_statements.specs.Statements.{isAtom, isAssignment, isBlock, isKernelIf, isKernelWhile, isKernelExpression, isKernelReturn, isKernelParameter, isOfFunction, isKernelStatement}
+use Rattle.accepted.specs.Sorts.{statementNumber, between-true, number-is, sort-is, statement-kind, in-language, row-sort, arm-is}
+use Rattle.accepted.specs.Fields.{holds, Linked, MayLink, linked, may-link, item-link}
 use Rattle.accepted.specs.Expressions.{whole-rows}
 use Rattle.accepted.specs.Statements.{list-some}
 
@@ -108,8 +109,12 @@ module _ (rows : List ℤ) where
 abbrev pub mayLink : ℕ → ℕ → Bool
 mayLink number field = (eqb number 42 && eqb field 1) || ((eqb number 43 && between 2 3 field) || (eqb number 44 && eqb field 2))
 
+-- the kinds of the kernel's language, without those of functions
+abbrev plainKind : ℕ → Kind → Bool
+plainKind number kind = standsIn (kindRow kind .forms) Kernel && not (isFunctionNumber number)
+
 abbrev tested : ℕ → Kind → ℕ → Bool
-tested number kind field = pick (between branch bodyBlock (sortIn kind field) && standsIn (kindRow kind .forms) Kernel) (mayLink number field) true
+tested number kind field = pick (between branch bodyBlock (sortIn kind field) && plainKind number kind) (mayLink number field) true
 
 abbrev nextTested : ℕ → Kind → Bool
 nextTested number kind = pick (between branch bodyBlock (sortIn kind 5)) (eqb (sortIn kind 0) statementRow) true
@@ -118,19 +123,27 @@ abbrev linksTested : ℕ → Kind → Bool
 linksTested number kind = nextTested number kind && (tested number kind 1 && (tested number kind 2 && (tested number kind 3 && tested number kind 4)))
 
 links-tested : (number : ℕ) → linksTested number (kindOf number) ≡ true
-unfolding everyLine kinds sortIn kindRow expressionFields statementFields markFields definitionFields memberFields
+unfolding everyLine kinds isFunctionNumber sortIn kindRow expressionFields statementFields markFields definitionFields memberFields
 links-tested number = every-number linksTested refl (λ number. refl) number
 
--- no form has functions yet, so that no field of a kernel row links parameters
+-- no field of theirs links parameters
 abbrev parameterless : ℕ → Kind → ℕ → Bool
-parameterless number kind field = pick (standsIn (kindRow kind .forms) Kernel) (not (eqb (sortIn kind field) optionalParameter)) true
+parameterless number kind field = pick (plainKind number kind) (not (eqb (sortIn kind field) optionalParameter)) true
 
 abbrev parametersTested : ℕ → Kind → Bool
 parametersTested number kind = parameterless number kind 5 && (parameterless number kind 1 && (parameterless number kind 2 && (parameterless number kind 3 && parameterless number kind 4)))
 
 parameters-tested : (number : ℕ) → parametersTested number (kindOf number) ≡ true
-unfolding everyLine kinds sortIn kindRow expressionFields statementFields markFields definitionFields memberFields
+unfolding everyLine kinds isFunctionNumber sortIn kindRow expressionFields statementFields markFields definitionFields memberFields
 parameters-tested number = every-number parametersTested refl (λ number. refl) number
+
+-- an argument is of the kinds of functions
+abbrev argumentTested : ℕ → Kind → Bool
+argumentTested number kind = pick (eqb (sortIn kind 0) argumentRow) (isFunctionNumber number) true
+
+argument-number : (rows : List ℤ) (row : ℕ) → isArgument rows row ≡ true → isFunctionNumber (numberAt rows row 0) ≡ true
+unfolding isArgument sortAt sortOf everyLine kinds isFunctionNumber sortIn kindRow expressionFields statementFields markFields definitionFields memberFields
+argument-number rows row e = rw e at (every-number argumentTested refl (λ number. refl) (numberAt rows row 0))
 
 -- A field that links a statement.
 pub data StatementLink (rows : List ℤ) (row : ℕ) : ℕ → Type 0 where
@@ -189,17 +202,17 @@ module _ (rows : List ℤ) (row : ℕ) where
       (λ h d. from-on SortOf sort absentLink h (λ f t. absurd (true≢false (sym f)))
       (λ h. absurd (omega arith))) apart)))))))))
 
--- A table of rows that is legal with some header.
+-- A table of rows that is plain with some header.
 pub record KernelTable (rows : List ℤ) : Type 0 where
   pub header : List ℤ
-  pub legal : Legal header rows
+  pub plain : Plain header rows
 
-module _ (header rows : List ℤ) (legal : Legal header rows) where
+module _ (header rows : List ℤ) (plain : Plain header rows) where
   abbrev bounds : Bounds
   bounds = boundsOf Kernel header
 
   s : Structured Kernel bounds rows
-  s = legal .structured
+  s = plain .legal .structured
 
   whole : Whole rows
   whole = whole-rows Kernel bounds rows s
@@ -213,11 +226,14 @@ module _ (header rows : List ℤ) (legal : Legal header rows) where
     not-in-kernel : {kind : Kind} → kindAt rows row ≡ kind → standsIn (kindRow kind .forms) Kernel ≡ false → ⊥
     not-in-kernel k f = true≢false (sym (in-language Kernel rows row (s .known row n) k) ∙ f)
 
+    no-function : isFunctionNumber (numberAt rows row 0) ≡ true → ⊥
+    no-function e = true≢false (sym e ∙ plain-number header rows plain row n)
+
     -- A row is an expression or a statement.
     pub expression-or-statement : (isExpression rows row ≡ true) ⊎ (isStatement rows row ≡ true)
     unfolding kindRow memberFields
     expression-or-statement =
-        ⊎-elim (λ e. inl e) (λ h. ⊎-elim (λ e. inr e) (λ h. ⊎-elim (λ e. absurd (not-in-kernel (arm-is rows row e) refl)) (λ e. absurd (not-in-kernel (argument-is rows row e) refl)) h) h)
+        ⊎-elim (λ e. inl e) (λ h. ⊎-elim (λ e. inr e) (λ h. ⊎-elim (λ e. absurd (not-in-kernel (arm-is rows row e) refl)) (λ e. absurd (no-function (argument-number rows row e))) h) h)
         (row-sort Kernel rows row (s .known row n))
 
     -- The fields that link statements.
@@ -239,8 +255,8 @@ module _ (header rows : List ℤ) (legal : Legal header rows) where
     abbrev Linking : ℕ → Type 0
     Linking field = between branch bodyBlock (sortIn (kindAt rows row) field) ≡ true → StatementLink rows row field
 
-    kernel-kind : standsIn (kindRow (kindAt rows row) .forms) Kernel ≡ true
-    kernel-kind = in-language Kernel rows row (s .known row n) refl
+    plain-kind : plainKind (numberAt rows row 0) (kindAt rows row) ≡ true
+    plain-kind = rw (in-language Kernel rows row (s .known row n) refl, plain-number header rows plain row n)
 
     linking : (field : ℕ) → 1 ≤ field → field < 6 → Linking field
     unfolding kindAt isStatement
@@ -251,7 +267,7 @@ module _ (header rows : List ℤ) (legal : Legal header rows) where
         let two = both (tested number (kindOf number) 1) _ (one .1) in
         let three = both (tested number (kindOf number) 2) _ (two .1) in
         let four = both (tested number (kindOf number) 3) _ (three .1) in
-        let kernel = kernel-kind in
+        let kernel = plain-kind in
         from-on Linking field 1 first (λ e. may-link-by 1 (rw (e, kernel) at (two .0)))
         (λ h. from-on Linking field 2 h (λ e. may-link-by 2 (rw (e, kernel) at (three .0)))
         (λ h. from-on Linking field 3 h (λ e. may-link-by 3 (rw (e, kernel) at (four .0)))
@@ -269,7 +285,7 @@ module _ (header rows : List ℤ) (legal : Legal header rows) where
         let two = both (parameterless number (kindOf number) 1) _ (one .1) in
         let three = both (parameterless number (kindOf number) 2) _ (two .1) in
         let four = both (parameterless number (kindOf number) 3) _ (three .1) in
-        let kernel = kernel-kind in
+        let kernel = plain-kind in
         from-on Parameterless field 1 first (not-true _ (rw kernel at (two .0)))
         (λ h. from-on Parameterless field 2 h (not-true _ (rw kernel at (three .0)))
         (λ h. from-on Parameterless field 3 h (not-true _ (rw kernel at (four .0)))
@@ -279,7 +295,7 @@ module _ (header rows : List ℤ) (legal : Legal header rows) where
     pub statement-link : (field : ℕ) → 1 ≤ field → field < 6 → 0 < link rows row field → isStatement rows (link rows row field) ≡ true → StatementLink rows row field
     statement-link field first last p t =
         linking field first last
-        (rw (sort-is rows row field) at (statement-sort rows (link rows row field) (sortAt rows row field) (is-link field p) (rw (sort-is rows row field) (without-parameters field first last)) (s .fitting row n field first last p) t))
+        (rw (sort-is rows row field) at (statement-sort rows (link rows row field) (sortAt rows row field) (is-link field p) (rw (sort-is rows row field) (without-parameters field first last)) (plain-fitting header rows plain row n field first last p) t))
 
     -- ---- links
 
@@ -327,7 +343,7 @@ module _ (header rows : List ℤ) (legal : Legal header rows) where
 
     -- What stands behind a statement.
     pub next-at : isStatement rows row ≡ true → Listed rows row 5
-    next-at t = listed-by 5 (next-link Kernel bounds rows s row n t)
+    next-at t = listed-by 5 (item-link Kernel bounds rows s row n (no-parameter header rows plain row n) t)
 
     -- ---- statements, by the number of the kind
 
@@ -383,6 +399,14 @@ module _ (header rows : List ℤ) (legal : Legal header rows) where
     unfolding kindOf kindIn kinds
     abort-is k = at-abort rows whole row (kind-of 57 k)
 
+    none-of-function : isOfFunction rows row ≡ true → ⊥
+    unfolding isOfFunction isKernelReturn isKernelParameter isFunctionNumber
+    none-of-function h =
+        let number = numberAt rows row 0 in
+        ⊎-elim (λ e. no-function (rw (eqb-true number 59 e)))
+        (λ h. ⊎-elim (λ e. let k : numberAt rows row 0 ≡ 60 = eqb-true number 60 (both (eqb number 60) _ e .0) in no-function (rw k)) (λ e. plain-undeclared header rows plain row n (eqb-true number 58 (both (eqb number 58) _ e .0)))
+        (either (isKernelReturn rows row) _ h)) (either (eqb number 59) _ h)
+
     -- What stands at a statement's row.
     pub kernel-row : isStatement rows row ≡ true → KernelRow rows row
     unfolding isKernelStatement isKernelIf isKernelWhile isKernelExpression
@@ -395,9 +419,9 @@ module _ (header rows : List ℤ) (legal : Legal header rows) where
         (λ h. ⊎-elim (λ h. let k = eqb-true number 52 h in goto-row k (goto-is k))
         (λ h. ⊎-elim (λ h. let k = eqb-true number 53 h in label-row k (label-is k))
         (λ h. ⊎-elim (λ h. let k = eqb-true number 57 h in abort-row k (abort-is k))
-        (λ h. let k = eqb-true number 41 (both (eqb number 41) _ h .0) in assign-row k (assign-at k h))
-        (either (eqb number 57) _ h)) (either (eqb number 53) _ h)) (either (eqb number 52) _ h)) (either (isKernelWhile rows row) _ h)) (either (isKernelIf rows row) _ h))
-        (either (eqb number 42) _ h)) (either (eqb number 40) _ (legal .formed row n t))
+        (λ h. ⊎-elim (λ h. let k = eqb-true number 41 (both (eqb number 41) _ h .0) in assign-row k (assign-at k h)) (λ h. absurd (none-of-function h))
+        (either (isKernelExpression rows row) _ h)) (either (eqb number 57) _ h)) (either (eqb number 53) _ h)) (either (eqb number 52) _ h)) (either (isKernelWhile rows row) _ h)) (either (isKernelIf rows row) _ h))
+        (either (eqb number 42) _ h)) (either (eqb number 40) _ (plain .legal .formed row n t))
 
     -- What stands at a row of a kind.
     pub assign-of : numberAt rows row 0 ≡ 41 → AssignRow rows row
@@ -447,17 +471,17 @@ module _ (header rows : List ℤ) (legal : Legal header rows) where
     -- The list from a statement's row on.
     pub label-list : numberAt rows row 0 ≡ 53 → isStatement rows row ≡ true → itemsAt rows row ≡ label (numberAt rows row 1) here listAt rows (numberAt rows row 5)
     unfolding kindOf kindIn kinds
-    label-list k t = let next = next-link Kernel bounds rows s row n t in at-label rows whole row (kind-of 53 k) (next .later)
+    label-list k t = let next = item-link Kernel bounds rows s row n (no-parameter header rows plain row n) t in at-label rows whole row (kind-of 53 k) (next .later)
 
     pub statement-list : (numberAt rows row 0 ≡ 53 → ⊥) → isStatement rows row ≡ true → itemsAt rows row ≡ statementAt rows row then listAt rows (numberAt rows row 5)
-    unfolding isStatement sortIn kindRow expressionFields statementFields markFields definitionFields memberFields statementNumber
+    unfolding isStatement kindAt sortIn kindRow expressionFields statementFields markFields definitionFields memberFields statementNumber
     statement-list other t =
-        let next = next-link Kernel bounds rows s row n t in
+        let next = item-link Kernel bounds rows s row n (no-parameter header rows plain row n) t in
         ⊎-elim (λ k. at-item rows whole row k (next .later))
         (⊎-elim (λ k. absurd (not-in-kernel k refl))
         (⊎-elim (λ k. absurd (not-in-kernel k refl))
         (⊎-elim (λ k. absurd (other (number-is rows row k refl)))
-        (λ k. absurd (no-definition Kernel rows row (s .known row n) k)))))
+        (λ k. absurd (no-function (definition-number (numberAt rows row 0) k))))))
         (statement-kind rows row (eqb-true _ _ t))
 
   -- The list of a branch or body: its one statement.
@@ -495,11 +519,11 @@ statement-number rows row t = by (ltb (numberAt rows row 0) 40) refl
     by true e = absurd (true≢false (sym (rw (e, t) at (row-tested (numberAt rows row 0)))))
     by false e = ltb-false (numberAt rows row 0) 40 e
 
-pub number-statement : (header rows : List ℤ) (legal : Legal header rows) (row : ℕ) → row < rowCount rows → 40 ≤ numberAt rows row 0 → isStatement rows row ≡ true
+pub number-statement : (header rows : List ℤ) (plain : Plain header rows) (row : ℕ) → row < rowCount rows → 40 ≤ numberAt rows row 0 → isStatement rows row ≡ true
 unfolding isExpression sortAt sortOf
-number-statement header rows legal row n h =
+number-statement header rows plain row n h =
     let tested-row = rw (le-ltb (numberAt rows row 0) 40 h) at (row-tested (numberAt rows row 0)) in
-    ⊎-elim (λ e. absurd (true≢false (sym tested-row ∙ ap not e))) (λ t. t) (expression-or-statement header rows legal row n)
+    ⊎-elim (λ e. absurd (true≢false (sym tested-row ∙ ap not e))) (λ t. t) (expression-or-statement header rows plain row n)
 
 -- A row that links a statement is one.
 pub linking-statement : (rows : List ℤ) (row : ℕ) {field : ℕ} → StatementLink rows row field → isStatement rows row ≡ true

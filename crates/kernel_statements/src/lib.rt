@@ -8,10 +8,10 @@ use words::table::number_at;
 ghost use mathlib.Core.Path.{_≡_};
 ghost use Prim.Native.Nat.{_+_, _*_, _/_, _<_};
 ghost use lib.ListN.{length};
-ghost use Rattle.words.specs.Table.{numberAt};
+ghost use Rattle.words.specs.Table.{rowCount, numberAt};
 ghost use Rattle.words.specs.Search.{lowestRow};
 ghost use Rattle.grammar.specs.Grammar.{grammar};
-ghost use Rattle.kernel_statements.specs.Statements.{isAtom, isAtomMinus, isAtomOperation, isAtomElement, fitsVariable, isAssignment, isBlock, isKernelIf, isKernelWhile, isKernelExpression, isKernelStatement, notKernelForm};
+ghost use Rattle.kernel_statements.specs.Statements.{isAtom, isAtomMinus, isAtomOperation, isAtomElement, atomArguments, isAtomCall, fitsVariable, isAssignment, isBlock, isKernelIf, isKernelWhile, isKernelExpression, isKernelReturn, isKernelParameter, isOfFunction, isKernelStatement, notKernelForm};
 
 // A field of any row. Beyond the table every word is 0.
 pub fn number_or_zero(rows: &[i32], row: usize, field: usize) -> usize
@@ -68,6 +68,35 @@ fn is_atom_element(rows: &[i32], row: usize) -> bool
     false
 }
 
+// The arguments of the list that begins at a row are atoms.
+fn atom_arguments(rows: &[i32], first: usize) -> bool
+    requires { ⌜ 6 * (length (now rows) / 6) ≡ length (now rows) ⌝ }
+    ensures { λ r. ⌜ r ≡ atomArguments (rowCount (now (rows .entry))) (now (rows .entry)) first ⌝ }
+{
+    let mut argument = first;
+    for _passed in 0..rows.len() / 6 {
+        if argument == 0 {
+            return true;
+        }
+        if !is_atom(rows, number_or_zero(rows, argument, 1)) {
+            return false;
+        }
+        argument = number_or_zero(rows, argument, 5);
+    }
+    true
+}
+
+// A call on atoms.
+fn is_atom_call(rows: &[i32], row: usize) -> bool
+    requires { ⌜ 6 * (length (now rows) / 6) ≡ length (now rows) ⌝ }
+    ensures { λ r. ⌜ r ≡ isAtomCall (now (rows .entry)) row ⌝ }
+{
+    if number_or_zero(rows, row, 0) == 31 {
+        return atom_arguments(rows, number_or_zero(rows, row, 2));
+    }
+    false
+}
+
 // What may be assigned to a variable.
 fn fits_variable(rows: &[i32], row: usize) -> bool
     requires { ⌜ 6 * (length (now rows) / 6) ≡ length (now rows) ⌝ }
@@ -82,7 +111,10 @@ fn fits_variable(rows: &[i32], row: usize) -> bool
     if is_atom_operation(rows, row) {
         return true;
     }
-    is_atom_element(rows, row)
+    if is_atom_element(rows, row) {
+        return true;
+    }
+    is_atom_call(rows, row)
 }
 
 // An assignment of kernel form.
@@ -157,6 +189,46 @@ fn is_kernel_expression(rows: &[i32], row: usize) -> bool
     false
 }
 
+// A return of an atom.
+fn is_kernel_return(rows: &[i32], row: usize) -> bool
+    requires { ⌜ 6 * (length (now rows) / 6) ≡ length (now rows) ⌝ }
+    ensures { λ r. ⌜ r ≡ isKernelReturn (now (rows .entry)) row ⌝ }
+{
+    if number_or_zero(rows, row, 0) == 60 {
+        let atom = number_or_zero(rows, row, 1);
+        if atom == 0 {
+            return false;
+        }
+        return is_atom(rows, atom);
+    }
+    false
+}
+
+// A parameter, which has no b.
+fn is_kernel_parameter(rows: &[i32], row: usize) -> bool
+    requires { ⌜ 6 * (length (now rows) / 6) ≡ length (now rows) ⌝ }
+    ensures { λ r. ⌜ r ≡ isKernelParameter (now (rows .entry)) row ⌝ }
+{
+    if number_or_zero(rows, row, 0) == 58 {
+        return number_or_zero(rows, row, 2) == 0;
+    }
+    false
+}
+
+// A definition, a return of an atom or a parameter.
+fn is_of_function(rows: &[i32], row: usize) -> bool
+    requires { ⌜ 6 * (length (now rows) / 6) ≡ length (now rows) ⌝ }
+    ensures { λ r. ⌜ r ≡ isOfFunction (now (rows .entry)) row ⌝ }
+{
+    if number_or_zero(rows, row, 0) == 59 {
+        return true;
+    }
+    if is_kernel_return(rows, row) {
+        return true;
+    }
+    is_kernel_parameter(rows, row)
+}
+
 // A statement of the kernel language.
 fn is_kernel_statement(rows: &[i32], row: usize) -> bool
     requires { ⌜ 6 * (length (now rows) / 6) ≡ length (now rows) ⌝ }
@@ -184,7 +256,10 @@ fn is_kernel_statement(rows: &[i32], row: usize) -> bool
     if kind == 57 {
         return true;
     }
-    is_kernel_expression(rows, row)
+    if is_kernel_expression(rows, row) {
+        return true;
+    }
+    is_of_function(rows, row)
 }
 
 // Cause 12 at a row.

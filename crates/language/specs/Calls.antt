@@ -84,6 +84,13 @@ Numbered number (s then is) = Unit {0}
 Numbered number (m here is) = Unit {0}
 Numbered number (define f words body is) = (f ≡ number) × Numbered (suc number) is
 
+-- "Definitions come first in row 0's list": behind another item there is none.
+unfoldable pub DefinitionsFirst : Items → Type 0
+DefinitionsFirst none = Unit {0}
+DefinitionsFirst (s then is) = functionCount is ≡ 0
+DefinitionsFirst (m here is) = functionCount is ≡ 0
+DefinitionsFirst (define f words body is) = DefinitionsFirst is
+
 -- The functions of a program and its calls.
 pub record CallsInOrder (program : Items) : Type 0 where
   pub numbered : Numbered 0 program

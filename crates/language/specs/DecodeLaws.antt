@@ -167,6 +167,11 @@ module _ (rows : List ℤ) (whole : Whole rows) where
   later-part row zero p = refl
   later-part row (suc l) p = rw (lt-ltb row (suc l) (p (omega arith)))
 
+  -- An absent expression is that of row 0, where row 0 is none.
+  later-expression : isExpressionKind (kindAt rows 0) ≡ false → (row l : ℕ) → Forward row l → later (constant (pos 0)) row (expressionAt rows) l ≡ expressionAt rows l
+  later-expression k row zero p = rw (le-ltb row 0 (omega arith)) (sym (expression-at 0 ∙ no-expression-of (kindAt rows 0) (wordAt rows 0) _ _ k))
+  later-expression k row (suc l) p = rw (lt-ltb row (suc l) (p (omega arith)))
+
   -- Fields by name: the trees at the links a, b, c, d and next of a row.
   module _ (row : ℕ) where
     abbrev a : ℕ
@@ -321,6 +326,11 @@ module _ (rows : List ℤ) (whole : Whole rows) where
     pub at-declare : kindAt rows row ≡ OfStatement Declare → row < b → statementAt rows row ≡ declare a (e-at b)
     unfolding statementOf numberAt
     at-declare k p = rw (statement-at row, k, lt-ltb row b p)
+
+    -- The same of kind 58 in each of its roles, where row 0 is no expression: the b of a parameter is 0.
+    pub at-declared : isExpressionKind (kindAt rows 0) ≡ false → kindAt rows row ≡ OfStatement Declare → Forward row b → statementAt rows row ≡ declare a (e-at b)
+    unfolding statementOf numberAt
+    at-declared root k p = rw (statement-at row, k) (ap (declare a) (later-expression root row b p))
 
     pub at-return : kindAt rows row ≡ OfStatement Return → Forward row a → statementAt rows row ≡ giveBack (partAt rows a)
     unfolding statementOf numberAt

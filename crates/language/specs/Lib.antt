@@ -55,5 +55,7 @@ pub mod DecodeLaws
 pub mod FunctionLaws
 pub mod PlainTables
 pub mod PlainCalls
+-- Fields by role: where a field holds the same in each role of its kind.
+pub mod FieldRoles
 -- Laws of sound tables: what a row's field holds, by the row's kind.
 pub mod SoundLaws

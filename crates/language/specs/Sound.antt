@@ -1,16 +1,19 @@
 -- Sound tables: what a run asks of a table. Every link that a run follows leads to a later row, and every number names a word of the
--- store. Both checks give it.
+-- store: each field holds what the row's role says. Both checks give it. What a run asks of functions and calls is said apart, by the crates
+-- that run and translate them.
 use mathlib.Core.Path.{_≡_}
-use mathlib.Core.Bool.{true, false}
+use mathlib.Core.Bool.{true}
 use mathlib.Core.List.{List}
 use Prim.Native.Nat.{ℕ, _<_, _≤_}
 use lib.IntN.{ℤ}
 use lib.ListN.{length}
 use Rattle.words.specs.Table.{rowCount, Whole, numberAt}
-use Rattle.words.specs.Kinds.{kindAt, unused, variable, array, declaredNumber, place, optionalArm, isLink, isRequired, sortIn, isFunctionNumber, isPlaceKind}
+use Rattle.words.specs.Kinds.{kindAt, unused, variable, array, declaredNumber, place, optionalArm, isLink, isRequired, isPlaceKind}
 use Rattle.words.specs.Layout.{Layout, storeSize}
-use Rattle.words.specs.declared.Kind.the-variants.{OfMember, Other}
+use Rattle.words.specs.declared.Kind.the-variants.{OfStatement, OfMember, Other}
+use Rattle.words.specs.declared.StatementKind.the-variants.{Block}
 use Rattle.words.specs.declared.MemberKind.the-variants.{Arm}
+use Rattle.row_roles.specs.Roles.{roleSort}
 
 -- `rows` is the table, L the layout, `words` the number of words in the store.
 module _ (rows : List ℤ) (L : Layout) (words : ℕ) where
@@ -44,8 +47,7 @@ module _ (rows : List ℤ) (L : Layout) (words : ℕ) where
   pub record Sound : Type 0 where
     pub whole : Whole rows
     pub some-rows : 0 < rowCount rows
+    pub root : kindAt rows 0 ≡ OfStatement Block
     pub known : (row : ℕ) → row < rowCount rows → kindAt rows row ≡ Other → ⊥
-    pub fields : (row : ℕ) → row < rowCount rows → (field : ℕ) → 1 ≤ field → field < 6 → SoundField row field (sortIn (kindAt rows row) field)
+    pub fields : (row : ℕ) → row < rowCount rows → (field : ℕ) → 1 ≤ field → field < 6 → SoundField row field (roleSort rows row field)
     pub store-fits : storeSize L ≤ words
-    -- no form has the kinds of functions yet
-    pub no-function : (row : ℕ) → row < rowCount rows → isFunctionNumber (numberAt rows row 0) ≡ false

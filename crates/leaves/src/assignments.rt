@@ -18,7 +18,7 @@ ghost use Rattle.leaves.specs.Atoms.{atomTree, atomRow, AtomFits};
 ghost use Rattle.leaves.specs.Straight.{targetRows};
 
 // The rows that head an assignment of `size` rows: the statement, the assignment, whose value stands at the row `value`, and its place's own row.
-fn put_target(
+pub fn put_target(
     kind: usize,
     number: usize,
     index: usize,

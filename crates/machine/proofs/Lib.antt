@@ -2,5 +2,3 @@
 pub mod Bounds
 -- Endings: why a run ended, and what its answer says of the run under the budget.
 pub mod Endings
--- Plain: the calls of a table without the kinds of functions are sound.
-pub mod Plain

@@ -1,5 +1,7 @@
 // The run of a program.
 use executor::cycle::exec;
+use flows::functions::fill_functions;
+use flows::functions::function_count;
 use operations::Operand;
 use operations::SPENT;
 use operations::answers::beyond;
@@ -17,10 +19,11 @@ ghost use lib.ListN.{length};
 ghost use Rattle.words.specs.Word.{natural as naturalOf};
 ghost use Rattle.words.specs.Layout.{sum};
 ghost use Rattle.computation.specs.Remaining.{spend};
-ghost use Rattle.language.specs.Program.{runTable};
+ghost use Rattle.language.specs.Functions.{functionCount};
+ghost use Rattle.language.specs.Program.{contents, runTable};
 ghost use Rattle.operations.specs.Bounds.{boundsFrom};
 ghost use Rattle.flows.specs.Flows.{ran};
-ghost use Rattle.machine.specs.Whole.{endingOfAnswer, finishedOf, wholeAt, Runnable, Startable};
+ghost use Rattle.machine.specs.Whole.{endingOfAnswer, finishedOf, wholeAt, Runnable, Startable, RoomFor};
 
 // The bounds of the arrays: where each begins, and where the last one ends.
 pub fn fill_bounds(lengths: &[i32], variables: usize, bounds: &mut [usize])
@@ -51,7 +54,7 @@ fn ending_of(answer: i64) -> Ending
     Ending::Fault(fault_numbered(beyond(answer)))
 }
 
-// The statement at row 0, with the bounds written into what is lent for them.
+// The statement at row 0, with the bounds and the rows of the functions written into what is lent for them.
 fn start(
     lengths: &[i32],
     variables: usize,
@@ -60,26 +63,35 @@ fn start(
     store: &mut [i32],
     left: &mut u32,
 ) -> i64
-    requires { ⌜ Startable (now lengths) variables (now bounds) (now rows) (length (now store)) ⌝ }
+    requires { ⌜ Startable (now lengths) variables (length (now bounds)) (now rows) (length (now store)) ⌝ }
     ensures { λ r. ⌜ ran r (now (left .exit)) (now (store .exit)) ≡ spend (wholeAt (now (lengths .entry)) variables (now (rows .entry))) (now (left .entry)) (now (store .entry)) ⌝ }
 {
-    fill_bounds(lengths, variables, bounds);
+    let n = lengths.len() + 1;
+    fill_bounds(lengths, variables, &mut bounds[..n]);
+    fill_functions(rows, &mut bounds[n..]);
     exec(&*rows, &*bounds, 0, store, left)
 }
 
-// The run of a table with a budget.
-pub fn run(form: Form, header: &[i32], rows: &[i32], store: &mut [i32], budget: u32) -> RunAnswer
-    requires { ⌜ Runnable form (now header) (now rows) (now store) ⌝ }
+// The run in a room with places for the bounds and the rows of so many functions.
+fn run_in(
+    form: Form,
+    header: &[i32],
+    rows: &[i32],
+    store: &mut [i32],
+    budget: u32,
+    functions: usize,
+    room: &mut [usize],
+) -> RunAnswer
+    requires { ⌜ RoomFor form (now header) (now rows) (now store) functions (length (now room)) ⌝ }
     ensures { λ r. ⌜ finishedOf r (now (store .exit)) ≡ runTable form (now (header .entry)) (now (rows .entry)) budget (now (store .entry)) ⌝ }
 {
     let first = leading(form);
-    let n = header.len() - first + 1;
-    let mut bounds: [usize; 33] = [0; 33];
+    let n = header.len() - first + 1 + functions;
     let mut left = budget;
     let answer = start(
         &header[first..],
         natural(header[0]),
-        &mut bounds[..n],
+        &mut room[..n],
         rows,
         store,
         &mut left,
@@ -89,4 +101,67 @@ pub fn run(form: Form, header: &[i32], rows: &[i32], store: &mut [i32], budget: 
         ending: ending_of(answer),
         count,
     }
+}
+
+// Room for up to 64 functions.
+fn run_few(
+    form: Form,
+    header: &[i32],
+    rows: &[i32],
+    store: &mut [i32],
+    budget: u32,
+    functions: usize,
+) -> RunAnswer
+    requires { ⌜ Runnable form (now header) (now rows) (now store) × (functions ≡ functionCount (contents (now rows))) × (functions ≤ 64) ⌝ }
+    ensures { λ r. ⌜ finishedOf r (now (store .exit)) ≡ runTable form (now (header .entry)) (now (rows .entry)) budget (now (store .entry)) ⌝ }
+{
+    let mut room: [usize; 97] = [0; 97];
+    run_in(form, header, rows, store, budget, functions, &mut room)
+}
+
+// For up to 1,024: a source program has fewer.
+fn run_some(
+    form: Form,
+    header: &[i32],
+    rows: &[i32],
+    store: &mut [i32],
+    budget: u32,
+    functions: usize,
+) -> RunAnswer
+    requires { ⌜ Runnable form (now header) (now rows) (now store) × (functions ≡ functionCount (contents (now rows))) × (functions ≤ 1024) ⌝ }
+    ensures { λ r. ⌜ finishedOf r (now (store .exit)) ≡ runTable form (now (header .entry)) (now (rows .entry)) budget (now (store .entry)) ⌝ }
+{
+    let mut room: [usize; 1057] = [0; 1057];
+    run_in(form, header, rows, store, budget, functions, &mut room)
+}
+
+// For as many as a table has rows.
+fn run_many(
+    form: Form,
+    header: &[i32],
+    rows: &[i32],
+    store: &mut [i32],
+    budget: u32,
+    functions: usize,
+) -> RunAnswer
+    requires { ⌜ Runnable form (now header) (now rows) (now store) × (functions ≡ functionCount (contents (now rows))) × (functions ≤ 40980) ⌝ }
+    ensures { λ r. ⌜ finishedOf r (now (store .exit)) ≡ runTable form (now (header .entry)) (now (rows .entry)) budget (now (store .entry)) ⌝ }
+{
+    let mut room: [usize; 41013] = [0; 41013];
+    run_in(form, header, rows, store, budget, functions, &mut room)
+}
+
+// The run of a table with a budget. The large rooms are in no frame of a run with few functions.
+pub fn run(form: Form, header: &[i32], rows: &[i32], store: &mut [i32], budget: u32) -> RunAnswer
+    requires { ⌜ Runnable form (now header) (now rows) (now store) ⌝ }
+    ensures { λ r. ⌜ finishedOf r (now (store .exit)) ≡ runTable form (now (header .entry)) (now (rows .entry)) budget (now (store .entry)) ⌝ }
+{
+    let functions = function_count(rows);
+    if functions <= 64 {
+        return run_few(form, header, rows, store, budget, functions);
+    }
+    if functions <= 1024 {
+        return run_some(form, header, rows, store, budget, functions);
+    }
+    run_many(form, header, rows, store, budget, functions)
 }

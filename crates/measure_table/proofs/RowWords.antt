@@ -1,10 +1,10 @@
--- A table with the words of one row put in: the row has them, later rows keep theirs.
+-- A table with the words of one row put in: the row has them, the others keep theirs.
 use mathlib.Core.Path.{_≡_, sym, ap, _∙_}
 use mathlib.Core.List.{List, _++_}
 use Prim.Native.Nat.{ℕ, _+_, _*_, _-_, _≤_, _<_}
 use native.Mathlib.Omega.{arith}
 use lib.ListN.{length, take, drop, getD, length-append, length-drop, List·getD-append}
-use lib.Seq.{getD-append-add, getD-drop, length-take-le}
+use lib.Seq.{getD-append-add, getD-drop, getD-take, length-take-le}
 
 -- Rows have w words; `ws` are those of the row.
 module _ (w : ℕ) (t u ws : List ℕ) (row : ℕ) (size : length ws ≡ w) (fits : w * row + w ≤ length t) (is : u ≡ (take (w * row) t ++ ws) ++ drop (w * row + w) t) where
@@ -32,3 +32,10 @@ module _ (w : ℕ) (t u ws : List ℕ) (row : ℕ) (size : length ws ≡ w) (fit
       ∙ getD-append-add (take (w * row) t ++ ws) (drop (w * row + w) t) (at - (w * row + w)) 0
       ∙ getD-drop (w * row + w) t (at - (w * row + w)) 0
       ∙ ap (λ (n : ℕ). getD t n 0) (sym past)
+
+  pub earlier-words : (at : ℕ) → at < w * row → getD u at 0 ≡ getD t at 0
+  earlier-words at h =
+      ap (λ (x : List ℕ). getD x at 0) is
+      ∙ List·getD-append (take (w * row) t ++ ws) (drop (w * row + w) t) 0 at (omega (arith, head-length))
+      ∙ List·getD-append (take (w * row) t) ws 0 at (omega (arith, before))
+      ∙ getD-take (w * row) t at 0 h

@@ -21,7 +21,7 @@ use Rattle.shapes.specs.Source.{Source}
 use Rattle.shapes.specs.declared.ChoiceShape.{ChoiceShape}
 use Rattle.shapes.specs.declared.ChoiceShape.the-variants.{And, Or, Conditional}
 use Rattle.measure_table.specs.Parts.{calledIn, passedRows, firstOperand, secondOperand, thirdOperand, fourthOperand, aboveFirst, firstCopied, plainAtom, firstUse, secondUse, ownLevels, usePassed, UseFits}
-use Rattle.measure_table.specs.Measures.{limited, defaultPlace, width, rowsSlot, levelsSlot, valueSlot, statementRowsSlot, statementLevelsSlot, statementLabelsSlot, listRowsSlot, listLevelsSlot, listLabelsSlot, listCasesSlot, listDefaultSlot, copiedSlot, armsRowsSlot, armsLevelsSlot, armsLabelsSlot, rowsFor, levelsFor, slot, slotAt, LinkMeasured, MeasuredRow, MeasuredFrom, Measured}
+use Rattle.measure_table.specs.Measures.{limited, defaultPlace, width, sums, rowsSlot, levelsSlot, valueSlot, statementRowsSlot, statementLevelsSlot, statementLabelsSlot, listRowsSlot, listLevelsSlot, listLabelsSlot, listCasesSlot, listDefaultSlot, copiedSlot, armsRowsSlot, armsLevelsSlot, armsLabelsSlot, rowsFor, levelsFor, slot, slotAt, LinkMeasured, MeasuredRow, MeasuredFrom, Measured}
 
 -- ---- sums that are cut off
 
@@ -283,7 +283,7 @@ module _ (called : ℕ → ℕ → Bool) where
 pub limited-as : {x : ℕ} (n : ℕ) → x ≡ limited n → x ≤ 65536
 limited-as {x} n e = omega (arith, limited-most n)
 
-measured-small : {rows : List ℤ} {table : List ℕ} {row : ℕ} → Source rows → MeasuredRow rows table row → (k : ℕ) → k < width → slot table row k ≤ 65536
+measured-small : {rows : List ℤ} {table : List ℕ} {row : ℕ} → Source rows → MeasuredRow rows table row → (k : ℕ) → k < sums → slot table row k ≤ 65536
 measured-small s m zero h = limited-as _ (m .expression .rows-are)
 measured-small s m (suc zero) h = limited-as _ (m .expression .levels-are)
 measured-small s m (suc (suc zero)) h = omega (arith, m .expression .value-inside, s .few-rows)
@@ -315,7 +315,7 @@ module _ {rows : List ℤ} {table : List ℕ} {row : ℕ} (m : MeasuredFrom rows
   pub slot-asks : {link : ℕ} → OptionalOnward rows row link → LinkMeasured table link
   slot-asks {link} o k h = record { held = λ p. omega (arith, link-held rows table link m o p); small = slot-small link k h o }
     where
-      slot-small : (link k : ℕ) → k < width → OptionalOnward rows row link → slotAt table link k ≤ 65536
+      slot-small : (link k : ℕ) → k < sums → OptionalOnward rows row link → slotAt table link k ≤ 65536
       slot-small zero k h o = omega arith
       slot-small (suc link) k h o = measured-small (m .source) (link-measured rows table (suc link) m (o (omega arith))) k h
 

@@ -8,16 +8,19 @@ use lib.IntN.{ℤ}
 use lib.ListN.{length, getD}
 use Rattle.words.specs.Table.{rowCount}
 use Rattle.words.specs.declared.Operator.{Operator}
-use Rattle.language.specs.Trees.{Expression, assign, postfix, variable, Statement, Arms, Items, none, _then_, _here_, define, case, default, label}
+use Rattle.language.specs.Trees.{Expression, assign, postfix, variable, Statement, Arguments, Arms, Items, none, _then_, _here_, define, case, default, label}
+use Rattle.language.specs.Calls.{argumentCount}
 use Rattle.language.specs.Decode.{placeOf, expressionAt, statementAt, itemsAt, armsAt}
 use Rattle.translation.specs.declared.Use.{Use}
 use Rattle.translation.specs.declared.Use.the-variants.{Dropped as dropped, Wanted as wanted, Stored as stored}
-use Rattle.translation.specs.Translate.{atomOf, labels, armsLabels, itemsLabels, expressionLevels, statementLevels, armsLevels, itemsLevels}
-use Rattle.translation.specs.TranslateSize.{expressionSize, statementSize, armsSize, itemsSize, cases}
+use Rattle.translation.specs.Translate.{atomOf, labels, armsLabels, itemsLabels, argumentsTaken, expressionLevels, argumentsLevels, statementLevels, armsLevels, itemsLevels, programLevels, programLabels}
+use Rattle.translation.specs.TranslateSize.{expressionSize, argumentsSize, statementSize, armsSize, itemsSize, programSize, cases}
 use Rattle.shapes.specs.Shapes.{Onward}
 use Rattle.shapes.specs.Source.{mostWords, Source}
 use Rattle.measure_table.specs.Parts.{calledIn, firstCopied, plainAtom}
+use Rattle.measure_table.specs.Arguments.{argumentCopies, callCopies}
 use Rattle.measure_table.specs.declared.ExpressionMeasures.{ExpressionMeasures}
+use Rattle.measure_table.specs.declared.Passed.{Passed}
 use Rattle.measure_table.specs.declared.StatementMeasures.{StatementMeasures}
 use Rattle.measure_table.specs.declared.ListMeasures.{ListMeasures}
 
@@ -53,6 +56,8 @@ pub record ExpressionMeasured (rows : List ℤ) (e : Expression) (m : Expression
   pub dropped-levels-are : m .«dropped_levels» ≡ limited (expressionLevels (calledIn rows) e dropped)
   -- where a variable stores it, whichever; its rows are those of a value that is wanted
   pub stored-levels-are : m .«stored_levels» ≡ limited (expressionLevels (calledIn rows) e (stored 0))
+  -- which arguments of a call are copied
+  pub copies-are : m .copies ≡ callCopies (calledIn rows) e
 
 -- `called f i`: whether function f can write the variable i.
 pub record StatementMeasured (called : ℕ → ℕ → Bool) (s : Statement) (m : StatementMeasures) : Type 0 where
@@ -72,11 +77,29 @@ pub record ArmsMeasured (called : ℕ → ℕ → Bool) (arms : Arms) (m : State
   pub levels-are : m .levels ≡ limited (armsLevels called arms)
   pub labels-are : m .labels ≡ limited (armsLabels arms)
 
+-- The arguments from one on; those before it can write the variables W.
+pub record PassedMeasured (called : ℕ → ℕ → Bool) (arguments : Arguments) (W : ℕ → Bool) (m : Passed) : Type 0 where
+  pub rows-are : m .rows ≡ limited (argumentsSize called arguments W)
+  pub levels-are : m .levels ≡ limited (argumentsLevels called arguments W)
+  pub taken-is : m .taken ≡ argumentsTaken called arguments W
+  pub count-is : m .count ≡ argumentCount arguments
+  pub copies-are : m .copies ≡ argumentCopies called arguments W
+
+-- The head of a program's list: its definitions, and then its main part.
+pub record ProgramMeasured (called : ℕ → ℕ → Bool) (program : Items) (m : StatementMeasures) : Type 0 where
+  pub rows-are : m .rows ≡ limited (programSize called program)
+  pub levels-are : m .levels ≡ limited (programLevels called program)
+  pub labels-are : m .labels ≡ limited (programLabels program)
+
 -- ---- the table
 
 -- The words of a row, and where each measure stands among them.
 abbrev pub width : ℕ
-width = 18
+width = 19
+
+-- Those before the last are sums, and small.
+abbrev pub sums : ℕ
+sums = 18
 
 abbrev pub rowsSlot : ℕ
 rowsSlot = 0
@@ -132,6 +155,9 @@ armsLevelsSlot = 16
 abbrev pub armsLabelsSlot : ℕ
 armsLabelsSlot = 17
 
+abbrev pub copiesSlot : ℕ
+copiesSlot = 18
+
 -- The measures of an expression, by the use of its value.
 abbrev pub rowsFor : Use → ℕ
 rowsFor dropped = droppedRowsSlot
@@ -145,11 +171,11 @@ levelsFor (stored i) = storedLevelsSlot
 
 pub record RowsWord (u : Use) (k : ℕ) : Type 0 where
   pub is : k ≡ rowsFor u
-  pub inside : k < width
+  pub inside : k < sums
 
 pub record LevelsWord (u : Use) (k : ℕ) : Type 0 where
   pub is : k ≡ levelsFor u
-  pub inside : k < width
+  pub inside : k < sums
 
 abbrev pub slot : List ℕ → ℕ → ℕ → ℕ
 slot table row k = getD table (width * row + k) 0
@@ -164,9 +190,9 @@ pub record SlotAsks (table : List ℕ) (link k : ℕ) : Type 0 where
   pub held : 0 < link → width * link + k < length table
   pub small : slotAt table link k ≤ 65536
 
--- All words of the link.
+-- All sums of the link.
 abbrev pub LinkMeasured : List ℕ → ℕ → Type 0
-LinkMeasured table link = (k : ℕ) → k < width → SlotAsks table link k
+LinkMeasured table link = (k : ℕ) → k < sums → SlotAsks table link k
 
 pub record SlotIs (table : List ℕ) (link k r : ℕ) : Type 0 where
   pub is : r ≡ slotAt table link k
@@ -174,7 +200,7 @@ pub record SlotIs (table : List ℕ) (link k r : ℕ) : Type 0 where
 
 abbrev pub expressionSlots : List ℕ → ℕ → ExpressionMeasures
 expressionSlots table row =
-    record { rows = slot table row rowsSlot; levels = slot table row levelsSlot; value = slot table row valueSlot; copied = slot table row copiedSlot; «dropped_rows» = slot table row droppedRowsSlot; «dropped_levels» = slot table row droppedLevelsSlot; «stored_levels» = slot table row storedLevelsSlot }
+    record { rows = slot table row rowsSlot; levels = slot table row levelsSlot; value = slot table row valueSlot; copied = slot table row copiedSlot; «dropped_rows» = slot table row droppedRowsSlot; «dropped_levels» = slot table row droppedLevelsSlot; «stored_levels» = slot table row storedLevelsSlot; copies = slot table row copiesSlot }
 
 abbrev pub statementSlots : List ℕ → ℕ → StatementMeasures
 statementSlots table row = record { rows = slot table row statementRowsSlot; levels = slot table row statementLevelsSlot; labels = slot table row statementLabelsSlot }
@@ -188,7 +214,7 @@ armsSlots table row = record { rows = slot table row armsRowsSlot; levels = slot
 -- The words of a row.
 abbrev pub rowWords : ExpressionMeasures → StatementMeasures → ListMeasures → StatementMeasures → List ℕ
 rowWords e s l a =
-    e .rows ∷ e .levels ∷ e .value ∷ s .rows ∷ s .levels ∷ s .labels ∷ l .rows ∷ l .levels ∷ l .labels ∷ l .cases ∷ l .default ∷ e .copied ∷ e .«dropped_rows» ∷ e .«dropped_levels» ∷ e .«stored_levels» ∷ a .rows ∷ a .levels ∷ a .labels ∷ []
+    e .rows ∷ e .levels ∷ e .value ∷ s .rows ∷ s .levels ∷ s .labels ∷ l .rows ∷ l .levels ∷ l .labels ∷ l .cases ∷ l .default ∷ e .copied ∷ e .«dropped_rows» ∷ e .«dropped_levels» ∷ e .«stored_levels» ∷ a .rows ∷ a .levels ∷ a .labels ∷ e .copies ∷ []
 
 -- A loop's test: its code and 5 rows, where it is there.
 abbrev pub testSlots : List ℕ → ℕ → ℕ

@@ -6,7 +6,7 @@ pub mod uses; // uses.rt: what goes by the use of a value
 
 // The words of a row in the table of measures, and where each measure stands among them: of the row as an expression, as a statement,
 // of the list from it on, and of the arms from it on.
-pub const WIDTH: usize = 18;
+pub const WIDTH: usize = 19;
 
 pub const ROWS: usize = 0;
 
@@ -44,6 +44,8 @@ pub const ARMS_LEVELS: usize = 16;
 
 pub const ARMS_LABELS: usize = 17;
 
+pub const COPIES: usize = 18;
+
 // What an expression's own row brings: the rows of its operands, of which 0 is absent, the first two worked out before all else, the
 // second `above` levels above the first, the others in branches; the use of the first one's value, and whether the second one's is used as
 // the expression's is; the kernel rows and the levels of its own code, where the value is wanted, dropped, and stored in a variable, which
@@ -79,7 +81,8 @@ pub enum Holder {
 }
 
 // The measures of an expression: kernel rows, levels, the row that its value comes from, and 1 where the value of its first operand is
-// copied, because the second one can write it, else 0; rows and levels where its value is dropped, and levels where it is stored.
+// copied, because the second one can write it, else 0; rows and levels where its value is dropped, and levels where it is stored; and of a
+// call which arguments are copied, as the binary digits of a number, the first argument's lowest.
 pub struct ExpressionMeasures {
     pub rows: usize,
     pub levels: usize,
@@ -88,6 +91,17 @@ pub struct ExpressionMeasures {
     pub dropped_rows: usize,
     pub dropped_levels: usize,
     pub stored_levels: usize,
+    pub copies: usize,
+}
+
+// The measures of a call's arguments from one on: kernel rows, levels, the temporaries that they take, their number, and which are copied, as
+// binary digits.
+pub struct Passed {
+    pub rows: usize,
+    pub levels: usize,
+    pub taken: usize,
+    pub count: usize,
+    pub copies: usize,
 }
 
 // The measures of a statement, and of the arms from an arm on: kernel rows, levels, labels.

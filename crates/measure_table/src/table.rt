@@ -3,6 +3,7 @@ use super::ARMS_LABELS;
 use super::ARMS_LEVELS;
 use super::ARMS_ROWS;
 use super::COPIED;
+use super::COPIES;
 use super::DROPPED_LEVELS;
 use super::DROPPED_ROWS;
 use super::ExpressionMeasures;
@@ -88,4 +89,5 @@ pub fn set_measures(
     table[at + ARMS_ROWS] = arms.rows;
     table[at + ARMS_LEVELS] = arms.levels;
     table[at + ARMS_LABELS] = arms.labels;
+    table[at + COPIES] = expression.copies;
 }

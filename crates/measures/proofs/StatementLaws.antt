@@ -15,7 +15,7 @@ use Rattle.translation.specs.declared.Use.the-variants.{Dropped as dropped, Wan
 use Rattle.translation.specs.Translate.{atomOf, taken, labels, armsLabels, itemsLabels, expressionLevels, operandLevels, statementLevels, armsLevels, itemsLevels}
 use Rattle.translation.specs.TranslateBounds.{taken-most}
 use Rattle.translation.specs.TranslateSize.{expressionSize, operandSize, testSize, statementSize, armsSize, itemsSize, cases}
-use Rattle.shapes.specs.Shapes.{statementTree, Onward, OptionalOnward, ItemAt, ArmAt}
+use Rattle.shapes.specs.Shapes.{statementTree, Onward, OptionalOnward, Initial, ItemAt, ArmAt}
 use Rattle.shapes.specs.Source.{StatementAt}
 use Rattle.shapes.specs.ShapeLaws.{optional}
 use Rattle.shapes.specs.declared.StatementShape.{StatementShape}
@@ -212,13 +212,24 @@ module _ {rows : List ℤ} {table : List ℕ} {row : ℕ} (m : MeasuredFrom rows
   rounds-shape {arms} f h =
       by-shape f h (rounds-measured (armListAt rows arms) _ _ _ (arms-rows rows table m arms (f .onward)) (arms-levels rows table m arms (f .onward)) (arms-labels rows table m arms (f .onward)))
 
+  -- an absent expression takes nothing, as a constant does
+  initial-rows : (i e : ℕ) → Initial rows row e → slotAt table e (rowsFor (stored i)) ≡ limited (expressionSize (calledIn rows) (expressionAt rows e) (stored i))
+  unfolding limited expressionSize
+  initial-rows i zero o = rw (o .absent refl)
+  initial-rows i (suc e) o = some-rows (stored i) (suc e) (o .onward (omega arith))
+
+  initial-levels : (i e : ℕ) → Initial rows row e → slotAt table e (levelsFor (stored i)) ≡ limited (expressionLevels (calledIn rows) (expressionAt rows e) (stored i))
+  unfolding limited expressionLevels
+  initial-levels i zero o = rw (o .absent refl)
+  initial-levels i (suc e) o = some-levels (stored i) (suc e) (o .onward (omega arith))
+
   pub declare-measured : {i e store : ℕ} {r : StatementMeasures} → StatementAt rows row (Declare i e) → store ≡ pick (direct (expressionAt rows e)) 0 4 → r ≡ declareMeasures table store e → StatementMeasured (calledIn rows) (statementAt rows row) r
   unfolding statementSize statementLevels labels
   declare-measured {i} {e} {store} f p h =
       let o = f .onward .1 in
       by-shape f h (record {
-        rows-are = step store _ _ _ (ap limited p) (cut _ _ (some-rows (stored i) e o));
-        levels-are = some-levels (stored i) e o;
+        rows-are = step store _ _ _ (ap limited p) (cut _ _ (initial-rows i e o));
+        levels-are = initial-levels i e o;
         labels-are = small 0 (omega arith);
       })
 

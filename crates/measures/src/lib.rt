@@ -3,4 +3,5 @@
 pub mod arms; // arms.rt: the measures of arms
 pub mod lists; // lists.rt: the measures of a list
 pub mod pass; // pass.rt: the pass over the rows
+pub mod program; // program.rt: the measures of a program with its functions
 pub mod statements; // statements.rt: the measures of a statement

@@ -3,6 +3,7 @@ use super::arms::measured_arms;
 use super::lists::measured_list;
 use super::statements::measured_statement;
 use expression_measures::expressions::measured_expression;
+use function_writes::functions::fill_functions;
 use measure_table::table::set_measures;
 use row_writes::writes::fill_sets;
 ghost use Prim.Native.Nat.{_+_, _*_, _≤_, _<_};
@@ -34,12 +35,13 @@ fn measure_rows(store: usize, rows: &[i32], sets: &[u64], table: &mut [usize])
     }
 }
 
-// Fills the table of measures; the write sets are needed only here. The declared words begin at `store`.
+// Fills the table of measures; the write sets, those of the functions first, are needed only here. The declared words begin at `store`.
 pub fn measure(store: usize, rows: &[i32], table: &mut [usize])
     requires { ⌜ Source (now rows) × NamesFrom store (now rows) × (width * rowCount (now rows) ≤ length (now table)) ⌝ }
     ensures { λ _. ⌜ Measured (now (rows .entry)) (now (table .exit)) ⌝ }
 {
     let mut sets = [0u64; 10240];
+    fill_functions(store, rows, &mut sets);
     fill_sets(store, rows, &mut sets);
     measure_rows(store, rows, &sets, table);
 }

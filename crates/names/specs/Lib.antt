@@ -18,6 +18,8 @@ pub mod ScopeLaws
 pub mod ResolvedLaws
 -- Laws of meaning: a row's scope is the innermost declaration in whose scope it stands; a number means the innermost one that has it.
 pub mod MeaningLaws
+-- Laws of parameters: where nothing hides it, the number of a parameter means that parameter, at every row of its function.
+pub mod ParameterLaws
 -- Laws of resolved names: a declaration names its own word, a name its declaration's word or the header's variable.
 pub mod ResolvedNames
 -- The resolved table is structured as the table is, over a store with D words behind the first S.

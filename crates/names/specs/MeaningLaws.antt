@@ -1,5 +1,5 @@
 -- Laws of meaning: in a tree of rows a row's scope is the innermost declaration in whose scope it stands, and a number means the innermost one
--- that has the number.
+-- that has the number; where there is none, a parameter of the row's function.
 use mathlib.Core.Path.{_≡_, refl, sym, subst, ap, _∙_}
 use mathlib.Core.Bool.{true, false, _&&_, _||_}
 use mathlib.Core.Logic.{_⊎_, inl, inr}
@@ -15,11 +15,15 @@ use Rattle.words.specs.Laws.{by-cases, both, neither}
 use Rattle.words.specs.Links.{link}
 use Rattle.structure.specs.Structured.{Leads, Tree}
 use Rattle.structure.specs.LinkLaws.{by-owner}
-use Rattle.structure.specs.NoteLaws.{note-root, note-link}
-use Rattle.names.specs.Names.{inScope, scopeAt, meantFrom, meantAt}
+use Rattle.structure.specs.NoteLaws.{above-zero, note-root, note-link}
+use Rattle.row_roles.specs.Roles.{isDefinition}
+use Rattle.function_causes.specs.Functions.{functionAround}
+use Rattle.function_causes.specs.AroundLaws.{around-most as function-before, around-within, within-defines}
+use Rattle.parameter_causes.specs.Demands.{Parameter, firstParameter, nextParameter}
+use Rattle.names.specs.Names.{inScope, scopeAt, meantFrom, parameterFrom, parameterAt, meantAt}
 use Rattle.words.specs.Declarations.{isDeclaration, declarationsBefore, declarationCount}
-use Rattle.names.specs.Scope.{InScopeOf, next-item, along}
-use Rattle.names.specs.ScopeLaws.{scope-declared, scope-before, before-later}
+use Rattle.names.specs.Scope.{InScopeOf, next-item, along, SeesParameter}
+use Rattle.names.specs.ScopeLaws.{scope-declared, scope-before, before-later, parameter-outside}
 
 module _ (rows : List ℤ) (t : Tree rows) where
   leads-inside : (row field : ℕ) → Leads rows row field → row < rowCount rows
@@ -109,11 +113,63 @@ module _ (rows : List ℤ) (t : Tree rows) where
       (λ e. rw e (meant-from-holds outward (scopeAt rows declaration) number row (omega (arith, scope-before rows t declaration n, n))
       (λ some. through (scope-holds declaration n some) (h (eqb-false _ _ (neither _ _ e .0))))))
 
-  -- the row stands in the scope of what the number means
-  pub meant-holds : (row number : ℕ) → row < rowCount rows → (meantAt rows row number ≡ 0 → ⊥) → InScopeOf rows (meantAt rows row number) row
-  unfolding meantAt
-  meant-holds row number n =
+  -- the row stands in the scope of what is found
+  pub declared-holds : (row number : ℕ) → row < rowCount rows → (meantFrom 64 rows (scopeAt rows row) number ≡ 0 → ⊥) → InScopeOf rows (meantFrom 64 rows (scopeAt rows row) number) row
+  declared-holds row number n =
       meant-from-holds 64 (scopeAt rows row) number row (omega (arith, scope-before rows t row n, n)) (λ some. scope-holds row n some)
+
+  -- ---- parameters
+
+  -- Row 0 is a block.
+  module _ (block : isDeclaration rows 0 ≡ false) where
+    from-none : (most number : ℕ) → parameterFrom most rows 0 number ≡ 0
+    unfolding parameterFrom
+    from-none zero number = refl
+    from-none (suc most) number = rw block
+
+    parameter-row : {definition parameter : ℕ} → Parameter rows definition parameter → parameter < rowCount rows
+    parameter-row (firstParameter d leads) = leads .inside
+    parameter-row (nextParameter p leads) = leads .inside
+
+    -- what is found from a parameter on is a parameter
+    from-holds : (definition most parameter number : ℕ) → Parameter rows definition parameter → (parameterFrom most rows parameter number ≡ 0 → ⊥) → Parameter rows definition (parameterFrom most rows parameter number)
+    unfolding parameterFrom
+    from-holds definition zero parameter number p = λ some. absurd (some refl)
+    from-holds definition (suc most) parameter number p =
+        by-cases (isDeclaration rows parameter)
+        (λ d. by-cases (eqb (numberAt rows parameter 1) number) (λ e. rw (d, e) (λ some. p)) (λ e. rw (d, e) (go (ℕ-discrete (link rows parameter 5) 0) (λ q. from-holds definition most (link rows parameter 5) number q))))
+        (λ d. rw d (λ some. absurd (some refl)))
+      where
+        go : Dec (link rows parameter 5 ≡ 0)
+            → (Parameter rows definition (link rows parameter 5) → (parameterFrom most rows (link rows parameter 5) number ≡ 0 → ⊥) → Parameter rows definition (parameterFrom most rows (link rows parameter 5) number))
+            → (parameterFrom most rows (link rows parameter 5) number ≡ 0 → ⊥) → Parameter rows definition (parameterFrom most rows (link rows parameter 5) number)
+        go (yes z) rest some = absurd (some (ap (λ (x : ℕ). parameterFrom most rows x number) z ∙ from-none most number))
+        go (no z) rest some = rest (nextParameter p (t .forward parameter 5 (parameter-row p) (omega arith) (above-zero _ z))) some
+
+    parameter-holds : (definition number : ℕ) → isDefinition rows definition ≡ true → definition < rowCount rows → (parameterAt rows definition number ≡ 0 → ⊥) → Parameter rows definition (parameterAt rows definition number)
+    unfolding parameterAt
+    parameter-holds definition number d n =
+        by-cases (eqb definition 0) (λ e. rw e (λ some. absurd (some refl))) (λ e. rw e (go (ℕ-discrete (link rows definition 2) 0)))
+      where
+        go : Dec (link rows definition 2 ≡ 0) → (parameterFrom 64 rows (link rows definition 2) number ≡ 0 → ⊥) → Parameter rows definition (parameterFrom 64 rows (link rows definition 2) number)
+        go (yes z) some = absurd (some (ap (λ (x : ℕ). parameterFrom 64 rows x number) z ∙ from-none 64 number))
+        go (no z) some = from-holds definition 64 (link rows definition 2) number (firstParameter d (t .forward definition 2 n (omega arith) (above-zero _ z))) some
+
+    -- the row stands in the scope of what the number means, or sees it as a parameter of its function
+    pub meant-holds : (row number : ℕ) → row < rowCount rows → isDefinition rows 0 ≡ false → (meantAt rows row number ≡ 0 → ⊥)
+        → InScopeOf rows (meantAt rows row number) row ⊎ SeesParameter rows row (meantAt rows row number)
+    unfolding meantAt
+    meant-holds row number n root =
+        by-cases (eqb (meantFrom 64 rows (scopeAt rows row) number) 0)
+        (λ e. rw e (λ some. inr (sees (ℕ-discrete (functionAround rows row) 0) some)))
+        (λ e. rw e (λ some. inl (declared-holds row number n some)))
+      where
+        sees : Dec (functionAround rows row ≡ 0) → (parameterAt rows (functionAround rows row) number ≡ 0 → ⊥) → SeesParameter rows row (parameterAt rows (functionAround rows row) number)
+        sees (yes z) some = absurd (some (parameter-outside rows (functionAround rows row) number z))
+        sees (no z) some =
+            let within = around-within rows t row n z in
+            let most = function-before rows t row n in
+            record { definition = functionAround rows row; within = within; of = parameter-holds (functionAround rows row) number (within-defines rows t root within) (omega arith) some }
 
   module _ (declaration number : ℕ) (has : numberAt rows declaration 1 ≡ number) where
     -- A search that begins at a declaration ends at this one, or further in.
@@ -155,7 +211,11 @@ module _ (rows : List ℤ) (t : Tree rows) where
     -- "hiding the outer one": no declaration with the number stands further in
     pub meant-innermost : (row : ℕ) → row < rowCount rows → declarationCount rows ≤ 64 → InScopeOf rows declaration row → declaration ≤ meantAt rows row number
     unfolding meantAt declarationCount
-    meant-innermost row n few i = go (ℕ-discrete (scopeAt rows row) 0)
+    meant-innermost row n few i =
+        by-cases (eqb (meantFrom 64 rows (scopeAt rows row) number) 0)
+        (λ e. let least = go (ℕ-discrete (scopeAt rows row) 0) in let none : meantFrom 64 rows (scopeAt rows row) number ≡ 0 = eqb-true _ _ e in
+        let outermost : declaration ≡ 0 = omega (arith, least, none) in rw (e, outermost) (omega arith))
+        (λ e. rw e (go (ℕ-discrete (scopeAt rows row) 0)))
       where
         go : Dec (scopeAt rows row ≡ 0) → declaration ≤ meantFrom 64 rows (scopeAt rows row) number
         go (yes z) = let most = scope-innermost i in omega arith

@@ -1,5 +1,5 @@
--- Names: Change 11, names inside a block. The store word that a number means at a row, and the table in which each name stands for its
--- store word.
+-- Names: Change 11, names inside a block, and Change 13, parameters. The store word that a number means at a row, and the table in which each
+-- name stands for its store word.
 use mathlib.Core.Path.{_≡_}
 use mathlib.Core.Bool.{Bool, false, _&&_, _||_}
 use mathlib.Core.List.{List}
@@ -10,7 +10,8 @@ use lib.ListN.{length}
 use Rattle.words.specs.Word.{pick}
 use Rattle.words.specs.Table.{wordAt, numberAt}
 use Rattle.words.specs.Declarations.{isDeclaration, declarationsBefore, declarationLimit}
-use Rattle.words.specs.Links.{note}
+use Rattle.words.specs.Links.{link, note}
+use Rattle.function_causes.specs.Functions.{functionAround}
 use Rattle.grammar.specs.Grammar.{tabulate}
 
 -- The table of so many words that holds `word row field` in each field of each row.
@@ -54,9 +55,26 @@ meantFrom (suc outward) rows declaration number =
     let rest = meantFrom outward rows (scopeAt rows declaration) number in
     pick (eqb declaration 0 || eqb (numberAt rows declaration 1) number) declaration rest
 
--- The declaration that a number means at a row; 0 where it means the header's variable.
+-- The parameter with the number, from this one on through so many; 0 where there is none.
+unfoldable pub parameterFrom : ℕ → List ℤ → ℕ → ℕ → ℕ
+parameterFrom zero rows parameter number = 0
+parameterFrom (suc most) rows parameter number =
+    let rest = parameterFrom most rows (link rows parameter 5) number in
+    pick (isDeclaration rows parameter) (pick (eqb (numberAt rows parameter 1) number) parameter rest) 0
+
+-- The parameter that a number means in the function that a row defines; 0 where there is none, and where the row is 0. "Parameters count in
+-- D", so there are no more of them than declarations.
+unfoldable pub parameterAt : List ℤ → ℕ → ℕ → ℕ
+parameterAt rows definition number =
+    let first = link rows definition 2 in
+    pick (eqb definition 0) 0 (parameterFrom declarationLimit rows first number)
+
+-- The declaration that a number means at a row; 0 where it means the header's variable. "Parameters count .. for scope .. as c's first items":
+-- what a function's block declares hides them, and definitions come first, so that nothing else is declared around them.
 unfoldable pub meantAt : List ℤ → ℕ → ℕ → ℕ
-meantAt rows row number = meantFrom declarationLimit rows (scopeAt rows row) number
+meantAt rows row number =
+    let declaration = meantFrom declarationLimit rows (scopeAt rows row) number in
+    pick (eqb declaration 0) (parameterAt rows (functionAround rows row) number) declaration
 
 -- ---- the resolved table
 

@@ -1,12 +1,20 @@
--- Laws of two tables with the same links: what is said along the links of one holds of the other.
-use mathlib.Core.Path.{_≡_, refl, ap, subst, _∙_}
+-- Laws of two tables with the same links: what is said along the links of one holds of the other; so do the roles of rows.
+use mathlib.Core.Path.{_≡_, refl, sym, ap, subst, _∙_}
+use mathlib.Core.Bool.{true, false, true≢false}
 use mathlib.Core.List.{List}
 use Prim.Native.Nat.{ℕ, zero, suc, _+_, _*_, _/_, _%_, _<_}
 use native.Mathlib.Omega.{arith}
 use lib.IntN.{ℤ}
+use lib.Dec.{eqb}
 use lib.ListN.{length}
-use Rattle.words.specs.Table.{rowCount}
+use Rattle.words.specs.Table.{rowCount, numberAt}
+use Rattle.words.specs.Laws.{by-cases}
 use Rattle.words.specs.Links.{link, target}
+use Rattle.words.specs.Kinds.{sortAt}
+use Rattle.words.specs.Declarations.{isDeclaration}
+use Rattle.row_roles.specs.Roles.{isDefinition, isParameter, roleSort}
+use Rattle.row_roles.specs.Demands.{AsParameter, by-definition, by-parameter}
+use Rattle.row_roles.specs.RoleLaws.{is-parameter, parameter-is}
 use Rattle.structure.specs.Links.{linksAmong, linkCount}
 use Rattle.structure.specs.Structured.{Leads, Depth, root, owned, beside, Tree}
 use Rattle.structure.specs.Lists.{Before, adjacent, further}
@@ -45,3 +53,26 @@ module _ (rows other : List ℤ) (same-length : length other ≡ length rows) (s
   pub same-before : {item row : ℕ} → Before rows item row → Before other item row
   same-before (adjacent {item} leads) = subst (Before other item) (same-links item 5 (omega arith)) (adjacent (same-leads (omega arith) leads))
   same-before (further {item} {row} b leads) = subst (Before other item) (same-links row 5 (omega arith)) (further (same-before b) (same-leads (omega arith) leads))
+
+-- ---- roles: of tables with the same kinds, the same b and the same next
+
+as-parameter : (rows other : List ℤ) → ((row : ℕ) → numberAt other row 0 ≡ numberAt rows row 0) → ((row : ℕ) → numberAt other row 2 ≡ numberAt rows row 2) → ((row : ℕ) → numberAt other row 5 ≡ numberAt rows row 5)
+    → {row : ℕ} → AsParameter rows row → AsParameter other row
+unfolding isDeclaration isDefinition
+as-parameter rows other kinds second next (by-definition {owner} {row} l d f e) =
+    by-definition l (ap (λ (k : ℕ). eqb k 58) (kinds row) ∙ d) (ap (λ (k : ℕ). eqb k 59) (kinds owner) ∙ f) (second owner ∙ e)
+as-parameter rows other kinds second next (by-parameter {owner} {row} l d p e) =
+    by-parameter l (ap (λ (k : ℕ). eqb k 58) (kinds row) ∙ d) (as-parameter rows other kinds second next p) (next owner ∙ e)
+
+module _ (rows other : List ℤ) (kinds : (row : ℕ) → numberAt other row 0 ≡ numberAt rows row 0) (second : (row : ℕ) → numberAt other row 2 ≡ numberAt rows row 2) (next : (row : ℕ) → numberAt other row 5 ≡ numberAt rows row 5) where
+  pub same-parameter : (row : ℕ) → isParameter other row ≡ isParameter rows row
+  same-parameter row =
+      by-cases (isParameter rows row)
+      (λ p. parameter-is other row (as-parameter rows other kinds second next (is-parameter rows row p)) ∙ sym p)
+      (λ p. by-cases (isParameter other row)
+      (λ q. absurd (true≢false (sym (parameter-is rows row (as-parameter other rows (λ r. sym (kinds r)) (λ r. sym (second r)) (λ r. sym (next r)) (is-parameter other row q))) ∙ p)))
+      (λ q. q ∙ sym p))
+
+  pub same-role : (row field : ℕ) → roleSort other row field ≡ roleSort rows row field
+  unfolding roleSort sortAt
+  same-role row field = rw (same-parameter row, kinds row)

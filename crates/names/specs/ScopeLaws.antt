@@ -1,5 +1,5 @@
 -- Laws of scope: what a row's scope and a number's meaning are; a declaration's word is its own.
-use mathlib.Core.Path.{_≡_, refl}
+use mathlib.Core.Path.{_≡_, refl, sym, _∙_}
 use mathlib.Core.Bool.{Bool, true, false, _&&_, _||_}
 use mathlib.Core.Logic.{_⊎_, inl, inr}
 use mathlib.Core.List.{List}
@@ -13,13 +13,15 @@ use borrow.Author.Tests.{eqb-true}
 use Rattle.words.specs.Word.{pick, natural}
 use Rattle.words.specs.Table.{rowCount, numberAt}
 use Rattle.words.specs.Laws.{by-cases, both}
-use Rattle.words.specs.Links.{linker, received, noteBy, note}
+use Rattle.words.specs.Links.{link, linker, received, noteBy, note}
 use Rattle.words.specs.declared.Found.{Found}
 use Rattle.words.specs.declared.Found.the-variants.{At, Nothing}
 use Rattle.structure.specs.Structured.{Tree}
-use Rattle.structure.specs.LinkLaws.{by-owner}
+use Rattle.structure.specs.LinkLaws.{by-owner, part-inside}
 use Rattle.structure.specs.NoteLaws.{note-root, note-link}
-use Rattle.names.specs.Names.{NoDeclaration, inScope, scopeAt, wordOf, meantFrom, meantAt}
+use Rattle.function_causes.specs.Functions.{functionAround}
+use Rattle.function_causes.specs.AroundLaws.{around-most}
+use Rattle.names.specs.Names.{NoDeclaration, inScope, scopeAt, wordOf, meantFrom, parameterFrom, parameterAt, meantAt}
 use Rattle.names.specs.TableLaws.{word-beyond}
 use Rattle.words.specs.Declarations.{isDeclaration, declarationsBefore, declarationCount}
 
@@ -51,9 +53,12 @@ module _ (rows : List ℤ) where
   unfolding scopeAt inScope
   scope-declared row = noted NoneOrDeclared (inScope rows) 0 rows (inl refl) (λ owner field own h. by-cases (eqb field 5 && isDeclaration rows owner) (λ e. rw e (inr (both (eqb field 5) (isDeclaration rows owner) e .1))) (λ e. rw e h)) row
 
+  -- None, or a declaration with the number.
+  abbrev pub NoneOrNumbered : ℕ → ℕ → Type 0
+  NoneOrNumbered number row = (row ≡ 0) ⊎ ((isDeclaration rows row ≡ true) × (numberAt rows row 1 ≡ number))
+
   -- the declaration that a number means has that number
-  pub meant-from : (outward declaration number : ℕ) → NoneOrDeclared declaration
-      → (meantFrom outward rows declaration number ≡ 0) ⊎ ((isDeclaration rows (meantFrom outward rows declaration number) ≡ true) × (numberAt rows (meantFrom outward rows declaration number) 1 ≡ number))
+  pub meant-from : (outward declaration number : ℕ) → NoneOrDeclared declaration → NoneOrNumbered number (meantFrom outward rows declaration number)
   unfolding meantFrom
   meant-from zero declaration number h = inl refl
   meant-from (suc outward) declaration number (inl z) = inl (rw z refl)
@@ -62,9 +67,38 @@ module _ (rows : List ℤ) where
       (λ e. rw e (by-cases (eqb declaration 0) (λ z. inl (eqb-true _ _ z)) (λ z. inr (d, eqb-true _ _ (rw z at e)))))
       (λ e. rw e (meant-from outward (scopeAt rows declaration) number (scope-declared declaration)))
 
-  pub meant-declared : (row number : ℕ) → (meantAt rows row number ≡ 0) ⊎ ((isDeclaration rows (meantAt rows row number) ≡ true) × (numberAt rows (meantAt rows row number) 1 ≡ number))
+  -- so has the parameter
+  parameter-from : (most parameter number : ℕ) → NoneOrNumbered number (parameterFrom most rows parameter number)
+  unfolding parameterFrom
+  parameter-from zero parameter number = inl refl
+  parameter-from (suc most) parameter number =
+      by-cases (isDeclaration rows parameter)
+      (λ d. by-cases (eqb (numberAt rows parameter 1) number) (λ e. rw (d, e) (inr (d, eqb-true _ _ e))) (λ e. rw (d, e) (parameter-from most (link rows parameter 5) number)))
+      (λ d. rw d (inl refl))
+
+  pub parameter-numbered : (definition number : ℕ) → NoneOrNumbered number (parameterAt rows definition number)
+  unfolding parameterAt
+  parameter-numbered definition number =
+      by-cases (eqb definition 0) (λ e. rw e (inl refl)) (λ e. rw e (parameter-from 64 (link rows definition 2) number))
+
+  pub parameter-outside : (definition number : ℕ) → definition ≡ 0 → parameterAt rows definition number ≡ 0
+  unfolding parameterAt
+  parameter-outside definition number e = rw e
+
+  pub meant-declared : (row number : ℕ) → NoneOrNumbered number (meantAt rows row number)
   unfolding meantAt
-  meant-declared row number = meant-from 64 (scopeAt rows row) number (scope-declared row)
+  meant-declared row number =
+      by-cases (eqb (meantFrom 64 rows (scopeAt rows row) number) 0)
+      (λ e. rw e (parameter-numbered (functionAround rows row) number))
+      (λ e. rw e (meant-from 64 (scopeAt rows row) number (scope-declared row)))
+
+  -- outside every function a number means what is declared around the row
+  pub meant-outside : (row number : ℕ) → functionAround rows row ≡ 0 → meantAt rows row number ≡ meantFrom 64 rows (scopeAt rows row) number
+  unfolding meantAt
+  meant-outside row number e =
+      by-cases (eqb (meantFrom 64 rows (scopeAt rows row) number) 0)
+      (λ z. rw z (parameter-outside (functionAround rows row) number e ∙ sym (eqb-true _ _ z)))
+      (λ z. rw z)
 
   -- ---- words of declarations
 
@@ -107,8 +141,12 @@ module _ (rows : List ℤ) where
         own-kept false own owner h = h
 
     pub meant-none : (row number : ℕ) → meantAt rows row number ≡ 0
-    unfolding meantAt meantFrom
-    meant-none row number = rw (scope-none row)
+    unfolding meantAt meantFrom parameterAt parameterFrom
+    meant-none row number = rw (scope-none row, none (link rows (functionAround rows row) 2)) (either (eqb (functionAround rows row) 0))
+      where
+        either : (b : Bool) → _≡_ {A = ℕ} (pick b 0 0) 0
+        either true = refl
+        either false = refl
 
 -- ---- in a tree of rows
 
@@ -133,6 +171,20 @@ module _ (rows : List ℤ) (t : Tree rows) where
       by-cases (eqb declaration 0 || eqb (numberAt rows declaration 1) number) (λ e. rw e n)
       (λ e. rw e (meant-from-inside outward (scopeAt rows declaration) number (omega (arith, scope-before declaration n, n))))
 
+  parameter-inside : (most parameter number : ℕ) → parameter < rowCount rows → parameterFrom most rows parameter number < rowCount rows
+  unfolding parameterFrom
+  parameter-inside zero parameter number n = omega arith
+  parameter-inside (suc most) parameter number n =
+      by-cases (isDeclaration rows parameter)
+      (λ d. by-cases (eqb (numberAt rows parameter 1) number) (λ e. rw (d, e) n)
+      (λ e. rw (d, e) (parameter-inside most (link rows parameter 5) number (part-inside rows t parameter 5 (link rows parameter 5) n (omega arith) refl))))
+      (λ d. rw d (omega arith))
+
   pub meant-inside : (row number : ℕ) → row < rowCount rows → meantAt rows row number < rowCount rows
-  unfolding meantAt
-  meant-inside row number n = meant-from-inside 64 (scopeAt rows row) number (omega (arith, scope-before row n, n))
+  unfolding meantAt parameterAt
+  meant-inside row number n =
+      by-cases (eqb (meantFrom 64 rows (scopeAt rows row) number) 0)
+      (λ e. by-cases (eqb (functionAround rows row) 0) (λ z. rw (e, z) (omega arith))
+      (λ z. let inside : functionAround rows row < rowCount rows = omega (arith, around-most rows t row n) in
+      rw (e, z) (parameter-inside 64 (link rows (functionAround rows row) 2) number (part-inside rows t (functionAround rows row) 2 (link rows (functionAround rows row) 2) inside (omega arith) refl))))
+      (λ e. rw e (meant-from-inside 64 (scopeAt rows row) number (omega (arith, scope-before row n, n))))

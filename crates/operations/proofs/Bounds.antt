@@ -8,7 +8,9 @@ use lib.IntN.{ℤ}
 use lib.ListN.{length, getD, take}
 use Rattle.words.specs.Layout.{Layout, sum, storeSize, arrayLength, arrayBase}
 use Rattle.words.specs.Laws.{arrayBase-next, array-in-store}
-use Rattle.operations.specs.Bounds.{boundsFrom, boundsOf, layoutFrom}
+use Rattle.language.specs.Functions.{functionCount}
+use Rattle.language.specs.Program.{contents}
+use Rattle.operations.specs.Bounds.{boundsFrom, boundsOf, layoutFrom, arrayBounds, layoutIn}
 use Rattle.operations.specs.Ready.{Bounded, Setting}
 
 bounds-length : (base : ℕ) (ns : List ℕ) → length (boundsFrom base ns) ≡ suc (length ns)
@@ -54,6 +56,36 @@ module _ (bounds : List ℕ) (words : ℕ) (are : bounds ≡ boundsOf (layoutFro
         bounded = record { inside = omega arith; ordered = omega arith; small = omega arith };
       }
 
-module _ {rows : List ℤ} {bounds : List ℕ} {words : ℕ} (setting : Setting rows bounds words) (array : ℕ) (h : array < length (layoutFrom bounds .lengths)) where
-  pub lies : Lies (layoutFrom bounds) bounds array
-  lies = lies-in bounds words (setting .bounds-are) (setting .sound .store-fits) (setting .few-words) array h
+-- the first words of a list
+taken-word : (l : List ℕ) (n i : ℕ) → i < length (take n l) → getD l i 0 ≡ getD (take n l) i 0
+taken-word [] zero i h = refl
+taken-word [] (suc n) i h = refl
+taken-word (x ∷ l) zero i h = absurd (omega arith)
+taken-word (x ∷ l) (suc n) zero h = refl
+taken-word (x ∷ l) (suc n) (suc i) h = taken-word l n i (omega arith)
+
+-- so what the first words of a longer list say, it says
+lies-longer : (L : Layout) (list : List ℕ) (n array : ℕ) → Lies L (take n list) array → Lies L list array
+lies-longer L list n array l =
+    let inside = l .bounded .inside in
+    let here = taken-word list n array (omega arith) in
+    let next = taken-word list n (array + 1) (omega arith) in
+    let fewer = take-most list n in
+    record {
+      base = here ∙ l .base;
+      span = omega (arith, l .span);
+      bounded = record { inside = omega arith; ordered = omega (arith, l .bounded .ordered); small = omega (arith, l .bounded .small) };
+    }
+  where
+    take-most : (l : List ℕ) (n : ℕ) → length (take n l) ≤ length l
+    take-most [] zero = omega arith
+    take-most [] (suc n) = omega arith
+    take-most (x ∷ l) zero = omega arith
+    take-most (x ∷ l) (suc n) = let less = take-most l n in omega arith
+
+module _ {rows : List ℤ} {bounds : List ℕ} {words : ℕ} (setting : Setting rows bounds words) (array : ℕ) (h : array < length (layoutIn rows bounds .lengths)) where
+  pub lies : Lies (layoutIn rows bounds) bounds array
+  unfolding layoutIn
+  lies =
+      lies-longer (layoutIn rows bounds) bounds (length bounds - functionCount (contents rows)) array
+      (lies-in (arrayBounds (functionCount (contents rows)) bounds) words (setting .bounds-are) (setting .sound .store-fits) (setting .few-words) array h)

@@ -21,7 +21,7 @@ use Rattle.computation.specs.Computation.{Computation, settle}
 use Rattle.computation.specs.Remaining.{Rest, gives, halts, onward, leftOf, spend, left-never-rises}
 use Rattle.language.specs.Sound.{Link, PlaceLink}
 use Rattle.operations.specs.Answers.{stopOf, operandOf, operandRest, answered, positionOf, placed, Settles, Fetches, Negates}
-use Rattle.operations.specs.Bounds.{layoutFrom}
+use Rattle.operations.specs.Bounds.{layoutIn}
 use Rattle.operations.specs.Ready.{Setting, Ready, ReadyPlace, Entered}
 use Rattle.operations.specs.declared.Operand.{Operand}
 use Rattle.operations.specs.declared.Operand.the-variants.{Value, Halted}
@@ -119,7 +119,7 @@ module _ {rows : List ℤ} {bounds : List ℕ} {words row : ℕ} (here : Ready r
   pub resize : {size : ℕ} → size ≡ words → Setting rows bounds size
   resize e = rw e (here .setting)
 
-  module _ {field : ℕ} (link : Link rows (layoutFrom bounds) words row field) where
+  module _ {field : ℕ} (link : Link rows (layoutIn rows bounds) words row field) where
     pub link-asks : field < 6 → (6 * row + field < length rows) × (numberAt rows row field < 2147483648)
     link-asks h = (omega (arith, here .setting .sound .whole, here .below), omega (arith, link .inside, here .setting .few-rows))
 
@@ -127,7 +127,7 @@ module _ {rows : List ℤ} {bounds : List ℕ} {words row : ℕ} (here : Ready r
       pub linked : {size : ℕ} → size ≡ words → Ready rows bounds size l
       linked q = record { setting = resize q; below = rw e (link .inside) }
 
-  module _ {field : ℕ} (link : PlaceLink rows (layoutFrom bounds) words row field) {l : ℕ} (e : l ≡ numberAt rows row field) where
+  module _ {field : ℕ} (link : PlaceLink rows (layoutIn rows bounds) words row field) {l : ℕ} (e : l ≡ numberAt rows row field) where
     pub linked-place : {size : ℕ} → size ≡ words → ReadyPlace rows bounds size l
     linked-place q = record { ready = linked (link .0) e q; place-is = rw e (link .1) }
 
@@ -136,7 +136,7 @@ module _ {rows : List ℤ} {bounds : List ℕ} {words row : ℕ} (here : Entered
   pub array-asks : (6 * row + 1 < length rows) × (numberAt rows row 1 < 2147483648)
   array-asks = (field-inside (here .ready) 1 (omega arith), omega (arith, element-array here, here .ready .setting .few-arrays))
 
-  pub array-is : {array : ℕ} → array ≡ numberAt rows row 1 → array < length (layoutFrom bounds .lengths)
+  pub array-is : {array : ℕ} → array ≡ numberAt rows row 1 → array < length (layoutIn rows bounds .lengths)
   array-is e = rw e (element-array here)
 
 -- ---- tests

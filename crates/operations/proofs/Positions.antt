@@ -17,7 +17,7 @@ use Rattle.words.specs.declared.ExpressionKind.the-variants.{Variable, Element}
 use Rattle.computation.specs.Computation.{settle}
 use Rattle.computation.specs.Remaining.{Rest, gives, halts, onward, spend}
 use Rattle.operations.specs.Answers.{operandOf, positionOf, placed}
-use Rattle.operations.specs.Bounds.{layoutFrom}
+use Rattle.operations.specs.Bounds.{layoutIn}
 use Rattle.operations.specs.Ready.{ReadyPlace, Entered}
 use Rattle.operations.specs.Rows.{valueAt, locateAt, placeAt}
 use Rattle.operations.specs.declared.Position.{Position}
@@ -43,15 +43,15 @@ module _ {rows : List ℤ} {bounds : List ℕ} {words row : ℕ} where
       array : ℕ
       array = numberAt rows row 1
 
-      position : (o : Outcome ℕ) (v : ℤ) (n : ℕ) (s : List ℤ) → o ≡ element (arrayBase (layoutFrom bounds) array) (arrayLength (layoutFrom bounds) array) v → spend (settle o) n s ≡ gives i k t → i < words
+      position : (o : Outcome ℕ) (v : ℤ) (n : ℕ) (s : List ℤ) → o ≡ element (arrayBase (layoutIn rows bounds) array) (arrayLength (layoutIn rows bounds) array) v → spend (settle o) n s ≡ gives i k t → i < words
       position (value j) v n s q e =
           let same : j ≡ i = cc in
           let inside = element-inside _ _ v j (sym q) in
-          omega (arith, inside .most, array-in-store (layoutFrom bounds) array (element-array here), here .ready .setting .sound .store-fits)
+          omega (arith, inside .most, array-in-store (layoutIn rows bounds) array (element-array here), here .ready .setting .sound .store-fits)
       position (fault sort) v n s q e = let z : _≡_ {A = ℕ} 0 1 = cc in omega arith
 
-      index : (m : Rest ℤ) → onward m (λ v n s. spend (settle (element (arrayBase (layoutFrom bounds) array) (arrayLength (layoutFrom bounds) array) v)) n s) ≡ gives i k t → i < words
-      index (gives v n s) e = position (element (arrayBase (layoutFrom bounds) array) (arrayLength (layoutFrom bounds) array) v) v n s refl e
+      index : (m : Rest ℤ) → onward m (λ v n s. spend (settle (element (arrayBase (layoutIn rows bounds) array) (arrayLength (layoutIn rows bounds) array) v)) n s) ≡ gives i k t → i < words
+      index (gives v n s) e = position (element (arrayBase (layoutIn rows bounds) array) (arrayLength (layoutIn rows bounds) array) v) v n s refl e
       index (halts why n s) e = let z : _≡_ {A = ℕ} 0 1 = cc in omega arith
 
   -- a place is a variable or an element

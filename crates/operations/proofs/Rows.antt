@@ -1,15 +1,16 @@
 -- What follows the entry of a row of a sound table, by its kind: where the links of the row lead, from the sorts of its fields, and what the tree
 -- at the row does, told by the steps left. The links are given as the code has them.
 use mathlib.Core.Path.{_≡_, refl, sym, ap, ap₂, _∙_}
-use mathlib.Core.Bool.{Bool, true, false, true≢false}
+use mathlib.Core.Bool.{Bool, true, false}
 use mathlib.Core.List.{List}
 use Prim.Native.Nat.{ℕ, _+_, _*_, _≤_, _<_}
 use native.Mathlib.Omega.{arith}
+use lib.Dec.{eqb}
 use lib.IntN.{ℤ, pos}
 use lib.ListN.{length, getD, set}
 use Rattle.words.specs.Word.{pick}
 use Rattle.words.specs.Table.{rowCount, wordAt, numberAt}
-use Rattle.words.specs.Kinds.{kindOf, isExpressionKind, place, isRequired, expressionFields, kindRow, sortIn, isFunctionNumber}
+use Rattle.words.specs.Kinds.{kindOf, isExpressionKind, place, isRequired, expressionFields, kindRow, sortIn}
 use Rattle.words.specs.KindLaws.{kind-numbered, no-expression}
 use Rattle.words.specs.Layout.{arrayBase, arrayLength}
 use Rattle.arithmetic.specs.Arithmetic.{isTrue, truth, logicalNot, apply, minus as minusWord, element as elementWord}
@@ -25,8 +26,8 @@ use Rattle.language.specs.DecodeLaws.{at-no-expression, at-constant, at-variabl
 use Rattle.language.specs.Meaning.{evaluate, locate, update, oldValue, newValue}
 use Rattle.language.specs.Functions.{contextOf}
 use Rattle.language.specs.Sound.{Link, PlaceLink}
-use Rattle.language.specs.SoundLaws.{field-of, link-of, place-link-of}
-use Rattle.operations.specs.Bounds.{layoutFrom}
+use Rattle.language.specs.SoundLaws.{always, field-of, link-of, place-link-of}
+use Rattle.operations.specs.Bounds.{layoutIn}
 use Rattle.operations.specs.Ready.{Ready, Entered}
 use Rattle.operations.specs.Rows.{contextAt, valueAt, evaluateAt, locateAt, placeAt}
 use Rattle.operations.proofs.Enter.{onward-same, forks}
@@ -53,7 +54,7 @@ module _ {rows : List ℤ} {bounds : List ℕ} {words row : ℕ} where
     whole = here .ready .setting .sound .whole
 
     -- a field that links a row
-    abbrev pub link : (field : ℕ) → 1 ≤ field → field < 6 → isRequired (sortIn kind field) ≡ true → Link rows (layoutFrom bounds) words row field
+    abbrev pub link : (field : ℕ) → 1 ≤ field → field < 6 → always isRequired kind field ≡ true → Link rows (layoutIn rows bounds) words row field
     link = link-of (here .ready .setting .sound) (here .ready .below) (here .kind-is)
 
   -- ---- kinds 1 to 3
@@ -64,7 +65,7 @@ module _ {rows : List ℤ} {bounds : List ℕ} {words row : ℕ} where
 
   pub variable-inside : Entered rows bounds words row (OfExpression Variable) → numberAt rows row 1 < words
   unfolding sortIn kindRow expressionFields
-  variable-inside here = field-of (here .ready .setting .sound) (here .ready .below) (here .kind-is) 1 (omega arith) (omega arith) .names-word refl
+  variable-inside here = field-of (here .ready .setting .sound) (here .ready .below) (here .kind-is) 1 (omega arith) (omega arith) refl .names-word refl
 
   pub variable-row : Entered rows bounds words row (OfExpression Variable) → {i : ℕ} → i ≡ numberAt rows row 1 → (n : ℕ) (s : List ℤ)
       → spend (evaluateAt rows bounds row) n s ≡ gives (getD s i (pos 0)) n s
@@ -77,11 +78,11 @@ module _ {rows : List ℤ} {bounds : List ℕ} {words row : ℕ} where
   place-variable-row here n s =
       ap (λ (x : Expression). spend (locate (contextAt rows bounds) (placeOf x)) n s) (at-variable rows (whole here) row (here .kind-is))
 
-  pub element-array : Entered rows bounds words row (OfExpression Element) → numberAt rows row 1 < length (layoutFrom bounds .lengths)
+  pub element-array : Entered rows bounds words row (OfExpression Element) → numberAt rows row 1 < length (layoutIn rows bounds .lengths)
   unfolding sortIn kindRow expressionFields
-  element-array here = field-of (here .ready .setting .sound) (here .ready .below) (here .kind-is) 1 (omega arith) (omega arith) .names-array refl
+  element-array here = field-of (here .ready .setting .sound) (here .ready .below) (here .kind-is) 1 (omega arith) (omega arith) refl .names-array refl
 
-  pub element-index : Entered rows bounds words row (OfExpression Element) → Link rows (layoutFrom bounds) words row 2
+  pub element-index : Entered rows bounds words row (OfExpression Element) → Link rows (layoutIn rows bounds) words row 2
   unfolding isRequired sortIn kindRow expressionFields
   element-index here = link here 2 (omega arith) (omega arith) refl
 
@@ -98,13 +99,13 @@ module _ {rows : List ℤ} {bounds : List ℕ} {words row : ℕ} where
       known rows bounds row _ n s t ∙ ap (λ (x : Expression). onward (spend (locate (contextAt rows bounds) (placeOf x)) n s) (λ i n s. gives (getD s i (pos 0)) n s)) (sym t)
 
   pub locate-row : Entered rows bounds words row (OfExpression Element) → {a b : ℕ} → a ≡ numberAt rows row 1 → b ≡ numberAt rows row 2 → (n : ℕ) (s : List ℤ)
-      → spend (locateAt rows bounds row) n s ≡ onward (spend (valueAt rows bounds b) n s) (λ index n s. spend (settle (elementWord (arrayBase (layoutFrom bounds) a) (arrayLength (layoutFrom bounds) a) index)) n s)
+      → spend (locateAt rows bounds row) n s ≡ onward (spend (valueAt rows bounds b) n s) (λ index n s. spend (settle (elementWord (arrayBase (layoutIn rows bounds) a) (arrayLength (layoutIn rows bounds) a) index)) n s)
   unfolding spend evaluate contextOf
   locate-row here p q n s = ap (λ (x : Expression). spend (locate (contextAt rows bounds) (placeOf x)) n s) (element-tree here p q)
 
   -- ---- kinds 4 and 5
 
-  pub unary-link : (ofTruth : Bool) → Entered rows bounds words row (OfExpression (pick ofTruth Not Minus)) → Link rows (layoutFrom bounds) words row 1
+  pub unary-link : (ofTruth : Bool) → Entered rows bounds words row (OfExpression (pick ofTruth Not Minus)) → Link rows (layoutIn rows bounds) words row 1
   unfolding isRequired sortIn kindRow expressionFields
   unary-link true here = link here 1 (omega arith) (omega arith) refl
   unary-link false here = link here 1 (omega arith) (omega arith) refl
@@ -117,7 +118,7 @@ module _ {rows : List ℤ} {bounds : List ℕ} {words row : ℕ} where
 
   -- ---- kinds 6 to 20
 
-  pub binary-links : {o : Operator} → Entered rows bounds words row (OfExpression (Binary o)) → Link rows (layoutFrom bounds) words row 1 × Link rows (layoutFrom bounds) words row 2
+  pub binary-links : {o : Operator} → Entered rows bounds words row (OfExpression (Binary o)) → Link rows (layoutIn rows bounds) words row 1 × Link rows (layoutIn rows bounds) words row 2
   unfolding isRequired sortIn kindRow expressionFields
   binary-links here = (link here 1 (omega arith) (omega arith) refl, link here 2 (omega arith) (omega arith) refl)
 
@@ -128,7 +129,7 @@ module _ {rows : List ℤ} {bounds : List ℕ} {words row : ℕ} where
   binary-row {o} here p q n s =
       known rows bounds row _ n s (at-binary rows (whole here) row o (here .kind-is) (binary-links here .0 .later) (binary-links here .1 .later) ∙ ap₂ (λ (k l : ℕ). binary o (expressionAt rows k) (expressionAt rows l)) (sym p) (sym q))
 
-  pub logical-links : (decided : Bool) → Entered rows bounds words row (OfExpression (pick decided Or And)) → Link rows (layoutFrom bounds) words row 1 × Link rows (layoutFrom bounds) words row 2
+  pub logical-links : (decided : Bool) → Entered rows bounds words row (OfExpression (pick decided Or And)) → Link rows (layoutIn rows bounds) words row 1 × Link rows (layoutIn rows bounds) words row 2
   unfolding isRequired sortIn kindRow expressionFields
   logical-links true here = (link here 1 (omega arith) (omega arith) refl, link here 2 (omega arith) (omega arith) refl)
   logical-links false here = (link here 1 (omega arith) (omega arith) refl, link here 2 (omega arith) (omega arith) refl)
@@ -147,7 +148,7 @@ module _ {rows : List ℤ} {bounds : List ℕ} {words row : ℕ} where
       known rows bounds row _ n s (at-and rows (whole here) row (here .kind-is) (logical-links false here .0 .later) (logical-links false here .1 .later) ∙ ap₂ (λ (k l : ℕ). and (expressionAt rows k) (expressionAt rows l)) (sym p) (sym q))
       ∙ onward-same (spend (valueAt rows bounds a) n s) _ _ (λ left. forks (isTrue left) (do right ← valueAt rows bounds b; ret (truth right)) (ret (pos 0)))
 
-  pub ternary-links : Entered rows bounds words row (OfExpression Conditional) → Link rows (layoutFrom bounds) words row 1 × Link rows (layoutFrom bounds) words row 2 × Link rows (layoutFrom bounds) words row 3
+  pub ternary-links : Entered rows bounds words row (OfExpression Conditional) → Link rows (layoutIn rows bounds) words row 1 × Link rows (layoutIn rows bounds) words row 2 × Link rows (layoutIn rows bounds) words row 3
   unfolding isRequired sortIn kindRow expressionFields
   ternary-links here = (link here 1 (omega arith) (omega arith) refl, link here 2 (omega arith) (omega arith) refl, link here 3 (omega arith) (omega arith) refl)
 
@@ -160,7 +161,7 @@ module _ {rows : List ℤ} {bounds : List ℕ} {words row : ℕ} where
       at-conditional rows (whole here) row (here .kind-is) (ternary-links here .0 .later) (ternary-links here .1 .later) (ternary-links here .2 .later) ∙ rw (← p, ← q, ← r) in
       known rows bounds row _ n s t ∙ onward-same (spend (valueAt rows bounds a) n s) _ _ (λ test. forks (isTrue test) (valueAt rows bounds b) (valueAt rows bounds c))
 
-  pub comma-links : Entered rows bounds words row (OfExpression Comma) → Link rows (layoutFrom bounds) words row 1 × Link rows (layoutFrom bounds) words row 2
+  pub comma-links : Entered rows bounds words row (OfExpression Comma) → Link rows (layoutIn rows bounds) words row 1 × Link rows (layoutIn rows bounds) words row 2
   unfolding isRequired sortIn kindRow expressionFields
   comma-links here = (link here 1 (omega arith) (omega arith) refl, link here 2 (omega arith) (omega arith) refl)
 
@@ -173,10 +174,10 @@ module _ {rows : List ℤ} {bounds : List ℕ} {words row : ℕ} where
   -- ---- kinds 21 to 30
 
   module _ {kind : Kind} (here : Entered rows bounds words row kind) where
-    abbrev place-link : (field : ℕ) → 1 ≤ field → field < 6 → sortIn kind field ≡ place → PlaceLink rows (layoutFrom bounds) words row field
+    abbrev place-link : (field : ℕ) → 1 ≤ field → field < 6 → always (eqb place) kind field ≡ true → PlaceLink rows (layoutIn rows bounds) words row field
     place-link = place-link-of (here .ready .setting .sound) (here .ready .below) (here .kind-is)
 
-  pub assign-links : Entered rows bounds words row (OfExpression Assign) → PlaceLink rows (layoutFrom bounds) words row 1 × Link rows (layoutFrom bounds) words row 2
+  pub assign-links : Entered rows bounds words row (OfExpression Assign) → PlaceLink rows (layoutIn rows bounds) words row 1 × Link rows (layoutIn rows bounds) words row 2
   unfolding isRequired sortIn kindRow expressionFields
   assign-links here = (place-link here 1 (omega arith) (omega arith) refl, link here 2 (omega arith) (omega arith) refl)
 
@@ -187,7 +188,7 @@ module _ {rows : List ℤ} {bounds : List ℕ} {words row : ℕ} where
   assign-row here p q n s =
       known rows bounds row _ n s (at-assign rows (whole here) row (here .kind-is) (assign-links here .0 .0 .later) (assign-links here .1 .later) ∙ ap₂ (λ (k l : ℕ). assign (placeOf (expressionAt rows k)) (expressionAt rows l)) (sym p) (sym q))
 
-  pub compound-links : {o : Operator} → Entered rows bounds words row (OfExpression (Compound o)) → PlaceLink rows (layoutFrom bounds) words row 1 × Link rows (layoutFrom bounds) words row 2
+  pub compound-links : {o : Operator} → Entered rows bounds words row (OfExpression (Compound o)) → PlaceLink rows (layoutIn rows bounds) words row 1 × Link rows (layoutIn rows bounds) words row 2
   unfolding isRequired sortIn kindRow expressionFields
   compound-links here = (place-link here 1 (omega arith) (omega arith) refl, link here 2 (omega arith) (omega arith) refl)
 
@@ -198,7 +199,7 @@ module _ {rows : List ℤ} {bounds : List ℕ} {words row : ℕ} where
   compound-row {o} here p q n s =
       known rows bounds row _ n s (at-compound rows (whole here) row o (here .kind-is) (compound-links here .0 .0 .later) (compound-links here .1 .later) ∙ ap₂ (λ (k l : ℕ). compound o (placeOf (expressionAt rows k)) (expressionAt rows l)) (sym p) (sym q))
 
-  pub increment-link : (old : Bool) (o : Operator) → Entered rows bounds words row (OfExpression (pick old (Postfix o) (Prefix o))) → PlaceLink rows (layoutFrom bounds) words row 1
+  pub increment-link : (old : Bool) (o : Operator) → Entered rows bounds words row (OfExpression (pick old (Postfix o) (Prefix o))) → PlaceLink rows (layoutIn rows bounds) words row 1
   unfolding sortIn kindRow expressionFields
   increment-link true o here = place-link here 1 (omega arith) (omega arith) refl
   increment-link false o here = place-link here 1 (omega arith) (omega arith) refl
@@ -211,11 +212,6 @@ module _ {rows : List ℤ} {bounds : List ℕ} {words row : ℕ} where
       known rows bounds row _ n s (at-postfix rows (whole here) row o (here .kind-is) (increment-link true o here .0 .later) ∙ ap (λ (k : ℕ). postfix o (placeOf (expressionAt rows k))) (sym p))
   increment-row false o here p n s =
       known rows bounds row _ n s (at-prefix rows (whole here) row o (here .kind-is) (increment-link false o here .0 .later) ∙ ap (λ (k : ℕ). prefix o (placeOf (expressionAt rows k))) (sym p))
-
-  -- no form has calls yet
-  pub no-call : Ready rows bounds words row → {number : ℕ} → number ≡ numberAt rows row 0 → number ≡ 31 → ⊥
-  unfolding isFunctionNumber
-  no-call here p e = true≢false (rw (sym p ∙ e) at (here .setting .sound .no-function row (here .below)))
 
   -- a row whose number no expression has
   pub other-row : Ready rows bounds words row → {number : ℕ} → number ≡ numberAt rows row 0 → ((1 ≤ number) × (number ≤ 31) → ⊥) → (n : ℕ) (s : List ℤ) → spend (evaluateAt rows bounds row) n s ≡ gives (pos 0) n s

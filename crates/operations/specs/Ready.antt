@@ -8,9 +8,11 @@ use lib.ListN.{length, getD}
 use Rattle.words.specs.Table.{rowCount}
 use Rattle.words.specs.Kinds.{kindAt, isPlaceKind}
 use Rattle.words.specs.declared.Kind.{Kind}
+use Rattle.language.specs.Functions.{functionCount}
+use Rattle.language.specs.Program.{contents}
 use Rattle.language.specs.Sound.{Sound}
-use Rattle.operations.specs.Bounds.{boundsOf, layoutFrom}
-use Rattle.operations.specs.Functions.{SoundCalls}
+use Rattle.operations.specs.Bounds.{boundsOf, arrayBounds, layoutIn}
+use Rattle.operations.specs.Functions.{SoundCalls, FunctionRows}
 
 -- An array's own bound and the next one are in the list, in order, and small.
 pub record Bounded (bounds : List ℕ) (array : ℕ) : Type 0 where
@@ -18,13 +20,14 @@ pub record Bounded (bounds : List ℕ) (array : ℕ) : Type 0 where
   pub ordered : getD bounds array 0 ≤ getD bounds (array + 1) 0
   pub small : getD bounds (array + 1) 0 < 65536
 
--- A sound table with sound calls, the bounds of its layout, and a store of so many words.
+-- A sound table with sound calls, the list of a run of it, and a store of so many words.
 pub record Setting (rows : List ℤ) (bounds : List ℕ) (words : ℕ) : Type 0 where
-  pub sound : Sound rows (layoutFrom bounds) words
-  pub bounds-are : bounds ≡ boundsOf (layoutFrom bounds)
+  pub sound : Sound rows (layoutIn rows bounds) words
+  pub bounds-are : arrayBounds (functionCount (contents rows)) bounds ≡ boundsOf (layoutIn rows bounds)
+  pub functions : FunctionRows rows bounds
   pub few-words : words < 65536
   pub few-rows : rowCount rows < 65536
-  pub few-arrays : length (layoutFrom bounds .lengths) ≤ 32
+  pub few-arrays : length (layoutIn rows bounds .lengths) ≤ 32
   pub calls : SoundCalls rows
 
 -- The row is one of the table.

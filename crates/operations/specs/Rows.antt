@@ -8,14 +8,14 @@ use Rattle.language.specs.Decode.{placeOf, expressionAt}
 use Rattle.language.specs.Meaning.{enter, Context, evaluate, locate, value}
 use Rattle.language.specs.Functions.{contextOf}
 use Rattle.language.specs.Program.{contents}
-use Rattle.operations.specs.Bounds.{layoutFrom}
+use Rattle.operations.specs.Bounds.{layoutIn}
 
 -- What the trees of a table are read in: a call's number is one of the functions that the table defines.
 abbrev pub contextIn : Layout → List ℤ → Context
 contextIn L rows = contextOf L (contents rows)
 
 abbrev pub contextAt : List ℤ → List ℕ → Context
-contextAt rows bounds = contextIn (layoutFrom bounds) rows
+contextAt rows bounds = contextIn (layoutIn rows bounds) rows
 
 module _ (rows : List ℤ) (bounds : List ℕ) (row : ℕ) where
   -- The expression at the row: its value; and what follows the entry of the row.

@@ -9,11 +9,11 @@ use Rattle.words.specs.Layout.{Layout, storeSize}
 use Rattle.words.specs.declared.Operator.the-variants.{Add, Subtract, LessOrEqual}
 use Rattle.text_numbers.specs.Number.{digits, digitsWithin, numberBytes, isDigit, decimal, naturalOf, word, positive, negative, numberOf}
 use Rattle.text_lines.specs.Line.{together, linesOf}
-use Rattle.language.specs.Trees.{Expression, constant, read, minus, binary, assign, compound, postfix, Place, variable, element, label, Statement, empty, express, block, ifElse, while, goto, abort, Items, none as noItem, _then_, _here_}
+use Rattle.language.specs.Trees.{Expression, constant, read, minus, binary, assign, compound, postfix, call, Place, variable, element, noMore, _also_, present, label, Statement, empty, express, block, ifElse, while, goto, abort, giveBack, Items, none as noItem, _then_, _here_, define}
 use Rattle.translation.specs.Translate.{translate}
 use Rattle.translation.specs.WorkedExamples.{worked-translation}
 use Rattle.page.specs.declared.Sizes.{Sizes}
-use Rattle.page.specs.Lines.{closes, indented, statementLines, readBefore, readLines}
+use Rattle.page.specs.Lines.{closes, indented, argumentLines, parameterLines, statementLines, readBefore, readLines}
 use Rattle.page.specs.Page.{ended, name, blanks, parted, rightSet, padded, lineBytes, linesBytes, pageBytes}
 use Rattle.page.specs.Reading.{same, pieces, filled, without, readOperator, readName, readAtom, readPlace, pageLines, readPage}
 use Rattle.page.specs.Texts.{bytesOf, quoted}
@@ -103,6 +103,43 @@ every-page = refl
 pub every-read : readPage five (quoted everyLines) ≡ some every
 unfolding quoted bytesOf digits digitsWithin numberBytes isDigit decimal naturalOf word positive negative numberOf isWord together linesOf statementLines readBefore readLines ended name blanks parted rightSet padded lineBytes linesBytes pageBytes same pieces filled without readOperator readName readAtom readPlace pageLines readPage
 every-read = refl
+
+-- ---- functions: their definitions first, a line for each parameter and each argument
+
+abbrev functions : Items
+functions =
+    define 0 [] (giveBack (present (constant (negsuc 6))) then noItem)
+    (define 1 (5 ∷ 6 ∷ [])
+    (set (variable 7) (call 0 noMore) then
+    giveBack (present (read (variable 6))) then
+    noItem)
+    (block (set (variable 8) (call 1 (constant (pos 2) also (read (variable 0) also noMore))) then noItem) then
+    noItem))
+
+abbrev functionLines : List String
+functionLines =
+    "    1 int f0() {                                                                " ∷
+    "    2   return -7;                                                              " ∷
+    "    3 }                                                                         " ∷
+    "    4 int f1(                                                                   " ∷
+    "    5 int l0,                                                                   " ∷
+    "    6 int l1) {                                                                 " ∷
+    "    7   t0 = f0();                                                              " ∷
+    "    8   return l1;                                                              " ∷
+    "    9 }                                                                         " ∷
+    "   10 {                                                                         " ∷
+    "   11   t1 = f1(                                                                " ∷
+    "   12   2,                                                                      " ∷
+    "   13   v0);                                                                    " ∷
+    "   14 }                                                                         " ∷ []
+
+pub functions-page : pageBytes five functions ≡ quoted functionLines
+unfolding quoted bytesOf digits digitsWithin numberBytes argumentLines parameterLines statementLines ended name blanks parted rightSet padded lineBytes linesBytes pageBytes
+functions-page = refl
+
+pub functions-read : readPage five (quoted functionLines) ≡ some functions
+unfolding quoted bytesOf digits digitsWithin numberBytes isDigit decimal naturalOf word positive negative numberOf isWord together linesOf argumentLines parameterLines statementLines readBefore readLines ended name blanks parted rightSet padded lineBytes linesBytes pageBytes same pieces filled without readOperator readName readAtom readPlace pageLines readPage
+functions-read = refl
 
 -- ---- a line deep inside: the indent stops at 36 columns
 

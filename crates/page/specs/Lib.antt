@@ -16,18 +16,12 @@ pub mod LinesLaws
 pub mod Fits
 -- Laws of words: printed bytes fall into the words that were printed, and numbers, names and operators are read back.
 pub mod WordLaws
+-- Function words: what the words of calls and definitions end in and begin with.
+pub mod FunctionWords
 -- Read-back: what is printed is read back, word by word, line by line, then the page.
 pub mod ReadBack
 -- Widths: every line has 80 columns and a newline.
 pub mod Widths
--- Kinds of trees: in a structured table a row's kind is that of the tree decoded there.
-pub mod TreeKinds
--- Alike rows: rows with the same tree have the same kind and numbers, and link rows with the same trees.
-pub mod Alike
--- Renumbering: two structured kernel tables with the same tree are each other's rows under other numbers.
-pub mod Renumbering
--- Laws of tables: the page of every legal kernel table has 80 columns, few lines, and gives back its rows, up to numbering.
-pub mod TableLaws
 -- Examples: the page of document 01's program in kernel form, one with every statement, and pages that are none; Texts: quoted lines.
 pub mod Texts
 pub mod Examples

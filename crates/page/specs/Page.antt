@@ -9,13 +9,13 @@ use Rattle.words.specs.declared.Operator.{Operator}
 use Rattle.words.specs.declared.Operator.the-variants.{Add, Subtract, Multiply, Divide, Remainder, Less, Greater, LessOrEqual, GreaterOrEqual, Equal, NotEqual}
 use Rattle.text_numbers.specs.Number.{digits, numberBytes}
 use Rattle.text_lines.specs.Line.{newline}
-use Rattle.language.specs.Trees.{Expression, constant, read, minus, not, binary, and, or, comma, conditional, assign, compound, prefix, postfix, call, Place, variable, element, Mark, case, default, label, Statement, empty, express, block, ifThen, ifElse, while, doWhile, for, switch, break, continue, goto, guardedIf, guardedDo, abort, declare, giveBack, Items}
+use Rattle.language.specs.Trees.{Expression, constant, read, minus, not, binary, and, or, comma, conditional, assign, compound, prefix, postfix, call, Place, variable, element, noMore, _also_, absent, present, Mark, case, default, label, Statement, empty, express, block, ifThen, ifElse, while, doWhile, for, switch, break, continue, goto, guardedIf, guardedDo, abort, declare, giveBack, Items}
 use Rattle.page.specs.declared.Sizes.{Sizes}
-use Rattle.page.specs.Lines.{PageLine, single, mark, opens, opensWhile, opensIf, turns, closes, Indented, indented, itemsLines}
+use Rattle.page.specs.Lines.{PageLine, single, mark, opens, opensWhile, opensIf, turns, closes, opensCall, argument, lastArgument, opensFunction, opensParameters, parameter, lastParameter, Indented, indented, itemsLines}
 
 -- ---- bytes and words that are always the same
 
--- A blank, `;`, `:`, `[`, `]`, `(`, `)`.
+-- A blank, `;`, `:`, `,`, `[`, `]`, `(`, `)`.
 abbrev pub blank : ℕ
 blank = 32
 
@@ -24,6 +24,9 @@ semicolon = 59
 
 abbrev pub colon : ℕ
 colon = 58
+
+abbrev pub commaByte : ℕ
+commaByte = 44
 
 abbrev pub openingBracket : ℕ
 openingBracket = 91
@@ -37,7 +40,7 @@ openingParenthesis = 40
 abbrev pub closingParenthesis : ℕ
 closingParenthesis = 41
 
--- "Names are v, a and t with a number"; "pages name these words l"; a label's begins with L.
+-- "Names are v, a and t with a number"; "pages name these words l"; a label's begins with L, a function's with f.
 abbrev pub variableLetter : ℕ
 variableLetter = 118
 
@@ -53,7 +56,10 @@ temporaryLetter = 116
 abbrev pub labelLetter : ℕ
 labelLetter = 76
 
--- `;` `{` `}` `=` `-` `if` `else` `while` `goto` `abort();`
+abbrev pub functionLetter : ℕ
+functionLetter = 102
+
+-- `;` `{` `}` `=` `-` `if` `else` `while` `goto` `abort();` `int` `return`
 abbrev pub emptyWord : List ℕ
 emptyWord = 59 ∷ []
 
@@ -84,6 +90,12 @@ gotoWord = 103 ∷ 111 ∷ 116 ∷ 111 ∷ []
 abbrev pub abortWord : List ℕ
 abortWord = 97 ∷ 98 ∷ 111 ∷ 114 ∷ 116 ∷ 40 ∷ 41 ∷ 59 ∷ []
 
+abbrev pub intWord : List ℕ
+intWord = 105 ∷ 110 ∷ 116 ∷ []
+
+abbrev pub returnWord : List ℕ
+returnWord = 114 ∷ 101 ∷ 116 ∷ 117 ∷ 114 ∷ 110 ∷ []
+
 -- `+` `-` `*` `/` `%` `<` `>` `<=` `>=` `==` `!=`
 abbrev pub operatorWord : Operator → List ℕ
 operatorWord Add = 43 ∷ []
@@ -113,6 +125,16 @@ ended (word ∷ (second ∷ words)) = word ∷ ended (second ∷ words)
 -- `L7`
 abbrev pub labelWord : ℕ → List ℕ
 labelWord l = labelLetter ∷ digits l
+
+-- `f7`, `f7(`, `f7()`
+abbrev pub functionWord : ℕ → List ℕ
+functionWord f = functionLetter ∷ digits f
+
+abbrev pub openedWord : ℕ → List ℕ
+openedWord f = endedBy openingParenthesis (functionWord f)
+
+abbrev pub calledWord : ℕ → List ℕ
+calledWord f = endedBy closingParenthesis (openedWord f)
 
 -- S and D: variable numbers from S on are the declared words, "l, from 0", and from S+D on the temporaries, "t from 0".
 module _ (sizes : Sizes) where
@@ -163,7 +185,8 @@ module _ (sizes : Sizes) where
   valueWords (compound o p e) = []
   valueWords (prefix o p) = []
   valueWords (postfix o p) = []
-  valueWords (call f arguments) = []
+  valueWords (call f noMore) = calledWord f ∷ []
+  valueWords (call f (e also arguments)) = []
 
   -- `P = X;`
   abbrev pub assignmentWords : Expression → List (List ℕ)
@@ -187,6 +210,7 @@ module _ (sizes : Sizes) where
   singleWords (express e) = assignmentWords e
   singleWords (goto l) = gotoWord ∷ (endedBy semicolon (labelWord l) ∷ [])
   singleWords abort = abortWord ∷ []
+  singleWords (giveBack (present e)) = returnWord ∷ (endedBy semicolon (atomWord e) ∷ [])
   singleWords (block is) = []
   singleWords (ifThen e onTrue) = []
   singleWords (ifElse e onTrue onFalse) = []
@@ -199,7 +223,7 @@ module _ (sizes : Sizes) where
   singleWords (guardedIf arms) = []
   singleWords (guardedDo arms) = []
   singleWords (declare word e) = []
-  singleWords (giveBack value) = []
+  singleWords (giveBack absent) = []
 
   -- `L7:;`
   abbrev pub markWords : Mark → List (List ℕ)
@@ -219,6 +243,13 @@ module _ (sizes : Sizes) where
   lineWords (opensIf e) = ifWord ∷ (testWord e ∷ (openingWord ∷ []))
   lineWords turns = closingWord ∷ (elseWord ∷ (openingWord ∷ []))
   lineWords closes = closingWord ∷ []
+  lineWords (opensCall p f) = placeWord p ∷ (equalsWord ∷ (openedWord f ∷ []))
+  lineWords (argument e) = endedBy commaByte (atomWord e) ∷ []
+  lineWords (lastArgument e) = endedBy semicolon (endedBy closingParenthesis (atomWord e)) ∷ []
+  lineWords (opensFunction f) = intWord ∷ (calledWord f ∷ (openingWord ∷ []))
+  lineWords (opensParameters f) = intWord ∷ (openedWord f ∷ [])
+  lineWords (parameter word) = intWord ∷ (endedBy commaByte (name word) ∷ [])
+  lineWords (lastParameter word) = intWord ∷ (endedBy closingParenthesis (name word) ∷ (openingWord ∷ []))
 
 -- ---- bytes
 

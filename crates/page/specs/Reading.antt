@@ -10,10 +10,10 @@ use Rattle.words.specs.declared.Operator.{Operator}
 use Rattle.words.specs.declared.Operator.the-variants.{Add, Subtract, Multiply, Divide, Remainder, Less, Greater, LessOrEqual, GreaterOrEqual, Equal, NotEqual}
 use Rattle.text_numbers.specs.Number.{naturalOf, numberOf}
 use Rattle.text_lines.specs.Line.{together, linesOf, TextLine, ended, unended}
-use Rattle.language.specs.Trees.{Expression, constant, read, minus, binary, assign, Place, variable, element, label, empty, express, goto, abort, Items}
+use Rattle.language.specs.Trees.{Expression, constant, read, minus, binary, assign, call, Place, variable, element, noMore, present, label, empty, express, goto, abort, giveBack, Items}
 use Rattle.page.specs.declared.Sizes.{Sizes}
-use Rattle.page.specs.Lines.{PageLine, single, mark, opens, opensWhile, opensIf, turns, closes, readLines}
-use Rattle.page.specs.Page.{blank, semicolon, colon, openingBracket, closingBracket, openingParenthesis, closingParenthesis, variableLetter, arrayLetter, declaredLetter, temporaryLetter, labelLetter, emptyWord, openingWord, closingWord, equalsWord, minusWord, ifWord, whileWord, gotoWord, abortWord, operatorWord, firstTemporary, pageBytes}
+use Rattle.page.specs.Lines.{PageLine, single, mark, opens, opensWhile, opensIf, turns, closes, opensCall, argument, lastArgument, opensFunction, opensParameters, parameter, lastParameter, readLines}
+use Rattle.page.specs.Page.{blank, semicolon, colon, commaByte, openingBracket, closingBracket, openingParenthesis, closingParenthesis, variableLetter, arrayLetter, declaredLetter, temporaryLetter, labelLetter, functionLetter, emptyWord, openingWord, closingWord, equalsWord, minusWord, ifWord, whileWord, gotoWord, abortWord, intWord, returnWord, operatorWord, firstTemporary, pageBytes}
 
 -- ---- words
 
@@ -66,6 +66,17 @@ abbrev pub readLabel : List ℕ → Option ℕ
 readLabel [] = none
 readLabel (byte ∷ bytes) = pick (eqb byte labelLetter) (naturalOf bytes) none
 
+abbrev pub readFunction : List ℕ → Option ℕ
+readFunction [] = none
+readFunction (byte ∷ bytes) = pick (eqb byte functionLetter) (naturalOf bytes) none
+
+-- `fN(` and `fN()`
+abbrev pub readOpened : List ℕ → Option ℕ
+readOpened word = bind (without openingParenthesis word) readFunction
+
+abbrev pub readCalled : List ℕ → Option ℕ
+readCalled word = bind (without closingParenthesis word) readOpened
+
 -- The first, or else the second.
 abbrev pub orElse : {A : Type 0} → Option A → Option A → Option A
 orElse (some a) other = some a
@@ -96,7 +107,8 @@ module _ (sizes : Sizes) where
 
   -- What is assigned, by its words up to the semicolon.
   abbrev pub readValue : List (List ℕ) → Option Expression
-  readValue (x ∷ []) = bind (without semicolon x) (λ word. orElse (bind (readPlace word) (λ p. some (read p))) (readAtom word))
+  readValue (x ∷ []) =
+      bind (without semicolon x) (λ word. orElse (bind (readPlace word) (λ p. some (read p))) (orElse (readAtom word) (bind (readCalled word) (λ f. some (call f noMore)))))
   readValue (sign ∷ (x ∷ [])) = pick (same sign minusWord) (bind (without semicolon x) (λ word. bind (readAtom word) (λ e. some (minus e)))) none
   readValue (x ∷ (operator ∷ (y ∷ []))) =
       bind (readAtom x) (λ left. bind (readOperator operator) (λ o. bind (without semicolon y) (λ word. bind (readAtom word) (λ right. some (binary o left right)))))
@@ -107,6 +119,29 @@ module _ (sizes : Sizes) where
   readTest [] = none
   readTest (byte ∷ bytes) = pick (eqb byte openingParenthesis) (bind (without closingParenthesis bytes) readAtom) none
 
+  -- `P = fN(`
+  abbrev pub readCall : List ℕ → List (List ℕ) → Option PageLine
+  readCall place (x ∷ []) = bind (readOpened x) (λ f. bind (readPlace place) (λ p. some (opensCall p f)))
+  readCall place [] = none
+  readCall place (x ∷ (y ∷ words)) = none
+
+  -- `LN:;`
+  abbrev pub readMark : List ℕ → Option PageLine
+  readMark word = bind (without semicolon word) (λ marked. bind (without colon marked) (λ name. bind (readLabel name) (λ l. some (mark (label l)))))
+
+  -- `X,` and `X);`
+  abbrev pub readArgument : List ℕ → Option PageLine
+  readArgument word =
+      orElse (bind (without commaByte word) (λ atom. bind (readAtom atom) (λ e. some (argument e))))
+      (bind (without semicolon word) (λ ended. bind (without closingParenthesis ended) (λ atom. bind (readAtom atom) (λ e. some (lastArgument e)))))
+
+  -- What stands behind `int`: `lN,` or `fN(`; before `{`: `lN)` or `fN()`.
+  abbrev pub readParameter : List ℕ → Option PageLine
+  readParameter word = orElse (bind (without commaByte word) (λ name. bind (readName name) (λ i. some (parameter i)))) (bind (readOpened word) (λ f. some (opensParameters f)))
+
+  abbrev pub readLastParameter : List ℕ → Option PageLine
+  readLastParameter word = orElse (bind (without closingParenthesis word) (λ name. bind (readName name) (λ i. some (lastParameter i)))) (bind (readCalled word) (λ f. some (opensFunction f)))
+
   -- ---- what a line says
 
   abbrev pub lineOf : List (List ℕ) → Option PageLine
@@ -114,13 +149,17 @@ module _ (sizes : Sizes) where
   lineOf (w ∷ []) =
       pick (same w emptyWord) (some (single empty)) (pick (same w openingWord) (some opens) (pick (same w closingWord) (some closes)
       (pick (same w abortWord) (some (single abort))
-      (bind (without semicolon w) (λ marked. bind (without colon marked) (λ name. bind (readLabel name) (λ l. some (mark (label l)))))))))
-  lineOf (w ∷ (x ∷ [])) = pick (same w gotoWord) (bind (without semicolon x) (λ name. bind (readLabel name) (λ l. some (single (goto l))))) none
+      (orElse (readMark w) (readArgument w)))))
+  lineOf (w ∷ (x ∷ [])) =
+      pick (same w gotoWord) (bind (without semicolon x) (λ name. bind (readLabel name) (λ l. some (single (goto l)))))
+      (pick (same w returnWord) (bind (without semicolon x) (λ word. bind (readAtom word) (λ e. some (single (giveBack (present e))))))
+      (pick (same w intWord) (readParameter x) none))
   lineOf (w ∷ (x ∷ (y ∷ ys))) =
-      pick (same x equalsWord) (bind (readPlace w) (λ p. bind (readValue (y ∷ ys)) (λ e. some (single (express (assign p e))))))
+      pick (same x equalsWord) (orElse (bind (readPlace w) (λ p. bind (readValue (y ∷ ys)) (λ e. some (single (express (assign p e)))))) (readCall w (y ∷ ys)))
       (pick (same w ifWord) (bind (readTest x) (λ e. some (opensIf e)))
       (pick (same w whileWord) (bind (readTest x) (λ e. some (opensWhile e)))
-      (pick (same w closingWord) (some turns) none)))
+      (pick (same w closingWord) (some turns)
+      (pick (same w intWord) (readLastParameter x) none))))
 
   -- The first word is the line's number.
   abbrev pub numbered : List (List ℕ) → Option PageLine

@@ -10,12 +10,12 @@ use Rattle.words.specs.declared.Operator.the-variants.{Add, Subtract, Multiply,
 use Rattle.text_numbers.specs.Number.{digits, numberBytes}
 use Rattle.text_lines.specs.Line.{newline}
 use Rattle.text_numbers.specs.PutLaws.{digits-within, number-eleven}
-use Rattle.language.specs.Trees.{Expression, constant, read, minus, binary, assign, variable, element, label, empty, express, goto, abort}
+use Rattle.language.specs.Trees.{Expression, constant, read, minus, binary, assign, call, variable, element, noMore, present, label, empty, express, goto, abort, giveBack}
 use Rattle.page.specs.declared.Sizes.{Sizes}
 use Rattle.page.specs.WordLaws.{each-name}
-use Rattle.page.specs.Lines.{PageLine, single, mark, opens, opensWhile, opensIf, turns, closes, Indented, indented}
-use Rattle.page.specs.Page.{blank, equalsWord, openingWord, operatorWord, endedBy, ended, labelWord, firstTemporary, name, atomWord, placeWord, valueWords, lineWords, blanks, parted, rightSet, padded, indent, lineBytes, linesBytes}
-use Rattle.page.specs.Fits.{AtomFits, fits-constant, fits-variable, ValueFits, value-atom, value-element, value-minus, value-binary, LineFits, fits-empty, fits-abort, fits-goto, fits-label, fits-store, fits-put, fits-opens, fits-while, fits-if, fits-turns, fits-closes, AllFit, all-none, all-more}
+use Rattle.page.specs.Lines.{PageLine, single, mark, opens, opensWhile, opensIf, turns, closes, opensCall, argument, lastArgument, opensFunction, opensParameters, parameter, lastParameter, Indented, indented}
+use Rattle.page.specs.Page.{blank, equalsWord, openingWord, intWord, operatorWord, endedBy, ended, labelWord, functionWord, openedWord, calledWord, firstTemporary, name, atomWord, placeWord, valueWords, lineWords, blanks, parted, rightSet, padded, indent, lineBytes, linesBytes}
+use Rattle.page.specs.Fits.{AtomFits, fits-constant, fits-variable, ValueFits, value-atom, value-element, value-minus, value-binary, value-call, isFunction, LineFits, fits-empty, fits-abort, fits-goto, fits-label, fits-store, fits-put, fits-return, fits-opens, fits-while, fits-if, fits-turns, fits-closes, fits-call, fits-argument, fits-last-argument, fits-function, fits-parameters, fits-parameter, fits-last-parameter, AllFit, all-none, all-more}
 
 pub length-blanks : (n : ℕ) → length (blanks n) ≡ n
 unfolding blanks
@@ -76,7 +76,15 @@ length-padded : (columns : ℕ) (xs : List ℕ) → length xs ≤ columns → le
 unfolding padded
 length-padded columns xs h = omega (arith, length-append xs (blanks (columns - length xs)), length-blanks (columns - length xs))
 
-module _ {Names : ℕ → Type 0} {arrays : ℕ} (sizes : Sizes) (names : (i : ℕ) → Names i → length (name sizes i) ≤ 5) (few : arrays ≤ 32) where
+-- `f40979(`, `f40979()`
+opened-width : (f : ℕ) → isFunction f → length (openedWord f) ≤ 7
+opened-width f h = omega (arith, length-ended 40 (functionWord f), label-width f h)
+
+called-width : (f : ℕ) → isFunction f → length (calledWord f) ≤ 8
+called-width f h = omega (arith, length-ended 41 (openedWord f), opened-width f h)
+
+module _ {Names Parameters : ℕ → Type 0} {arrays : ℕ} (sizes : Sizes) (names : (i : ℕ) → Names i → length (name sizes i) ≤ 5)
+    (parameters : (i : ℕ) → Parameters i → length (name sizes i) ≤ 5) (few : arrays ≤ 32) where
   atom-width : (e : Expression) → AtomFits Names arrays e → length (atomWord sizes e) ≤ 11
   atom-width (constant v) (fits-constant h) = number-eleven v h
   atom-width (read (variable i)) (fits-variable n) = omega (arith, names i n)
@@ -108,8 +116,9 @@ module _ {Names : ℕ → Type 0} {arrays : ℕ} (sizes : Sizes) (names : (i : �
         operator-width o,
         atom-width b k,
       )
+  value-width (call f noMore) (value-call b) = omega (arith, length-ended 59 (calledWord f), called-width f b)
 
-  pub line-width : (line : PageLine) → LineFits Names arrays line → length (parted (lineWords sizes line)) ≤ 35
+  pub line-width : (line : PageLine) → LineFits Names arrays Parameters line → length (parted (lineWords sizes line)) ≤ 35
   unfolding parted
   line-width (single empty) fits-empty = omega arith
   line-width (single abort) fits-abort = omega arith
@@ -123,9 +132,18 @@ module _ {Names : ℕ → Type 0} {arrays : ℕ} (sizes : Sizes) (names : (i : �
   line-width (opensIf e) (fits-if h) = omega (arith, length-append (40 ∷ endedBy 41 (atomWord sizes e)) (blank ∷ openingWord), length-ended 41 (atomWord sizes e), atom-width e h)
   line-width turns fits-turns = omega arith
   line-width closes fits-closes = omega arith
+  line-width (single (giveBack (present e))) (fits-return h) = omega (arith, length-ended 59 (atomWord sizes e), atom-width e h)
+  line-width (opensCall (variable i) f) (fits-call n b) = omega (arith, parted-assigned (name sizes i) (openedWord f ∷ []), names i n, opened-width f b)
+  line-width (argument e) (fits-argument h) = omega (arith, length-ended 44 (atomWord sizes e), atom-width e h)
+  line-width (lastArgument e) (fits-last-argument h) = omega (arith, length-ended 59 (endedBy 41 (atomWord sizes e)), length-ended 41 (atomWord sizes e), atom-width e h)
+  line-width (opensFunction f) (fits-function b) = omega (arith, length-append (calledWord f) (blank ∷ openingWord), called-width f b)
+  line-width (opensParameters f) (fits-parameters b) = omega (arith, opened-width f b)
+  line-width (parameter word) (fits-parameter p) = omega (arith, length-ended 44 (name sizes word), parameters word p)
+  line-width (lastParameter word) (fits-last-parameter p) =
+      omega (arith, length-append (endedBy 41 (name sizes word)) (blank ∷ openingWord), length-ended 41 (name sizes word), parameters word p)
 
   -- "Lines of 80 columns plus a newline": five columns hold every number below 100,000.
-  pub line-columns : (number level : ℕ) (line : PageLine) → number < 100000 → LineFits Names arrays line → length (lineBytes sizes number (indented level line)) ≡ 81
+  pub line-columns : (number level : ℕ) (line : PageLine) → number < 100000 → LineFits Names arrays Parameters line → length (lineBytes sizes number (indented level line)) ≡ 81
   unfolding lineBytes
   line-columns number level line b h =
       let before = rightSet 5 (digits number) in
@@ -135,7 +153,7 @@ module _ {Names : ℕ → Type 0} {arrays : ℕ} (sizes : Sizes) (names : (i : �
       omega (arith, length-append before (blank ∷ behind), length-append (blanks (indent level)) (parted (lineWords sizes line)), length-blanks (indent level), line-width line h) in
       length-append (padded 80 (before ++ (blank ∷ behind))) (newline ∷ []) ∙ ap (λ (n : ℕ). n + 1) (length-padded 80 (before ++ (blank ∷ behind)) fits)
 
-  pub lines-columns : (number : ℕ) (lines : List Indented) → number + length lines ≤ 100000 → AllFit Names arrays lines → length (linesBytes sizes number lines) ≡ 81 * length lines
+  pub lines-columns : (number : ℕ) (lines : List Indented) → number + length lines ≤ 100000 → AllFit Names arrays Parameters lines → length (linesBytes sizes number lines) ≡ 81 * length lines
   unfolding linesBytes
   lines-columns number [] b all-none = refl
   lines-columns number (indented level line ∷ lines) b (all-more f h) =

@@ -13,11 +13,11 @@ use Rattle.page.specs.Reading.{readPage}
 use Rattle.page.specs.ReadBack.{lines-read-page}
 use Rattle.page.specs.Fits.{all-none, all-more}
 use Rattle.page.specs.Fits as page-fits
-use Rattle.page_words.specs.Trees.{Within, lineTree, Named, line-fits}
+use Rattle.page_words.specs.Trees.{Within, lineTree, Named, Declares, line-fits}
 use Rattle.page_words.specs.declared.Names.{Names}
 use Rattle.page_words.specs.declared.LineContent.{LineContent}
 use Rattle.page_frame.specs.Frames.{levelOf}
-use Rattle.page_blocks.specs.Blocks.{Open, behind, onward, balanced, trees, levels}
+use Rattle.page_blocks.specs.Blocks.{Open, outside, behind, onward, balanced, trees, levels}
 use Rattle.page_blocks.specs.Scans.{scan, linesIn}
 use Rattle.page_blocks.specs.ScanLaws.{AllFit, linesRows, IsPage, scan-sound}
 use Rattle.page_blocks.specs.RowLaws.{program-rows}
@@ -38,13 +38,13 @@ plain-levels sizes (line ∷ lines) around b = after (λ a. plain-levels sizes l
     after ih (some a) q = ap (λ (l : List PageLine). lineTree sizes line ∷ l) (ih a q)
 
 module _ (names : Names) (few-variables : names .variables ≤ 256) (few-behind : names .declared + names .temporaries ≤ 8256) (few-arrays : names .arrays ≤ 32) (sizes : Sizes) (within : Within sizes names) where
-  levels-fit : (lines : List LineContent) (around : Open) → AllFit names lines → page-fits.AllFit (Named sizes names within) (names .arrays) (levels sizes lines around)
+  levels-fit : (lines : List LineContent) (around : Open) → AllFit names lines → page-fits.AllFit (Named sizes names within) (names .arrays) (Declares sizes names within) (levels sizes lines around)
   unfolding AllFit levels
   levels-fit [] around h = all-none
   levels-fit (line ∷ lines) around h = all-more (line-fits sizes names within line (h .0)) (after (λ a. levels-fit lines a (h .1)) (behind line around))
     where
-      after : ((a : Open) → page-fits.AllFit (Named sizes names within) (names .arrays) (levels sizes lines a)) → (o : Option Open)
-          → page-fits.AllFit (Named sizes names within) (names .arrays) (onward [] (λ a. levels sizes lines a) o)
+      after : ((a : Open) → page-fits.AllFit (Named sizes names within) (names .arrays) (Declares sizes names within) (levels sizes lines a)) → (o : Option Open)
+          → page-fits.AllFit (Named sizes names within) (names .arrays) (Declares sizes names within) (onward [] (λ a. levels sizes lines a) o)
       after ih none = all-none
       after ih (some a) = ih a
 
@@ -60,8 +60,8 @@ module _ (names : Names) (few-variables : names .variables ≤ 256) (few-behind 
   scan-reads page total e =
       let p = scan-sound names few-variables few-behind few-arrays sizes within page total e in
       let lines = p .lines in
-      let read = lines-read-page {Names = Named sizes names within} {arrays = names .arrays} sizes (levels sizes lines []) (p .items) (levels-fit lines [] (p .fit))
-      (ap readLines (plain-levels sizes lines [] (p .balances)) ∙ p .read) (p .printed ∙ p .bytes) in
+      let read = lines-read-page {Names = Named sizes names within} {arrays = names .arrays} sizes {Parameters = Declares sizes names within} (levels sizes lines (outside [])) (p .items) (levels-fit lines (outside []) (p .fit))
+      (ap readLines (plain-levels sizes lines (outside []) (p .balances)) ∙ p .read) (p .printed ∙ p .bytes) in
       record {
         items = p .items;
         page-read = ap (readPage sizes) (p .bytes) ∙ read;

@@ -23,7 +23,7 @@ use Rattle.page_words.specs.declared.LineRead.{LineRead}
 use Rattle.page_words.specs.declared.LineRead.the-variants as line-cases
 use Rattle.page_frame.specs.Frames.{lineIn, statementIn}
 use Rattle.page_frame.specs.FrameLaws.{statement-in, line-in-sound}
-use Rattle.page_blocks.specs.Blocks.{Open, behind, onward, balanced, trees, levels}
+use Rattle.page_blocks.specs.Blocks.{Open, outside, inArguments, inParameters, levelIn, behind, onward, balanced, trees, levels}
 use Rattle.page_blocks.specs.BlockLaws.{IsProgram, balanced-program}
 use Rattle.page_blocks.specs.Scans.{lineRows, ended, stepped, scanFrom, scan, withLine, linesFrom, linesIn}
 use Rattle.page_blocks.specs.declared.Scan.{Scan}
@@ -52,7 +52,7 @@ module _ (names : Names) (few-variables : names .variables ≤ 256) (few-behind 
 
   end-sound : (done : ℕ) (around : Open) (rows total : ℕ) → ended (eqb (81 * done) (length page)) around rows (done + 1) ≡ Whole total → IsRest names sizes (drop (81 * done) page) (done + 1) around rows total []
   unfolding balanced levels linesBytes AllFit
-  end-sound done [] rows total e =
+  end-sound done (outside []) rows total e =
       by-cases (eqb (81 * done) (length page))
       (λ t.
       let long : 81 * done ≡ length page = eqb-true (81 * done) (length page) t in
@@ -60,23 +60,25 @@ module _ (names : Names) (few-variables : names .variables ≤ 256) (few-behind 
       let same : rows ≡ total = cc in
       record { lines = []; read = refl; fit = tt; balances = refl; bytes = drop-of-length-le page {i = 81 * done} (omega arith); counted = omega arith })
       (λ t. wrong (done + 1) total (rw t at e))
-  end-sound done (flag ∷ around) rows total e = by-cases (eqb (81 * done) (length page)) (λ t. wrong (done + 1) total (rw t at e)) (λ t. wrong (done + 1) total (rw t at e))
+  end-sound done (outside (flag ∷ blocks)) rows total e = by-cases (eqb (81 * done) (length page)) (λ t. wrong (done + 1) total (rw t at e)) (λ t. wrong (done + 1) total (rw t at e))
+  end-sound done (inArguments blocks) rows total e = by-cases (eqb (81 * done) (length page)) (λ t. wrong (done + 1) total (rw t at e)) (λ t. wrong (done + 1) total (rw t at e))
+  end-sound done (inParameters blocks) rows total e = by-cases (eqb (81 * done) (length page)) (λ t. wrong (done + 1) total (rw t at e)) (λ t. wrong (done + 1) total (rw t at e))
 
   -- One line before the rest.
   line-sound : (done : ℕ) (around a : Open) (rows total : ℕ) (line : LineContent) (statements : List LineContent) → done < 99999 → 81 * (done + 1) ≤ length page
-      → lineIn names (done + 1) (length around) (take 81 (drop (81 * done) page)) ≡ line-cases.Read line → behind line around ≡ some a
+      → lineIn names (done + 1) (levelIn around) (take 81 (drop (81 * done) page)) ≡ line-cases.Read line → behind line around ≡ some a
       → IsRest names sizes (drop (81 * (done + 1)) page) (done + 1 + 1) a (rows + lineRows line) total statements
       → IsRest names sizes (drop (81 * done) page) (done + 1) around rows total (withLine (statementIn names (take 81 (drop (81 * done) page))) statements)
   unfolding balanced levels linesBytes AllFit
   line-sound done around a rows total line statements few long e q r =
       let size : length (take 81 (drop (81 * done) page)) ≡ 81 = length-take 81 (drop (81 * done) page) ∙ omega (arith, length-drop (81 * done) page) in
-      let s = line-in-sound names few-variables few-behind few-arrays sizes within (done + 1) (length around) (take 81 (drop (81 * done) page)) line (omega arith) size e in
+      let s = line-in-sound names few-variables few-behind few-arrays sizes within (done + 1) (levelIn around) (take 81 (drop (81 * done) page)) line (omega arith) size e in
       let next : 81 * done + 81 ≡ 81 * (done + 1) = omega arith in
       record {
         lines = line ∷ r .lines;
         read =
             ap (λ (lines : List LineContent). line ∷ lines) (r .read)
-            ∙ sym (ap (λ (l : LineRead). withLine l statements) (statement-in names (done + 1) (length around) (take 81 (drop (81 * done) page)) line e));
+            ∙ sym (ap (λ (l : LineRead). withLine l statements) (statement-in names (done + 1) (levelIn around) (take 81 (drop (81 * done) page)) line e));
         fit = (s .1, r .fit);
         balances = rw q (r .balances);
         bytes = sym (take-append-drop 81 (drop (81 * done) page)) ∙ rw q (ap₂ (λ (l m : List ℕ). l ++ m) (s .0) (drop-drop 81 (81 * done) page ∙ ap (λ (n : ℕ). drop n page) next ∙ r .bytes));
@@ -88,17 +90,17 @@ module _ (names : Names) (few-variables : names .variables ≤ 256) (few-behind 
   unfolding scanFrom linesFrom
   rest-sound zero done around rows total few long e = end-sound done around rows total e
   rest-sound (suc left) done around rows total few long e =
-      from (λ a r. rest-sound left (done + 1) a r total (omega arith) (omega arith)) (lineIn names (done + 1) (length around) (take 81 (drop (81 * done) page))) refl e
+      from (λ a r. rest-sound left (done + 1) a r total (omega arith) (omega arith)) (lineIn names (done + 1) (levelIn around) (take 81 (drop (81 * done) page))) refl e
     where
       after : ((a : Open) (r : ℕ) → scanFrom names page left (done + 1) a r ≡ Whole total → IsRest names sizes (drop (81 * (done + 1)) page) (done + 1 + 1) a r total (linesFrom names page left (done + 1))) → (line : LineContent)
-          → lineIn names (done + 1) (length around) (take 81 (drop (81 * done) page)) ≡ line-cases.Read line → (b : Option Open) → behind line around ≡ b
+          → lineIn names (done + 1) (levelIn around) (take 81 (drop (81 * done) page)) ≡ line-cases.Read line → (b : Option Open) → behind line around ≡ b
           → onward (Wrong (done + 1)) (λ a. scanFrom names page left (done + 1) a (rows + lineRows line)) b ≡ Whole total
           → IsRest names sizes (drop (81 * done) page) (done + 1) around rows total (linesFrom names page (suc left) done)
       after ih line p none q t = wrong (done + 1) total t
       after ih line p (some a) q t = line-sound done around a rows total line (linesFrom names page left (done + 1)) (omega arith) (omega arith) p q (ih a (rows + lineRows line) t)
 
       from : ((a : Open) (r : ℕ) → scanFrom names page left (done + 1) a r ≡ Whole total → IsRest names sizes (drop (81 * (done + 1)) page) (done + 1 + 1) a r total (linesFrom names page left (done + 1))) → (r : LineRead)
-          → lineIn names (done + 1) (length around) (take 81 (drop (81 * done) page)) ≡ r → stepped r (done + 1) around (λ line a. scanFrom names page left (done + 1) a (rows + lineRows line)) ≡ Whole total
+          → lineIn names (done + 1) (levelIn around) (take 81 (drop (81 * done) page)) ≡ r → stepped r (done + 1) around (λ line a. scanFrom names page left (done + 1) a (rows + lineRows line)) ≡ Whole total
           → IsRest names sizes (drop (81 * done) page) (done + 1) around rows total (linesFrom names page (suc left) done)
       from ih line-cases.Malformed p t = wrong (done + 1) total t
       from ih (line-cases.Read line) p t = after ih line p (behind line around) refl t
@@ -108,8 +110,8 @@ module _ (names : Names) (few-variables : names .variables ≤ 256) (few-behind 
     pub lines : List LineContent
     pub statements : lines ≡ linesIn names page
     pub fit : AllFit names lines
-    pub balances : balanced lines [] ≡ true
-    pub bytes : page ≡ linesBytes sizes 1 (levels sizes lines [])
+    pub balances : balanced lines (outside []) ≡ true
+    pub bytes : page ≡ linesBytes sizes 1 (levels sizes lines (outside []))
     pub items : Items
     pub read : readLines (trees sizes lines) ≡ some items
     pub printed : pageBytes sizes items ≡ page
@@ -119,7 +121,7 @@ module _ (names : Names) (few-variables : names .variables ≤ 256) (few-behind 
   unfolding scan pageBytes linesIn
   scan-sound total e =
       let left = min (length page / 81) 81958 in
-      let r = rest-sound left 0 [] 1 total (omega arith) (omega arith) e in
+      let r = rest-sound left 0 (outside []) 1 total (omega arith) (omega arith) e in
       let p = balanced-program sizes (r .lines) (r .balances) in
       record {
         lines = r .lines;

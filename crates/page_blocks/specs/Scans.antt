@@ -12,13 +12,13 @@ use Rattle.words.specs.declared.Form.the-variants.{Kernel}
 use Rattle.row_fields.specs.Fields.{boundsOf}
 use Rattle.page_words.specs.declared.Names.{Names}
 use Rattle.page_words.specs.declared.Value.{Value}
-use Rattle.page_words.specs.declared.Value.the-variants.{Single, Element, Minus, Binary}
+use Rattle.page_words.specs.declared.Value.the-variants.{Single, Element, Minus, Binary, Call}
 use Rattle.page_words.specs.declared.LineContent.{LineContent}
-use Rattle.page_words.specs.declared.LineContent.the-variants.{Empty, Abort, Goto, Label, Store, Put, Opens, While, If, Turns, Closes}
+use Rattle.page_words.specs.declared.LineContent.the-variants.{Empty, Abort, Goto, Label, Store, Put, Opens, While, If, Turns, Closes, Return, OpensCall, Argument, LastArgument, OpensFunction, OpensParameters, Parameter, LastParameter}
 use Rattle.page_words.specs.declared.LineRead.{LineRead}
 use Rattle.page_words.specs.declared.LineRead.the-variants as line-cases
 use Rattle.page_frame.specs.Frames.{lineIn, statementIn}
-use Rattle.page_blocks.specs.Blocks.{Open, behind, onward}
+use Rattle.page_blocks.specs.Blocks.{Open, outside, inArguments, inParameters, levelIn, behind, onward}
 use Rattle.page_blocks.specs.declared.Scan.{Scan}
 use Rattle.page_blocks.specs.declared.Scan.the-variants.{Whole, Wrong}
 
@@ -27,8 +27,9 @@ valueRows (Single a) = 1
 valueRows (Element array index) = 2
 valueRows (Minus a) = 2
 valueRows (Binary o a b) = 3
+valueRows (Call f) = 1
 
--- The rows that a line has: its statement's, without those of the blocks between its lines. A branch's block has its row at the line that opens it.
+-- The rows that a line has: its statement's, without those of the blocks between its lines. The block of a branch, or of a function, has its row at the line that opens it.
 abbrev pub lineRows : LineContent → ℕ
 lineRows Empty = 1
 lineRows Abort = 1
@@ -41,11 +42,21 @@ lineRows (While a) = 3
 lineRows (If a) = 3
 lineRows Turns = 1
 lineRows Closes = 0
+lineRows (Return a) = 2
+lineRows (OpensCall a f) = 4
+lineRows (Argument a) = 2
+lineRows (LastArgument a) = 2
+lineRows (OpensFunction f) = 2
+lineRows (OpensParameters f) = 1
+lineRows (Parameter n) = 1
+lineRows (LastParameter n) = 2
 
--- Behind the last whole line: no byte is left, and no block is open.
+-- Behind the last whole line: no byte is left, and nothing is open.
 abbrev pub ended : Bool → Open → (rows next : ℕ) → Scan
-ended true [] rows next = Whole rows
-ended true (flag ∷ around) rows next = Wrong next
+ended true (outside []) rows next = Whole rows
+ended true (outside (flag ∷ blocks)) rows next = Wrong next
+ended true (inArguments blocks) rows next = Wrong next
+ended true (inParameters blocks) rows next = Wrong next
 ended false around rows next = Wrong next
 
 abbrev pub stepped : LineRead → (number : ℕ) → Open → (LineContent → Open → Scan) → Scan
@@ -57,11 +68,11 @@ module _ (names : Names) (page : List ℕ) where
   unfoldable pub scanFrom : (left done : ℕ) → Open → (rows : ℕ) → Scan
   scanFrom zero done around rows = ended (eqb (81 * done) (length page)) around rows (done + 1)
   scanFrom (suc left) done around rows =
-      stepped (lineIn names (done + 1) (length around) (take 81 (drop (81 * done) page))) (done + 1) around (λ line a. scanFrom left (done + 1) a (rows + lineRows line))
+      stepped (lineIn names (done + 1) (levelIn around) (take 81 (drop (81 * done) page))) (done + 1) around (λ line a. scanFrom left (done + 1) a (rows + lineRows line))
 
   -- Row 0 has no line.
   unfoldable pub scan : Scan
-  scan = scanFrom (min (length page / 81) 81958) 0 [] 1
+  scan = scanFrom (min (length page / 81) 81958) 0 (outside []) 1
 
 -- ---- the lines
 

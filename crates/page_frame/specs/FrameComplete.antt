@@ -7,22 +7,24 @@ use native.Mathlib.Omega.{arith}
 use lib.ListN.{length, getD, take, drop, length-append}
 use lib.Seq.{take-at, drop-at, getD-at, drop-drop}
 use borrow.Author.Tests.{eq-eqb, le-ltb}
-use Rattle.text_numbers.specs.Number.{digits}
+use Rattle.text_numbers.specs.Number.{digits, numberBytes}
 use Rattle.text_numbers.specs.NumberLaws.{length-some}
 use Rattle.text_numbers.specs.PutLaws.{digits-within}
 use Rattle.page.specs.declared.Sizes.{Sizes}
 use Rattle.page.specs.Page.{blanks, rightSet, indent}
-use Rattle.page.specs.WordLaws.{Between, digits-between}
+use Rattle.page.specs.WordLaws.{Between, digits-between, number-between, number-word}
 use Rattle.page.specs.Widths.{length-blanks, length-set}
 use Rattle.page_words.specs.Trees.{Within}
 use Rattle.page_words.specs.Texts.{atomText, valueText, elementText, lineText, LineFits}
 use Rattle.page_words.specs.Reads.{numberRead, lineRead}
-use Rattle.page_words.specs.Complete.{number-complete, line-complete}
+use Rattle.page_words.specs.Complete.{number-complete}
+use Rattle.page_words.specs.LineComplete.{line-complete}
 use Rattle.page_words.specs.declared.Names.{Names}
 use Rattle.page_words.specs.declared.LineRead.the-variants as line-cases
+use Rattle.page_words.specs.declared.PageAtom.{PageAtom}
 use Rattle.page_words.specs.declared.PageAtom.the-variants.{Constant, Variable, Declared, Temporary}
 use Rattle.page_words.specs.declared.LineContent.{LineContent}
-use Rattle.page_words.specs.declared.LineContent.the-variants.{Empty, Abort, Goto, Label, Store, Put, Opens, While, If, Turns, Closes}
+use Rattle.page_words.specs.declared.LineContent.the-variants.{Empty, Abort, Goto, Label, Store, Put, Opens, While, If, Turns, Closes, Return, OpensCall, Argument, LastArgument, OpensFunction, OpensParameters, Parameter, LastParameter}
 use Rattle.page_frame.specs.Frames.{leadingBlanks, filledSize, levelOf, isNumber, isNumbered, levelled, statementRead, bodyRead, lineIn}
 use Rattle.page_frame.specs.BlankLaws.{Begins, leading-is, Ends, filled-is}
 use Rattle.page_frame.specs.FrameLaws.{framed, printed, printed-is, width}
@@ -35,6 +37,18 @@ ends-append [] ys h = h
 ends-append (x ∷ []) [] h = absurd h
 ends-append (x ∷ []) (y ∷ ys) h = h
 ends-append (x ∷ (z ∷ xs)) ys h = ends-append (z ∷ xs) ys h
+
+begins-number : (bytes ys : List ℕ) → 1 ≤ length bytes → Between 45 57 bytes → Begins (bytes ++ ys)
+unfolding Begins Between
+begins-number [] ys h b = absurd (omega arith)
+begins-number (byte ∷ bytes) ys h b = λ e. omega (arith, b .0)
+
+begins-atom : (a : PageAtom) (ys : List ℕ) → Begins (atomText a ++ ys)
+unfolding Begins
+begins-atom (Constant v) ys = begins-number (numberBytes v) ys (number-word v .some-byte) (number-between v)
+begins-atom (Variable n) ys = λ e. omega arith
+begins-atom (Declared n) ys = λ e. omega arith
+begins-atom (Temporary n) ys = λ e. omega arith
 
 begins-line : (names : Names) (line : LineContent) → LineFits names line → Begins (lineText line)
 unfolding Begins
@@ -52,6 +66,14 @@ begins-line names (While a) h = λ e. omega arith
 begins-line names (If a) h = λ e. omega arith
 begins-line names Turns h = λ e. omega arith
 begins-line names Closes h = λ e. omega arith
+begins-line names (Return a) h = λ e. omega arith
+begins-line names (OpensCall a f) h = begins-atom a ((32 ∷ 61 ∷ 32 ∷ 102 ∷ []) ++ (digits f ++ (40 ∷ [])))
+begins-line names (Argument a) h = begins-atom a (44 ∷ [])
+begins-line names (LastArgument a) h = begins-atom a (41 ∷ 59 ∷ [])
+begins-line names (OpensFunction f) h = λ e. omega arith
+begins-line names (OpensParameters f) h = λ e. omega arith
+begins-line names (Parameter n) h = λ e. omega arith
+begins-line names (LastParameter n) h = λ e. omega arith
 
 ends-line : (line : LineContent) → Ends (lineText line)
 unfolding Ends
@@ -71,6 +93,16 @@ ends-line (While a) =
 ends-line (If a) = ends-append (105 ∷ 102 ∷ 32 ∷ 40 ∷ []) (atomText a ++ (41 ∷ 32 ∷ 123 ∷ [])) (ends-append (atomText a) (41 ∷ 32 ∷ 123 ∷ []) (λ e. omega arith))
 ends-line Turns = λ e. omega arith
 ends-line Closes = λ e. omega arith
+ends-line (Return a) = ends-append (114 ∷ 101 ∷ 116 ∷ 117 ∷ 114 ∷ 110 ∷ 32 ∷ []) (atomText a ++ (59 ∷ [])) (ends-append (atomText a) (59 ∷ []) (λ e. omega arith))
+ends-line (OpensCall a f) =
+    ends-append (atomText a) ((32 ∷ 61 ∷ 32 ∷ 102 ∷ []) ++ (digits f ++ (40 ∷ [])))
+    (ends-append (32 ∷ 61 ∷ 32 ∷ 102 ∷ []) (digits f ++ (40 ∷ [])) (ends-append (digits f) (40 ∷ []) (λ e. omega arith)))
+ends-line (Argument a) = ends-append (atomText a) (44 ∷ []) (λ e. omega arith)
+ends-line (LastArgument a) = ends-append (atomText a) (41 ∷ 59 ∷ []) (λ e. omega arith)
+ends-line (OpensFunction f) = ends-append (105 ∷ 110 ∷ 116 ∷ 32 ∷ 102 ∷ []) (digits f ++ (40 ∷ 41 ∷ 32 ∷ 123 ∷ [])) (ends-append (digits f) (40 ∷ 41 ∷ 32 ∷ 123 ∷ []) (λ e. omega arith))
+ends-line (OpensParameters f) = ends-append (105 ∷ 110 ∷ 116 ∷ 32 ∷ 102 ∷ []) (digits f ++ (40 ∷ [])) (ends-append (digits f) (40 ∷ []) (λ e. omega arith))
+ends-line (Parameter n) = ends-append (105 ∷ 110 ∷ 116 ∷ 32 ∷ 108 ∷ []) (digits n ++ (44 ∷ [])) (ends-append (digits n) (44 ∷ []) (λ e. omega arith))
+ends-line (LastParameter n) = ends-append (105 ∷ 110 ∷ 116 ∷ 32 ∷ 108 ∷ []) (digits n ++ (41 ∷ 32 ∷ 123 ∷ [])) (ends-append (digits n) (41 ∷ 32 ∷ 123 ∷ []) (λ e. omega arith))
 
 digits-begin : (bytes : List ℕ) → 1 ≤ length bytes → Between 48 57 bytes → Begins bytes
 unfolding Begins Between

@@ -20,10 +20,12 @@ use Rattle.page.specs.WordLaws.{Between, digits-between}
 use Rattle.page.specs.Widths.{length-blanks, length-set, variable-width, behind-width, line-width}
 use Rattle.page_words.specs.Texts.{lineText, LineFits}
 use Rattle.page_words.specs.Reads.{numberRead, lineRead}
-use Rattle.page_words.specs.Sound.{below-sound, line-sound}
-use Rattle.page_words.specs.Complete.{number-complete, line-complete}
+use Rattle.page_words.specs.Sound.{below-sound}
+use Rattle.page_words.specs.LineSound.{line-sound}
+use Rattle.page_words.specs.Complete.{number-complete}
+use Rattle.page_words.specs.LineComplete.{line-complete}
 use Rattle.page_words.specs.CompareLaws.{never}
-use Rattle.page_words.specs.Trees.{Within, lineTree, line-words, Named, line-fits}
+use Rattle.page_words.specs.Trees.{Within, lineTree, line-words, Named, Declares, line-fits}
 use Rattle.page_words.specs.declared.Names.{Names}
 use Rattle.page_words.specs.declared.NumberRead.{NumberRead}
 use Rattle.page_words.specs.declared.NumberRead.the-variants as number-cases
@@ -146,9 +148,12 @@ module _ (names : Names) (few-variables : names .variables ≤ 256) (few-behind 
     name-width : (i : ℕ) → Named sizes names within i → length (name sizes i) ≤ 5
     name-width i = ⊎-elim (λ v. variable-width sizes i (omega arith)) (λ t. behind-width sizes i (t .0) (omega (arith, t .1)))
 
+    declared-width : (i : ℕ) → Declares sizes names within i → length (name sizes i) ≤ 5
+    declared-width i d = behind-width sizes i (d .0) (omega (arith, d .1, within .same-declared))
+
     pub width : (line : LineContent) → LineFits names line → length (lineText line) ≤ 35
     width line h =
-        let f = line-width {Names = Named sizes names within} {arrays = names .arrays} sizes name-width few-arrays (lineTree sizes line) (line-fits sizes names within line h) in
+        let f = line-width {Names = Named sizes names within} {Parameters = Declares sizes names within} {arrays = names .arrays} sizes name-width declared-width few-arrays (lineTree sizes line) (line-fits sizes names within line h) in
         rw (line-words sizes names within line h) at f
 
     -- A printed line by its parts.

@@ -13,7 +13,7 @@ use Rattle.page_words.specs.declared.NumberRead.the-variants as number-cases
 use Rattle.page_words.specs.declared.LineRead.{LineRead}
 use Rattle.page_words.specs.declared.LineRead.the-variants as line-cases
 use Rattle.page_words.specs.declared.LineContent.{LineContent}
-use Rattle.page_words.specs.declared.LineContent.the-variants.{Empty, Abort, Goto, Label, Store, Put, Opens, While, If, Turns, Closes}
+use Rattle.page_words.specs.declared.LineContent.the-variants.{Empty, Abort, Goto, Label, Store, Put, Opens, While, If, Turns, Closes, Return, OpensCall, Argument, LastArgument, OpensFunction, OpensParameters, Parameter, LastParameter}
 
 -- How many blanks stand first.
 unfoldable pub leadingBlanks : List ℕ → ℕ
@@ -38,6 +38,14 @@ levelOf depth (Put array index a) = depth
 levelOf depth Opens = depth
 levelOf depth (While a) = depth
 levelOf depth (If a) = depth
+levelOf depth (Return a) = depth
+levelOf depth (OpensCall a f) = depth
+levelOf depth (Argument a) = depth
+levelOf depth (LastArgument a) = depth
+levelOf depth (OpensFunction f) = depth
+levelOf depth (OpensParameters f) = depth
+levelOf depth (Parameter n) = depth
+levelOf depth (LastParameter n) = depth
 
 abbrev pub isNumber : ℕ → NumberRead → Bool
 isNumber number (number-cases.Number found) = eqb found number

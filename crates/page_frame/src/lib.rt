@@ -73,6 +73,14 @@ fn level_of(depth: usize, line: LineContent) -> usize
         LineContent::Opens => depth,
         LineContent::While(_) => depth,
         LineContent::If(_) => depth,
+        LineContent::Return(_) => depth,
+        LineContent::OpensCall(_, _) => depth,
+        LineContent::Argument(_) => depth,
+        LineContent::LastArgument(_) => depth,
+        LineContent::OpensFunction(_) => depth,
+        LineContent::OpensParameters(_) => depth,
+        LineContent::Parameter(_) => depth,
+        LineContent::LastParameter(_) => depth,
     }
 }
 

@@ -2,7 +2,7 @@
 use mathlib.Core.Path.{_≡_, refl, sym, ap, _∙_}
 use mathlib.Core.Bool.{true, false, true≢false}
 use mathlib.Core.List.{List, [], _∷_, _++_, append-assoc, append-nil}
-use Prim.Native.Nat.{ℕ, _-_, _≤_, _<_}
+use Prim.Native.Nat.{ℕ, zero, suc, _-_, _≤_, _<_}
 use native.Mathlib.Omega.{arith}
 use lib.ListN.{length}
 use borrow.Author.Tests.{lt-ltb, le-ltb}
@@ -10,16 +10,17 @@ use lib.IntN.{ℤ}
 use Rattle.words.specs.declared.Operator.{Operator}
 use Rattle.words.specs.declared.Operator.the-variants.{Add, Subtract, Multiply, Divide, Remainder, Less, Greater, LessOrEqual, GreaterOrEqual, Equal, NotEqual}
 use Rattle.text_numbers.specs.Number.{digits}
-use Rattle.language.specs.Trees.{Expression, Place, minus, binary, assign, element, label, goto}
+use Rattle.language.specs.Trees.{Expression, Place, minus, binary, assign, call, element, Arguments, noMore, _also_, present, label, goto, giveBack}
+use Rattle.language.specs.Decode.{expressionAt, partAt}
 use Rattle.shapes.specs.Shapes.{operationTree, choiceTree}
 use Rattle.shapes.specs.declared.OperationShape.{OperationShape}
 use Rattle.shapes.specs.declared.OperationShape.the-variants as operation
 use Rattle.shapes.specs.declared.ChoiceShape.{ChoiceShape}
 use Rattle.shapes.specs.declared.ChoiceShape.the-variants as choice
 use Rattle.page.specs.declared.Sizes.{Sizes}
-use Rattle.page.specs.Lines.{opensWhile, opensIf, single, mark}
-use Rattle.page.specs.Page.{blank, equalsWord, operatorWord, endedBy, labelWord, firstTemporary, name, atomWord, placeWord, ended, valueWords, assignmentWords, lineWords, markWords, parted}
-use Rattle.page_line.specs.Contents.{led, operatorByte, isTwoBytes, gotoBytes, labelBytes, testBytes}
+use Rattle.page.specs.Lines.{opensWhile, opensIf, single, mark, opensCall, argument, lastArgument, opensFunction, opensParameters, parameter, lastParameter}
+use Rattle.page.specs.Page.{blank, equalsWord, operatorWord, endedBy, labelWord, functionWord, openedWord, firstTemporary, name, atomWord, placeWord, ended, valueWords, assignmentWords, lineWords, singleWords, markWords, parted}
+use Rattle.page_line.specs.Contents.{led, operatorByte, isTwoBytes, gotoBytes, labelBytes, testBytes, calledBytes, returnBytes, callBytes, functionBytes, parameterBytes}
 
 -- ---- names
 
@@ -77,6 +78,51 @@ module _ (sizes : Sizes) where
   pub label-bytes : (l : ℕ) → labelBytes l ≡ parted (markWords sizes (label l))
   unfolding parted
   label-bytes l = sym (append-assoc (labelWord l) (58 ∷ []) (59 ∷ []))
+
+-- ---- calls, definitions and returns
+
+module _ (sizes : Sizes) where
+  pub called-bytes : (f : ℕ) (arguments : Arguments) → calledBytes f arguments ≡ led (ended (valueWords sizes (call f arguments)))
+  unfolding parted ended
+  called-bytes f noMore = ap (λ (l : List ℕ). 32 ∷ l) (sym (append-assoc (openedWord f) (41 ∷ []) (59 ∷ []) ∙ append-assoc (functionWord f) (40 ∷ []) (41 ∷ 59 ∷ [])))
+  called-bytes f (e also arguments) = refl
+
+  return-bytes : (e : Expression) → returnBytes sizes e ≡ parted (singleWords sizes (giveBack (present e)))
+  unfolding parted
+  return-bytes e = refl
+
+  pub given-bytes : (rows : List ℤ) (value : ℕ) → (value ≡ 0 → ⊥) → returnBytes sizes (expressionAt rows value) ≡ parted (singleWords sizes (giveBack (partAt rows value)))
+  given-bytes rows zero some = absurd (some refl)
+  given-bytes rows (suc value) some = return-bytes (expressionAt rows (suc value))
+
+  pub call-bytes : (p : Place) (f : ℕ) → callBytes sizes p f ≡ parted (lineWords sizes (opensCall p f))
+  unfolding parted
+  call-bytes p f = refl
+
+  pub argument-bytes : (e : Expression) → atomWord sizes e ++ (44 ∷ []) ≡ parted (lineWords sizes (argument e))
+  unfolding parted
+  argument-bytes e = refl
+
+  pub last-argument-bytes : (e : Expression) → atomWord sizes e ++ (41 ∷ 59 ∷ []) ≡ parted (lineWords sizes (lastArgument e))
+  unfolding parted
+  last-argument-bytes e = sym (append-assoc (atomWord sizes e) (41 ∷ []) (59 ∷ []))
+
+  pub function-bytes : (f : ℕ) → functionBytes f (40 ∷ 41 ∷ 32 ∷ 123 ∷ []) ≡ parted (lineWords sizes (opensFunction f))
+  unfolding parted
+  function-bytes f =
+      ap (λ (l : List ℕ). 105 ∷ 110 ∷ 116 ∷ 32 ∷ l) (sym (append-assoc (openedWord f) (41 ∷ []) (32 ∷ 123 ∷ []) ∙ append-assoc (functionWord f) (40 ∷ []) (41 ∷ 32 ∷ 123 ∷ [])))
+
+  pub parameters-bytes : (f : ℕ) → functionBytes f (40 ∷ []) ≡ parted (lineWords sizes (opensParameters f))
+  unfolding parted
+  parameters-bytes f = refl
+
+  pub parameter-bytes : (word : ℕ) → parameterBytes sizes word (44 ∷ []) ≡ parted (lineWords sizes (parameter word))
+  unfolding parted
+  parameter-bytes word = refl
+
+  pub last-parameter-bytes : (word : ℕ) → parameterBytes sizes word (41 ∷ 32 ∷ 123 ∷ []) ≡ parted (lineWords sizes (lastParameter word))
+  unfolding parted
+  last-parameter-bytes word = ap (λ (l : List ℕ). 105 ∷ 110 ∷ 116 ∷ 32 ∷ l) (sym (append-assoc (name sizes word) (41 ∷ []) (32 ∷ 123 ∷ [])))
 
 pub two-bytes : (o : Operator) → isTwoBytes o ≡ true → (operatorByte o ∷ []) ++ (61 ∷ []) ≡ operatorWord o
 two-bytes LessOrEqual e = refl

@@ -1,19 +1,30 @@
 -- Reads: tables whose rows can be read, and what stands at a row.
 use mathlib.Core.Path.{_≡_}
 use mathlib.Core.List.{List}
-use Prim.Native.Nat.{ℕ, _<_}
+use Prim.Native.Nat.{ℕ, zero, suc, _<_}
 use lib.IntN.{ℤ}
-use Rattle.words.specs.Table.{rowCount}
+use Rattle.words.specs.Table.{rowCount, numberAt}
 use Rattle.words.specs.Layout.{Layout}
-use Rattle.language.specs.Decode.{expressionAt, placeOf}
+use Rattle.language.specs.Decode.{expressionAt, placeOf, argumentListAt}
 use Rattle.language.specs.Sound.{Sound}
-use Rattle.shapes.specs.Shapes.{placeTree, expressionTree}
+use Rattle.shapes.specs.Shapes.{shapeAt, expressionIn, argumentIn, placeTree, expressionTree, argumentTree}
 use Rattle.shapes.specs.declared.PlaceShape.{PlaceShape}
 use Rattle.shapes.specs.declared.PlaceShape.the-variants.{Variable, Element}
 use Rattle.shapes.specs.declared.OperationShape.{OperationShape}
 use Rattle.shapes.specs.declared.OperationShape.the-variants.{Minus, Not, Binary, Comma, Assign, Compound, Prefix, Postfix}
 use Rattle.shapes.specs.declared.ExpressionShape.{ExpressionShape}
 use Rattle.shapes.specs.declared.ExpressionShape.the-variants.{Number, Read, Operation, Choice, Call}
+use Rattle.shapes.specs.declared.ArgumentShape.{ArgumentShape}
+use Rattle.shapes.specs.declared.ArgumentShape.the-variants.{Argument, NoArgument}
+
+-- What stands at a row as an expression.
+unfoldable pub expressionShapeAt : List ℤ → ℕ → ExpressionShape
+expressionShapeAt rows row = expressionIn (shapeAt rows row)
+
+-- The argument that a link leads to; 0 leads to none.
+unfoldable pub argumentAt : List ℤ → ℕ → ArgumentShape
+argumentAt rows zero = NoArgument
+argumentAt rows (suc link) = argumentIn (shapeAt rows (suc link))
 
 -- Every link leads on.
 pub record Readable (rows : List ℤ) : Type 0 where
@@ -41,7 +52,11 @@ ExpressionInside count (Number v) = Unit {0}
 ExpressionInside count (Read p) = PlaceInside count p
 ExpressionInside count (Operation o) = OperationInside count o
 ExpressionInside count (Choice c) = Unit {0}
-ExpressionInside count (Call f arguments) = Unit {0}
+ExpressionInside count (Call f arguments) = arguments < count
+
+abbrev pub ArgumentInside : ℕ → ArgumentShape → Type 0
+ArgumentInside count (Argument e) = e < count
+ArgumentInside count NoArgument = Unit {0}
 
 module _ (rows : List ℤ) (row : ℕ) where
   pub record PlaceRead (shape : PlaceShape) : Type 0 where
@@ -51,3 +66,10 @@ module _ (rows : List ℤ) (row : ℕ) where
   pub record ExpressionRead (shape : ExpressionShape) : Type 0 where
     pub is : expressionAt rows row ≡ expressionTree rows shape
     pub inside : ExpressionInside (rowCount rows) shape
+
+  -- What a link leads to among arguments, and the link behind it.
+  pub record ArgumentRead (shape : ArgumentShape) : Type 0 where
+    pub is : argumentListAt rows row ≡ argumentTree rows shape (argumentListAt rows (numberAt rows row 5))
+    pub inside : ArgumentInside (rowCount rows) shape
+    pub next-inside : numberAt rows row 5 < rowCount rows
+    pub next-later : 0 < numberAt rows row 5 → row < numberAt rows row 5

@@ -5,15 +5,21 @@ use super::bytes::lay_bytes;
 use super::bytes::lay_lettered;
 use super::expressions::lay_assignment;
 use super::expressions::lay_atom;
+use super::functions::lay_argument;
+use super::functions::lay_call;
+use super::functions::lay_function;
+use super::functions::lay_parameter;
+use super::functions::lay_return;
 use page::Sizes;
 use shapes::MarkShape;
 ghost use mathlib.Core.List.{[], _++_};
 ghost use Prim.Native.Nat.{_+_, _≤_, _<_};
 ghost use lib.ListN.{length};
 ghost use Rattle.words.specs.Table.{rowCount};
-ghost use Rattle.language.specs.Decode.{expressionAt};
+ghost use Rattle.language.specs.Trees.{giveBack};
+ghost use Rattle.language.specs.Decode.{expressionAt, partAt};
 ghost use Rattle.shapes.specs.Shapes.{markTree};
-ghost use Rattle.page.specs.Page.{markWords, lineWords, parted};
+ghost use Rattle.page.specs.Page.{singleWords, markWords, lineWords, parted};
 ghost use Rattle.page_line.specs.Laid.{Laid};
 ghost use Rattle.page_line.specs.Reads.{Readable};
 ghost use Rattle.page_line.specs.Contents.{lineTree, LineInside, gotoBytes, labelBytes, testBytes};
@@ -66,6 +72,18 @@ fn lay_test(
     lay_bytes(b") {", end, text)
 }
 
+// A return; one without an expression is none of the kernel's.
+fn lay_given(sizes: Sizes, rows: &[i32], value: usize, at: usize, text: &mut [u8]) -> usize
+    requires { ⌜ Readable (now rows) × (value < rowCount (now rows)) ⌝ }
+    requires { ⌜ at + length (parted (singleWords sizes (giveBack (partAt (now rows) value)))) ≤ length (now text) ⌝ }
+    ensures { λ r. ⌜ Laid (parted (singleWords sizes (giveBack (partAt (now (rows .entry)) value)))) (now (text .entry)) at r (now (text .exit)) ⌝ }
+{
+    if value == 0 {
+        return at;
+    }
+    lay_return(sizes, rows, value, at, text)
+}
+
 // What a line says, its words parted by blanks.
 pub fn lay_content(sizes: Sizes, rows: &[i32], line: LineAt, at: usize, text: &mut [u8]) -> usize
     requires { ⌜ Readable (now rows) × LineInside (rowCount (now rows)) line ⌝ }
@@ -83,5 +101,13 @@ pub fn lay_content(sizes: Sizes, rows: &[i32], line: LineAt, at: usize, text: &m
         LineAt::If(row) => lay_test(b"if (", sizes, rows, row, at, text),
         LineAt::Turns => lay_bytes(b"} else {", at, text),
         LineAt::Closes => lay_byte(b'}', at, text),
+        LineAt::Return(value) => lay_given(sizes, rows, value, at, text),
+        LineAt::OpensCall(place, number) => lay_call(sizes, rows, place, number, at, text),
+        LineAt::Argument(row) => lay_argument(b",", sizes, rows, row, at, text),
+        LineAt::LastArgument(row) => lay_argument(b");", sizes, rows, row, at, text),
+        LineAt::OpensFunction(number) => lay_function(b"() {", number, at, text),
+        LineAt::OpensParameters(number) => lay_function(b"(", number, at, text),
+        LineAt::Parameter(word) => lay_parameter(b",", sizes, word, at, text),
+        LineAt::LastParameter(word) => lay_parameter(b") {", sizes, word, at, text),
     }
 }

@@ -4,9 +4,11 @@ use super::bytes::lay_bytes;
 use super::bytes::lay_constant;
 use super::bytes::lay_lettered;
 use super::bytes::lay_name;
+use super::shapes_at::argument_at;
 use super::shapes_at::expression_at;
 use super::shapes_at::place_at;
 use page::Sizes;
+use shapes::ArgumentShape;
 use shapes::ExpressionShape;
 use shapes::OperationShape;
 use shapes::PlaceShape;
@@ -17,13 +19,13 @@ ghost use Prim.Native.Nat.{_+_, _≤_, _<_};
 ghost use lib.ListN.{length};
 ghost use Rattle.words.specs.Table.{rowCount};
 ghost use Rattle.text_numbers.specs.Number.{numberBytes};
-ghost use Rattle.language.specs.Trees.{minus, binary, assign, element};
-ghost use Rattle.language.specs.Decode.{expressionAt, placeOf};
+ghost use Rattle.language.specs.Trees.{minus, binary, assign, element, noMore};
+ghost use Rattle.language.specs.Decode.{expressionAt, placeOf, argumentListAt};
 ghost use Rattle.shapes.specs.Shapes.{placeTree, operationTree};
 ghost use Rattle.page.specs.Page.{blank, semicolon, endedBy, operatorWord, atomWord, placeWord, ended, valueWords, assignmentWords, parted};
 ghost use Rattle.page_line.specs.Laid.{Laid};
 ghost use Rattle.page_line.specs.Reads.{Readable, PlaceInside, OperationInside};
-ghost use Rattle.page_line.specs.Contents.{led, operatorByte, isTwoBytes};
+ghost use Rattle.page_line.specs.Contents.{led, calledBytes, operatorByte, isTwoBytes};
 
 pub fn lay_atom(sizes: Sizes, rows: &[i32], row: usize, at: usize, text: &mut [u8]) -> usize
     requires { ⌜ Readable (now rows) × (row < rowCount (now rows)) ⌝ }
@@ -63,7 +65,7 @@ fn lay_element(
 }
 
 // A place, as it is read.
-fn lay_read(sizes: Sizes, rows: &[i32], place: PlaceShape, at: usize, text: &mut [u8]) -> usize
+pub fn lay_read(sizes: Sizes, rows: &[i32], place: PlaceShape, at: usize, text: &mut [u8]) -> usize
     requires { ⌜ Readable (now rows) × PlaceInside (rowCount (now rows)) place ⌝ }
     requires { ⌜ at + length (placeWord sizes (placeTree (now rows) place)) ≤ length (now text) ⌝ }
     ensures { λ r. ⌜ Laid (placeWord sizes (placeTree (now (rows .entry)) place)) (now (text .entry)) at r (now (text .exit)) ⌝ }
@@ -209,6 +211,29 @@ fn lay_read_value(
     lay_byte(b';', end, text)
 }
 
+// ` fN();`
+fn lay_alone(number: usize, at: usize, text: &mut [u8]) -> usize
+    requires { ⌜ at + length (calledBytes number noMore) ≤ length (now text) ⌝ }
+    ensures { λ r. ⌜ Laid (calledBytes number noMore) (now (text .entry)) at r (now (text .exit)) ⌝ }
+{
+    let start = lay_byte(b' ', at, text);
+    let named = lay_lettered(b'f', number, start, text);
+    lay_bytes(b"();", named, text)
+}
+
+// A call; one with arguments has lines of its own.
+fn lay_called(rows: &[i32], number: usize, arguments: usize, at: usize, text: &mut [u8]) -> usize
+    requires { ⌜ Readable (now rows) × (arguments < rowCount (now rows)) ⌝ }
+    requires { ⌜ at + length (calledBytes number (argumentListAt (now rows) arguments)) ≤ length (now text) ⌝ }
+    ensures { λ r. ⌜ Laid (calledBytes number (argumentListAt (now (rows .entry)) arguments)) (now (text .entry)) at r (now (text .exit)) ⌝ }
+{
+    let first = argument_at(rows, arguments);
+    match first {
+        ArgumentShape::Argument(_) => at,
+        ArgumentShape::NoArgument => lay_alone(number, at, text),
+    }
+}
+
 // What is assigned, with the blank before it and the semicolon behind it.
 fn lay_value(sizes: Sizes, rows: &[i32], row: usize, at: usize, text: &mut [u8]) -> usize
     requires { ⌜ Readable (now rows) × (row < rowCount (now rows)) ⌝ }
@@ -221,7 +246,9 @@ fn lay_value(sizes: Sizes, rows: &[i32], row: usize, at: usize, text: &mut [u8])
         ExpressionShape::Read(place) => lay_read_value(sizes, rows, place, at, text),
         ExpressionShape::Operation(operation) => lay_operation(sizes, rows, operation, at, text),
         ExpressionShape::Choice(_) => at,
-        ExpressionShape::Call(_, _) => at,
+        ExpressionShape::Call(number, arguments) => {
+            lay_called(rows, number, arguments, at, text)
+        }
     }
 }
 

@@ -6,16 +6,17 @@ use native.Mathlib.Omega.{arith}
 use lib.IntN.{ℤ}
 use lib.ListN.{length, length-append}
 use Rattle.words.specs.Table.{rowCount, numberAt}
-use Rattle.language.specs.Decode.{statementAt, itemsAt, listAt}
-use Rattle.page.specs.Lines.{Indented, indented, closes, branchLines, itemsLines}
+use Rattle.language.specs.Decode.{expressionAt, argumentListAt, parameterListAt, statementAt, itemsAt, listAt}
+use Rattle.language.specs.Calls.{argumentCount}
+use Rattle.page.specs.Lines.{Indented, indented, closes, definitionLines, branchLines, itemsLines}
 use Rattle.page_line.specs.declared.LineAt.{LineAt}
 use Rattle.page_line.specs.declared.LineAt.the-variants.{Turns, If}
 use Rattle.page_line.specs.Reads.{Readable}
 use Rattle.page_printer.specs.declared.Outline.{Outline}
-use Rattle.page_printer.specs.declared.Outline.the-variants.{Enclosed, Split}
+use Rattle.page_printer.specs.declared.Outline.the-variants.{Enclosed, Split, Called, Defined}
 use Rattle.page_printer.specs.Outlines.{ifOutline, outlineAt, blockList, enclosed, outlined, OutlineInside}
 use Rattle.page_printer.specs.Ready.{Sized}
-use Rattle.page_printer.specs.Levels.{items-level}
+use Rattle.page_printer.specs.Levels.{argument-lines-count, definition-count, items-level}
 use Rattle.page_printer.specs.OutlineLaws.{outline-inside, item-lines, block-lines, block-inside, next-inside}
 
 pub if-split : (test first second : ℕ) → (second ≡ 0 → ⊥) → Split (If test) first second ≡ ifOutline test first second
@@ -67,6 +68,20 @@ module _ {rows : List ℤ} (readable : Readable rows) {row : ℕ} (inside : row 
         length-append (branchLines 1 (statementAt rows second)) (indented 0 closes ∷ []),
         block-count first one (told-inside e .1) g,
         block-count second other (told-inside e .2) h,
+      ))
+
+  pub called-count : (line : LineAt) (first link : ℕ) → outlineAt rows row ≡ Called line first link → length (outlined rows 0 (outlineAt rows row)) ≡ argumentCount (argumentListAt rows link) + 2
+  called-count line first link e = rw e (omega (arith, argument-lines-count 0 (expressionAt rows first) (argumentListAt rows link)))
+
+  pub defined-count : (f words body list : ℕ) → outlineAt rows row ≡ Defined f words body → list ≡ blockList rows body
+      → length (outlined rows 0 (outlineAt rows row)) ≡ length (parameterListAt rows words) + 1 + length (itemsLines 0 (listAt rows list)) + 1
+  defined-count f words body list e g =
+      rw e (omega (
+        arith,
+        length-append (definitionLines 0 f (parameterListAt rows words)) (branchLines 1 (statementAt rows body) ++ (indented 0 closes ∷ [])),
+        length-append (branchLines 1 (statementAt rows body)) (indented 0 closes ∷ []),
+        definition-count 0 f (parameterListAt rows words),
+        block-count body list (told-inside e .1) g,
       ))
 
   -- the list of a block of the item

@@ -1,19 +1,82 @@
 -- Outlines: which lines an item has of its own, and where its blocks stand.
+use mathlib.Core.Bool.{Bool, false}
 use mathlib.Core.List.{List, [], _∷_, _++_}
 use Prim.Native.Nat.{ℕ, zero, suc, _+_, _<_}
 use lib.IntN.{ℤ}
-use Rattle.language.specs.Decode.{statementAt}
+use Rattle.words.specs.Table.{numberAt}
+use Rattle.words.specs.Declarations.{isDeclaration}
+use Rattle.language.specs.Decode.{expressionAt, argumentListAt, parameterListAt, statementAt}
 use Rattle.shapes.specs.Shapes.{shapeAt}
 use Rattle.shapes.specs.declared.Shape.{Shape}
 use Rattle.shapes.specs.declared.Shape.the-variants.{OfExpression, OfStatement, OfMark, OfArm, OfArgument, OfDefinition, Other}
+use Rattle.shapes.specs.declared.ExpressionShape.{ExpressionShape}
+use Rattle.shapes.specs.declared.ExpressionShape.the-variants as expression
+use Rattle.shapes.specs.declared.OperationShape.{OperationShape}
+use Rattle.shapes.specs.declared.OperationShape.the-variants as operation
+use Rattle.shapes.specs.declared.ArgumentShape.{ArgumentShape}
+use Rattle.shapes.specs.declared.ArgumentShape.the-variants.{Argument, NoArgument}
 use Rattle.shapes.specs.declared.StatementShape.{StatementShape}
 use Rattle.shapes.specs.declared.StatementShape.the-variants as statement
-use Rattle.page.specs.Lines.{Indented, indented, closes, branchLines}
+use Rattle.page.specs.Lines.{Indented, indented, closes, argumentLines, definitionLines, branchLines}
+use Rattle.page_line.specs.Reads.{expressionShapeAt, argumentAt}
 use Rattle.page_line.specs.Contents.{lineTree, LineInside}
 use Rattle.page_line.specs.declared.LineAt.{LineAt}
-use Rattle.page_line.specs.declared.LineAt.the-variants.{Empty, Express, Goto, Abort, Mark, Opens, While, If, Turns}
+use Rattle.page_line.specs.declared.LineAt.the-variants.{Empty, Express, Goto, Abort, Mark, Opens, While, If, Turns, Return, OpensCall}
 use Rattle.page_printer.specs.declared.Outline.{Outline}
-use Rattle.page_printer.specs.declared.Outline.the-variants.{Single, Enclosed, Split, Nothing}
+use Rattle.page_printer.specs.declared.Outline.the-variants.{Single, Enclosed, Split, Called, Defined, Nothing}
+
+-- ---- the outline of an expression statement
+
+-- A call with arguments has lines of its own; every other expression statement is one line.
+abbrev pub calledOutline : List ℤ → (e place f link : ℕ) → ArgumentShape → Outline
+calledOutline rows e place f link (Argument first) = Called (OpensCall place f) first (numberAt rows link 5)
+calledOutline rows e place f link NoArgument = Single (Express e)
+
+abbrev pub valueOutline : List ℤ → (e place : ℕ) → ExpressionShape → Outline
+valueOutline rows e place (expression.Call f arguments) = calledOutline rows e place f arguments (argumentAt rows arguments)
+valueOutline rows e place (expression.Number v) = Single (Express e)
+valueOutline rows e place (expression.Read p) = Single (Express e)
+valueOutline rows e place (expression.Operation o) = Single (Express e)
+valueOutline rows e place (expression.Choice c) = Single (Express e)
+
+abbrev pub operationOutline : List ℤ → ℕ → OperationShape → Outline
+operationOutline rows e (operation.Assign place value) = valueOutline rows e place (expressionShapeAt rows value)
+operationOutline rows e (operation.Minus a) = Single (Express e)
+operationOutline rows e (operation.Not a) = Single (Express e)
+operationOutline rows e (operation.Binary o a b) = Single (Express e)
+operationOutline rows e (operation.Comma a b) = Single (Express e)
+operationOutline rows e (operation.Compound o p a) = Single (Express e)
+operationOutline rows e (operation.Prefix o p) = Single (Express e)
+operationOutline rows e (operation.Postfix o p) = Single (Express e)
+
+abbrev pub expressionOutline : List ℤ → ℕ → ExpressionShape → Outline
+expressionOutline rows e (expression.Operation o) = operationOutline rows e o
+expressionOutline rows e (expression.Number v) = Single (Express e)
+expressionOutline rows e (expression.Read p) = Single (Express e)
+expressionOutline rows e (expression.Choice c) = Single (Express e)
+expressionOutline rows e (expression.Call f arguments) = Single (Express e)
+
+unfoldable pub expressOutline : List ℤ → ℕ → Outline
+expressOutline rows e = expressionOutline rows e (expressionShapeAt rows e)
+
+-- The expression of an expression statement is a row of the table, of which there are `count`.
+abbrev pub ExpressInside : ℕ → StatementShape → Type 0
+ExpressInside count (statement.Express e) = e < count
+ExpressInside count statement.Empty = Unit {0}
+ExpressInside count (statement.Block list) = Unit {0}
+ExpressInside count (statement.If test first second) = Unit {0}
+ExpressInside count (statement.While test body) = Unit {0}
+ExpressInside count (statement.Do body test) = Unit {0}
+ExpressInside count (statement.For first test action body) = Unit {0}
+ExpressInside count (statement.Switch e list) = Unit {0}
+ExpressInside count statement.Break = Unit {0}
+ExpressInside count statement.Continue = Unit {0}
+ExpressInside count (statement.Goto l) = Unit {0}
+ExpressInside count (statement.GuardedIf arms) = Unit {0}
+ExpressInside count (statement.GuardedDo arms) = Unit {0}
+ExpressInside count statement.Abort = Unit {0}
+ExpressInside count (statement.Declare word e) = Unit {0}
+ExpressInside count (statement.Return value) = Unit {0}
 
 -- ---- the outline of a row
 
@@ -22,35 +85,36 @@ abbrev pub ifOutline : ℕ → ℕ → ℕ → Outline
 ifOutline test first zero = Nothing
 ifOutline test first (suc second) = Split (If test) first (suc second)
 
-abbrev pub statementOutline : ℕ → StatementShape → Outline
-statementOutline row statement.Empty = Single Empty
-statementOutline row (statement.Express e) = Single (Express e)
-statementOutline row (statement.Block list) = Enclosed Opens row
-statementOutline row (statement.If test first second) = ifOutline test first second
-statementOutline row (statement.While test body) = Enclosed (While test) body
-statementOutline row (statement.Do body test) = Nothing
-statementOutline row (statement.For first test action body) = Nothing
-statementOutline row (statement.Switch e list) = Nothing
-statementOutline row statement.Break = Nothing
-statementOutline row statement.Continue = Nothing
-statementOutline row (statement.Goto l) = Single (Goto l)
-statementOutline row (statement.GuardedIf arms) = Nothing
-statementOutline row (statement.GuardedDo arms) = Nothing
-statementOutline row statement.Abort = Single Abort
-statementOutline row (statement.Declare word e) = Nothing
-statementOutline row (statement.Return value) = Nothing
+module _ (rows : List ℤ) where
+  abbrev pub statementOutline : ℕ → StatementShape → Outline
+  statementOutline row statement.Empty = Single Empty
+  statementOutline row (statement.Express e) = expressOutline rows e
+  statementOutline row (statement.Block list) = Enclosed Opens row
+  statementOutline row (statement.If test first second) = ifOutline test first second
+  statementOutline row (statement.While test body) = Enclosed (While test) body
+  statementOutline row (statement.Do body test) = Nothing
+  statementOutline row (statement.For first test action body) = Nothing
+  statementOutline row (statement.Switch e list) = Nothing
+  statementOutline row statement.Break = Nothing
+  statementOutline row statement.Continue = Nothing
+  statementOutline row (statement.Goto l) = Single (Goto l)
+  statementOutline row (statement.GuardedIf arms) = Nothing
+  statementOutline row (statement.GuardedDo arms) = Nothing
+  statementOutline row statement.Abort = Single Abort
+  statementOutline row (statement.Declare word e) = Nothing
+  statementOutline row (statement.Return value) = Single (Return value)
 
-abbrev pub outlineOf : ℕ → Shape → Outline
-outlineOf row (OfExpression e) = Single Empty
-outlineOf row (OfStatement s) = statementOutline row s
-outlineOf row (OfMark m) = Single (Mark m)
-outlineOf row (OfArm guard body) = Single Empty
-outlineOf row (OfArgument e) = Single Empty
-outlineOf row (OfDefinition f words body) = Nothing
-outlineOf row Other = Single Empty
+  abbrev pub outlineOf : ℕ → Shape → Outline
+  outlineOf row (OfExpression e) = Single Empty
+  outlineOf row (OfStatement s) = statementOutline row s
+  outlineOf row (OfMark m) = Single (Mark m)
+  outlineOf row (OfArm guard body) = Single Empty
+  outlineOf row (OfArgument e) = Single Empty
+  outlineOf row (OfDefinition f words body) = Defined f words body
+  outlineOf row Other = Single Empty
 
 unfoldable pub outlineAt : List ℤ → ℕ → Outline
-outlineAt rows row = outlineOf row (shapeAt rows row)
+outlineAt rows row = outlineOf rows row (shapeAt rows row)
 
 -- ---- the list of a block
 
@@ -95,6 +159,8 @@ module _ (rows : List ℤ) (level : ℕ) where
   outlined (Single line) = indented level (lineTree rows line) ∷ []
   outlined (Enclosed line block) = enclosed line block ++ (indented level closes ∷ [])
   outlined (Split line first second) = enclosed line first ++ (enclosed Turns second ++ (indented level closes ∷ []))
+  outlined (Called line first link) = indented level (lineTree rows line) ∷ argumentLines level (expressionAt rows first) (argumentListAt rows link)
+  outlined (Defined f words body) = definitionLines level f (parameterListAt rows words) ++ (branchLines (level + 1) (statementAt rows body) ++ (indented level closes ∷ []))
   outlined Nothing = []
 
 -- Its expression and its blocks are rows of the table, of which there are `count`.
@@ -102,4 +168,11 @@ abbrev pub OutlineInside : ℕ → Outline → Type 0
 OutlineInside count (Single line) = LineInside count line
 OutlineInside count (Enclosed line block) = LineInside count line × (block < count)
 OutlineInside count (Split line first second) = LineInside count line × (first < count) × (second < count)
+OutlineInside count (Called line first link) = LineInside count line × (first < count) × (link < count)
+OutlineInside count (Defined f words body) = (words < count) × (body < count)
 OutlineInside count Nothing = Unit {0}
+
+-- A link that leads to a parameter.
+unfoldable pub isParameter : List ℤ → ℕ → Bool
+isParameter rows zero = false
+isParameter rows (suc link) = isDeclaration rows (suc link)

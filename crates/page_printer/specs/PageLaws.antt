@@ -30,7 +30,7 @@ use Rattle.page.specs.Page.{name, pageBytes, linesBytes}
 use Rattle.page.specs.Fits.{AllFit, all-none, all-more}
 use Rattle.page.specs.Widths.{line-width}
 use Rattle.page.specs.Tables.{sizesOf, tableLines, tablePage, GivenBack}
-use Rattle.page.specs.TableLaws.{lines-fit, name-width, few-arrays, lines-of-rows, page-columns, gives-back}
+use Rattle.page_tables.specs.TableLaws.{lines-fit, name-width, parameter-width, few-arrays, lines-of-rows, page-columns, gives-back}
 use Rattle.page_line.specs.Reads.{Readable}
 use Rattle.page_line.specs.Printed.{Printed}
 use Rattle.page_printer.specs.Outlines.{blockList}
@@ -60,10 +60,11 @@ passed-all words i p h = record {
 -- ---- tables
 
 -- lines of kernel form are narrow
-narrow-fit : {Names : ℕ → Type 0} {arrays : ℕ} (sizes : Sizes) → ((i : ℕ) → Names i → length (name sizes i) ≤ 5) → arrays ≤ 32 → (lines : List Indented) → AllFit Names arrays lines → Narrow sizes lines
+narrow-fit : {Names Parameters : ℕ → Type 0} {arrays : ℕ} (sizes : Sizes) → ((i : ℕ) → Names i → length (name sizes i) ≤ 5) → ((i : ℕ) → Parameters i → length (name sizes i) ≤ 5) → arrays ≤ 32
+    → (lines : List Indented) → AllFit Names arrays Parameters lines → Narrow sizes lines
 unfolding Narrow
-narrow-fit sizes names few [] all-none = tt
-narrow-fit sizes names few (indented level line ∷ lines) (all-more f h) = (omega (arith, line-width sizes names few line f), narrow-fit sizes names few lines h)
+narrow-fit sizes names parameters few [] all-none = tt
+narrow-fit sizes names parameters few (indented level line ∷ lines) (all-more f h) = (omega (arith, line-width sizes names parameters few line f), narrow-fit sizes names parameters few lines h)
 
 module _ (header rows : List ℤ) (legal : Legal header rows) (words : (i : ℕ) → mag (getD rows i (pos 0)) < 2 ^ 31) where
   readable : Readable rows
@@ -99,7 +100,7 @@ module _ (header rows : List ℤ) (legal : Legal header rows) (words : (i : ℕ)
   table-ready page h = (
     record {
       readable = readable;
-      narrow = subst (λ (ls : List Indented). Narrow (sizesOf header) ls) (sym table-lines) (narrow-fit (sizesOf header) (name-width header rows legal words) (few-arrays header rows legal words) (tableLines rows) (lines-fit header rows legal words));
+      narrow = subst (λ (ls : List Indented). Narrow (sizesOf header) ls) (sym table-lines) (narrow-fit (sizesOf header) (name-width header rows legal words) (parameter-width header rows legal words) (few-arrays header rows legal words) (tableLines rows) (lines-fit header rows legal words));
       few = omega (arith, few);
       shallow = omega (arith, few);
       room = omega (arith, h);

@@ -59,3 +59,16 @@ module _ {sizes : Sizes} {rows : List ℤ} {level done : ℕ} {page : List ℕ} 
     narrow = r .narrow .0;
     room = omega (arith, r .room);
   }
+
+-- The lines of a function's block stand a level deeper than those of its definition, of which there is one at least.
+pub ready-inner : {sizes : Sizes} {rows : List ℤ} {level done next : ℕ} {page left : List ℕ} (xs ys zs : List Indented) → Ready sizes rows (xs ++ (ys ++ zs)) level done page → 1 ≤ length xs
+    → Printed sizes xs page done next left → Ready sizes rows ys (level + 1) next left
+ready-inner xs ys zs r some p =
+    let inner = ready-first ys zs (ready-behind xs (ys ++ zs) r p) in
+    record {
+      readable = inner .readable;
+      narrow = inner .narrow;
+      few = inner .few;
+      shallow = omega (arith, r .shallow, length-append xs (ys ++ zs), length-append ys zs, some);
+      room = inner .room;
+    }

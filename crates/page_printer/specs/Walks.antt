@@ -74,6 +74,9 @@ pub ready-of : {sizes : Sizes} {rows : List ℤ} {page : List ℕ} {done : ℕ} 
     → Ready sizes rows (outlined rows level (outlineAt rows row)) level done page → Ready sizes rows (outlined rows level o) level done page
 ready-of {sizes} {rows} {page} {done} level row e r = subst (λ (o : Outline). Ready sizes rows (outlined rows level o) level done page) e r
 
+pub printed-as : {sizes : Sizes} {xs ys : List Indented} {page left : List ℕ} {done next : ℕ} → xs ≡ ys → Printed sizes ys page done next left → Printed sizes xs page done next left
+printed-as {sizes} {xs} {ys} {page} {left} {done} {next} e p = subst (λ (ls : List Indented). Printed sizes ls page done next left) (sym e) p
+
 -- the lines of a block are those of its list
 pub block-list-lines : {rows : List ℤ} (readable : Readable rows) (level block list : ℕ) → block < rowCount rows → list ≡ blockList rows block
     → branchLines level (statementAt rows block) ≡ itemsLines level (listAt rows list)

@@ -1,5 +1,6 @@
 // Which lines an item has of its own, and where a block's list begins.
 use super::Outline;
+use super::assignments::express_outline;
 use page_line::LineAt;
 use shapes::Shape;
 use shapes::StatementShape;
@@ -7,7 +8,9 @@ use shapes::rows::shape_at;
 ghost use mathlib.Core.Path.{_≡_};
 ghost use Prim.Native.Nat.{_+_, _*_, _<_};
 ghost use lib.ListN.{length};
-ghost use Rattle.page_printer.specs.Outlines.{ifOutline, statementOutline, outlineAt, listOf, blockList};
+ghost use Rattle.words.specs.Table.{rowCount};
+ghost use Rattle.page_line.specs.Reads.{Readable};
+ghost use Rattle.page_printer.specs.Outlines.{ifOutline, statementOutline, outlineAt, listOf, blockList, ExpressInside};
 
 fn if_outline(test: usize, first: usize, second: usize) -> Outline
     ensures { λ r. ⌜ r ≡ ifOutline test first second ⌝ }
@@ -18,12 +21,13 @@ fn if_outline(test: usize, first: usize, second: usize) -> Outline
     Outline::Split(LineAt::If(test), first, second)
 }
 
-fn statement_outline(row: usize, statement: StatementShape) -> Outline
-    ensures { λ r. ⌜ r ≡ statementOutline row statement ⌝ }
+fn statement_outline(rows: &[i32], row: usize, statement: StatementShape) -> Outline
+    requires { ⌜ Readable (now rows) × ExpressInside (rowCount (now rows)) statement ⌝ }
+    ensures { λ r. ⌜ r ≡ statementOutline (now (rows .entry)) row statement ⌝ }
 {
     match statement {
         StatementShape::Empty => Outline::Single(LineAt::Empty),
-        StatementShape::Express(expression) => Outline::Single(LineAt::Express(expression)),
+        StatementShape::Express(expression) => express_outline(rows, expression),
         StatementShape::Block(_) => Outline::Enclosed(LineAt::Opens, row),
         StatementShape::If(test, first, second) => if_outline(test, first, second),
         StatementShape::While(test, body) => Outline::Enclosed(LineAt::While(test), body),
@@ -37,23 +41,25 @@ fn statement_outline(row: usize, statement: StatementShape) -> Outline
         StatementShape::GuardedDo(_) => Outline::Nothing,
         StatementShape::Abort => Outline::Single(LineAt::Abort),
         StatementShape::Declare(_, _) => Outline::Nothing,
-        StatementShape::Return(_) => Outline::Nothing,
+        StatementShape::Return(value) => Outline::Single(LineAt::Return(value)),
     }
 }
 
 // The lines of the item at a row. A row that is no item counts as an empty statement.
 pub fn outline_at(rows: &[i32], row: usize) -> Outline
-    requires { ⌜ 6 * row + 5 < length (now rows) ⌝ }
+    requires { ⌜ Readable (now rows) × (row < rowCount (now rows)) ⌝ }
     ensures { λ r. ⌜ r ≡ outlineAt (now (rows .entry)) row ⌝ }
 {
     let shape = shape_at(rows, row);
     match shape {
         Shape::OfExpression(_) => Outline::Single(LineAt::Empty),
-        Shape::OfStatement(statement) => statement_outline(row, statement),
+        Shape::OfStatement(statement) => statement_outline(rows, row, statement),
         Shape::OfMark(mark) => Outline::Single(LineAt::Mark(mark)),
         Shape::OfArm(_, _) => Outline::Single(LineAt::Empty),
         Shape::OfArgument(_) => Outline::Single(LineAt::Empty),
-        Shape::OfDefinition(_, _, _) => Outline::Nothing,
+        Shape::OfDefinition(number, parameters, body) => {
+            Outline::Defined(number, parameters, body)
+        }
         Shape::Other => Outline::Single(LineAt::Empty),
     }
 }

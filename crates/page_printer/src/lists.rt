@@ -1,6 +1,8 @@
 // The lines of lists, printed behind those that are done: lists and items call each other, as deep as the program. Each function
 // answers how many lines are done then.
 use super::Outline;
+use super::functions::print_arguments;
+use super::functions::print_definition;
 use super::items::block_list;
 use super::items::outline_at;
 use page::Sizes;
@@ -59,6 +61,16 @@ fn print_item(
         Outline::Split(line, first, second) => {
             let turn = print_enclosed(sizes, &*rows, line, first, level, done, page);
             let inside = print_enclosed(sizes, &*rows, LineAt::Turns, second, level, turn, page);
+            print_line(sizes, rows, LineAt::Closes, level, inside, page)
+        }
+        Outline::Called(line, first, link) => {
+            let opened = print_line(sizes, rows, line, level, done, page);
+            print_arguments(sizes, rows, first, link, level, opened, page)
+        }
+        Outline::Defined(number, parameters, body) => {
+            let opened = print_definition(sizes, rows, number, parameters, level, done, page);
+            let list = block_list(rows, body);
+            let inside = print_list(sizes, &*rows, list, level + 1, opened, page);
             print_line(sizes, rows, LineAt::Closes, level, inside, page)
         }
         Outline::Nothing => done,

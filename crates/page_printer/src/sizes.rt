@@ -1,5 +1,7 @@
 // How many lines a list has: lists and items call each other, as deep as the program.
 use super::Outline;
+use super::functions::count_arguments;
+use super::functions::count_parameters;
 use super::items::block_list;
 use super::items::outline_at;
 use words::table::number_at;
@@ -41,6 +43,12 @@ fn count_item(rows: &[i32], row: usize) -> usize
             let other = block_list(rows, second);
             let lines = count_list(&*rows, one);
             lines + count_list(&*rows, other) + 3
+        }
+        Outline::Called(_, _, link) => count_arguments(rows, link) + 2,
+        Outline::Defined(_, parameters, body) => {
+            let opened = count_parameters(rows, parameters) + 1;
+            let list = block_list(rows, body);
+            opened + count_list(&*rows, list) + 1
         }
         Outline::Nothing => 0,
     }

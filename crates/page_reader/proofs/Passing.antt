@@ -157,7 +157,7 @@ module _ {names : Names} {sizes : Sizes} {page : List ℕ} {total : ℕ} {old ro
             line-fits-most names (p .counted .few-variables) (p .counted .few-behind) (p .counted .few-arrays) line (own .0)
 
         module _ (n : ℕ) (counted : n ≡ lineRows line) where
-          pub row-low : base - n < 65536
+          pub row-low : base - n + 2 < 65536
           row-low = omega (arith, p .placed, p .counted .few)
 
           pub row-inside : 6 * (base - n) ≤ length rows

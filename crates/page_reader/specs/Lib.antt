@@ -8,5 +8,7 @@ pub mod Stacks
 -- ---- laws
 -- Laws of reads: a page without a wrong line is read by page/Tables as the rows of its lines.
 pub mod ReadLaws
+-- Scans of tables: the page of every legal kernel table is scanned to its end.
+pub mod TableScans
 -- Printed pages: the page of every legal kernel table is read; nothing but a short table is refused.
 pub mod PrintedPages

@@ -1,5 +1,5 @@
 -- Printed pages: the page of every legal kernel table is read; nothing but a short table is refused. That the rows are those of the table,
--- up to numbering, is `gives-back` (page/TableLaws).
+-- up to numbering, is `gives-back` (page_tables/TableLaws).
 use mathlib.Core.Path.{_≡_, refl}
 use mathlib.Core.List.{List}
 use Prim.Native.Nat.{ℕ, _*_, _^_, _/_, _≤_, _<_}
@@ -16,7 +16,7 @@ use Rattle.words.specs.Over.{over}
 use Rattle.words.specs.declared.Form.the-variants.{Kernel}
 use Rattle.kernel_check.specs.Legal.{Legal}
 use Rattle.page.specs.Tables.{tablePage, readTable}
-use Rattle.page_blocks.specs.TableScans.{table-scans}
+use Rattle.page_reader.specs.TableScans.{table-scans}
 use Rattle.page_reader.specs.Reads.{PageResult, rowsOf, refusedAs, answerAndRows, pageResult}
 use Rattle.page_reader.specs.declared.PageAnswer.the-variants.{Read}
 

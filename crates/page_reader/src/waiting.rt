@@ -1,4 +1,4 @@
-// The rows that wait for the lines that open their blocks, in an array, the innermost last.
+// The rows that wait for the lines that open their blocks or parentheses, in an array, the innermost last.
 use leaves::rows::behind;
 use page_words::LineContent;
 use structure::row_number::narrow;
@@ -67,7 +67,7 @@ pub fn left_before(
     depth: usize,
     waiting: &mut [u16; 81958],
 ) -> Pending
-    requires { ⌜ (base < 65536) × (depth < 81958) × (length (now waiting) ≡ 81958) ⌝ }
+    requires { ⌜ (base + 2 < 65536) × (depth < 81958) × (length (now waiting) ≡ 81958) ⌝ }
     ensures { λ r. ⌜ leftIn r (now (waiting .exit)) ≡ leftBefore line base (record { follows = follows; waiting = stackOf depth (now (waiting .entry)) }) ⌝ }
     ensures { λ r. ⌜ (r .depth ≤ depth + 1) × (length (now (waiting .exit)) ≡ 81958) ⌝ }
 {
@@ -110,5 +110,31 @@ pub fn left_before(
         },
         LineContent::Turns => set_aside(base, depth, waiting),
         LineContent::Closes => set_aside(behind(follows, base), depth, waiting),
+        LineContent::Return(_) => Pending {
+            follows: true,
+            depth: depth,
+        },
+        LineContent::OpensCall(_, _) => Pending {
+            follows: true,
+            depth: less(depth, 1),
+        },
+        LineContent::Argument(_) => Pending {
+            follows: true,
+            depth: depth,
+        },
+        LineContent::LastArgument(_) => set_aside(behind(follows, base + 2), depth, waiting),
+        LineContent::OpensFunction(_) => Pending {
+            follows: true,
+            depth: less(depth, 1),
+        },
+        LineContent::OpensParameters(_) => Pending {
+            follows: true,
+            depth: less(depth, 2),
+        },
+        LineContent::Parameter(_) => Pending {
+            follows: true,
+            depth: depth,
+        },
+        LineContent::LastParameter(_) => set_aside(base + 1, depth, waiting),
     }
 }

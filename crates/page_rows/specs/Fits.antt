@@ -7,9 +7,9 @@ use Rattle.page_words.specs.declared.Names.{Names}
 use Rattle.page_words.specs.declared.PageAtom.{PageAtom}
 use Rattle.page_words.specs.declared.PageAtom.the-variants.{Constant, Variable, Declared, Temporary}
 use Rattle.page_words.specs.declared.Value.{Value}
-use Rattle.page_words.specs.declared.Value.the-variants.{Single, Element, Minus, Binary}
+use Rattle.page_words.specs.declared.Value.the-variants.{Single, Element, Minus, Binary, Call}
 use Rattle.page_words.specs.declared.LineContent.{LineContent}
-use Rattle.page_words.specs.declared.LineContent.the-variants.{Empty, Abort, Goto, Label, Store, Put, Opens, While, If, Turns, Closes}
+use Rattle.page_words.specs.declared.LineContent.the-variants.{Empty, Abort, Goto, Label, Store, Put, Opens, While, If, Turns, Closes, Return, OpensCall, Argument, LastArgument, OpensFunction, OpensParameters, Parameter, LastParameter}
 
 -- "V variables (0 to 256) and up to 32 array lengths"; D at most 64 and "T temporaries (0 to 8,192)".
 pub record SmallSizes (sizes : Sizes) : Type 0 where
@@ -37,6 +37,7 @@ module _ (names : Names) (few-variables : names .variables ≤ 256) (few-behind 
   value-fits-most (Element array index) h = (omega (arith, h .0), atom-fits-most index (h .1))
   value-fits-most (Minus a) h = atom-fits-most a h
   value-fits-most (Binary o a b) h = (atom-fits-most a (h .0), atom-fits-most b (h .1))
+  value-fits-most (Call f) h = h
 
   pub line-fits-most : (line : LineContent) → LineFits names line → LineFits mostNames line
   line-fits-most Empty h = tt
@@ -50,3 +51,11 @@ module _ (names : Names) (few-variables : names .variables ≤ 256) (few-behind 
   line-fits-most (If a) h = atom-fits-most a h
   line-fits-most Turns h = tt
   line-fits-most Closes h = tt
+  line-fits-most (Return a) h = atom-fits-most a h
+  line-fits-most (OpensCall a f) h = (name-fits-most a (h .0), h .1)
+  line-fits-most (Argument a) h = atom-fits-most a h
+  line-fits-most (LastArgument a) h = atom-fits-most a h
+  line-fits-most (OpensFunction f) h = h
+  line-fits-most (OpensParameters f) h = h
+  line-fits-most (Parameter n) h = omega arith
+  line-fits-most (LastParameter n) h = omega arith

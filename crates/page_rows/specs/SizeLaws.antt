@@ -14,7 +14,7 @@ use Rattle.page_words.specs.Trees.{atomTree}
 use Rattle.page_words.specs.declared.PageAtom.{PageAtom}
 use Rattle.page_words.specs.declared.PageAtom.the-variants.{Constant, Variable, Declared, Temporary}
 use Rattle.page_words.specs.declared.LineContent.{LineContent}
-use Rattle.page_words.specs.declared.LineContent.the-variants.{Empty, Abort, Goto, Label, Store, Put, Opens, While, If, Turns, Closes}
+use Rattle.page_words.specs.declared.LineContent.the-variants.{Empty, Abort, Goto, Label, Store, Put, Opens, While, If, Turns, Closes, Return, OpensCall, Argument, LastArgument, OpensFunction, OpensParameters, Parameter, LastParameter}
 use Rattle.page_blocks.specs.Scans.{lineRows}
 use Rattle.page_blocks.specs.ScanLaws.{linesRows}
 use Rattle.page_blocks.specs.RowLaws.{atom-rows, value-rows}
@@ -35,6 +35,14 @@ module _ (sizes : Sizes) where
   by-two (If a) base follows waiting = refl
   by-two Turns base follows waiting = refl
   by-two Closes base follows waiting = refl
+  by-two (Return a) base follows waiting = refl
+  by-two (OpensCall a f) base follows waiting = refl
+  by-two (Argument a) base follows waiting = refl
+  by-two (LastArgument a) base follows waiting = refl
+  by-two (OpensFunction f) base follows waiting = refl
+  by-two (OpensParameters f) base follows waiting = refl
+  by-two (Parameter n) base follows waiting = refl
+  by-two (LastParameter n) base follows waiting = refl
 
   -- An atom between a row and a block's row.
   opening-size : (kind c next : ℕ) (base : ℕ) (follows : Bool) (a : PageAtom)
@@ -45,8 +53,15 @@ module _ (sizes : Sizes) where
   opening-size kind c next base follows (Declared n) = refl
   opening-size kind c next base follows (Temporary n) = refl
 
+  argument-size : (next base : ℕ) (a : PageAtom) → length (rowOf 32 (pos (base + 1)) 0 0 0 next ++ emitExpression (atomTree sizes a) (base + 1)) ≡ 12
+  unfolding emitExpression
+  argument-size next base (Constant v) = refl
+  argument-size next base (Variable n) = refl
+  argument-size next base (Declared n) = refl
+  argument-size next base (Temporary n) = refl
+
   pub length-line : (line : LineContent) (base : ℕ) (left : Left) → length (lineTable sizes line base left) ≡ 6 * lineRows line
-  unfolding itemsRows expressionRows
+  unfolding itemsRows expressionRows emitExpression
   length-line Empty base left = length-items (left .follows) (lineItem sizes Empty) base
   length-line Abort base left = length-items (left .follows) (lineItem sizes Abort) base
   length-line (Goto l) base left = length-items (left .follows) (lineItem sizes (Goto l)) base
@@ -61,6 +76,17 @@ module _ (sizes : Sizes) where
   length-line (If a) base left = opening-size 43 (getD (left .waiting) 0 0) (getD (left .waiting) 1 0) base (left .follows) a
   length-line Turns base left = refl
   length-line Closes base left = refl
+  length-line (Return a) base left = length-items (left .follows) (lineItem sizes (Return a)) base ∙ omega (arith, atom-rows sizes a)
+  length-line (OpensCall (Constant c) f) base left = refl
+  length-line (OpensCall (Variable n) f) base left = refl
+  length-line (OpensCall (Declared n) f) base left = refl
+  length-line (OpensCall (Temporary n) f) base left = refl
+  length-line (Argument a) base left = argument-size (base + 2) base a
+  length-line (LastArgument a) base left = argument-size 0 base a
+  length-line (OpensFunction f) base left = refl
+  length-line (OpensParameters f) base left = refl
+  length-line (Parameter n) base left = refl
+  length-line (LastParameter n) base left = refl
 
   length-lines : (lines : List LineContent) (base : ℕ) → length (linesTable sizes lines base) ≡ 6 * linesRows lines
   unfolding linesTable

@@ -1,239 +1,102 @@
 -- Laws of rows: the rows of all lines, put one behind the other, are those of the program that the lines are read as. Each law follows the lines
 -- from the last to the first, as page/Lines reads them.
-use mathlib.Core.Path.{_≡_, refl, sym, ap, ap₂, _∙_}
-use mathlib.Core.Bool.{Bool, true, false}
-use mathlib.Core.List.{List, [], _∷_, _++_, append-assoc, append-nil}
-use mathlib.Core.Option.{some, none}
+use mathlib.Core.Path.{_≡_, refl, ap, _∙_}
+use mathlib.Core.Bool.{false}
+use mathlib.Core.List.{List, [], _∷_, _++_, append-nil}
+use mathlib.Core.Option.{some}
 use Prim.Native.Nat.{ℕ, _+_}
 use native.Mathlib.Omega.{arith}
 use lib.IntN.{ℤ, pos}
-use lib.ListN.{getD, drop}
-use Rattle.words.specs.Word.{pick}
 use Rattle.text_numbers.specs.NumberLaws.{not-some}
-use Rattle.language.specs.Trees.{Expression, Statement, Items, none as noItem, _then_, _here_, define, _⧺_, block, while, ifElse}
+use Rattle.language.specs.Trees.{Items, none as noItem, _⧺_, block, while, ifElse}
 use Rattle.language.specs.Sizes.{expressionRows, statementRows, itemsRows}
-use Rattle.emission.specs.Emission.{rowOf, listLink, emitExpression, emitStatement, emitItems, emit}
-use Rattle.emission.specs.EmissionLaws.{orMore, emit-append}
+use Rattle.emission.specs.Emission.{rowOf, emitExpression, emitStatement, emitItems, emit}
 use Rattle.page.specs.declared.Sizes.{Sizes}
-use Rattle.page.specs.Lines.{Waiting, outermost, closed, Reading, reading, malformed, readLine, readBefore, whole, readLines}
+use Rattle.page.specs.Lines.{outermost, closed, Reading, reading, passing, taking, malformed, readLine, readBefore, whole, readLines}
 use Rattle.page.specs.Lines.{turned as elseWaiting}
-use Rattle.page_words.specs.Trees.{atomTree, valueTree, lineTree}
-use Rattle.page_words.specs.declared.PageAtom.{PageAtom}
+use Rattle.page.specs.Page.{firstTemporary}
+use Rattle.page_words.specs.Trees.{atomTree, lineTree}
 use Rattle.page_words.specs.declared.PageAtom.the-variants.{Constant, Variable, Declared, Temporary}
 use Rattle.page_words.specs.declared.LineContent.{LineContent}
-use Rattle.page_words.specs.declared.LineContent.the-variants.{Empty, Abort, Goto, Label, Store, Put, Opens, While, If, Turns, Closes}
+use Rattle.page_words.specs.declared.LineContent.the-variants.{Empty, Abort, Goto, Label, Store, Put, Opens, While, If, Turns, Closes, Return, OpensCall, Argument, LastArgument, OpensFunction, OpensParameters, Parameter, LastParameter}
 use Rattle.page_blocks.specs.Blocks.{trees}
 use Rattle.page_blocks.specs.Scans.{lineRows}
 use Rattle.page_blocks.specs.RowLaws.{atom-rows, value-rows}
-use Rattle.page_rows.specs.Rows.{Left, nothing, leftBefore, lineItem, blockRow, lineTable, leftBy, linesTable, pageTable}
-
-link-is : (is : Items) (base : ℕ) → listLink false is base ≡ pick (orMore false is) base 0
-link-is noItem base = refl
-link-is (s then is) base = refl
-link-is (m here is) base = refl
-link-is (define f words body is) base = refl
-
--- ---- lists that wait
-
--- The row that each waits with, where the first list begins at `base`.
-unfoldable waitingRows : Waiting → ℕ → List ℕ
-waitingRows outermost base = []
-waitingRows (closed later waiting) base = listLink false later base ∷ waitingRows waiting (base + itemsRows later)
-waitingRows (elseWaiting onFalse waiting) base = base ∷ waitingRows waiting (base + (1 + itemsRows onFalse))
-
--- Their rows.
-unfoldable waitingTable : Waiting → ℕ → List ℤ
-waitingTable outermost base = []
-waitingTable (closed later waiting) base = emitItems false later base ++ waitingTable waiting (base + itemsRows later)
-waitingTable (elseWaiting onFalse waiting) base = emitStatement (block onFalse) base 0 ++ waitingTable waiting (base + (1 + itemsRows onFalse))
-
--- What was read leaves this, and has these rows from `base` on.
-record IsRead (is : Items) (waiting : Waiting) (base : ℕ) (left : Left) (table : List ℤ) : Type 0 where
-  follows : left .follows ≡ orMore false is
-  rows : left .waiting ≡ waitingRows waiting (base + itemsRows is)
-  words : table ≡ emitItems false is base ++ waitingTable waiting (base + itemsRows is)
-
-unfoldable Read : Reading → ℕ → Left → List ℤ → Type 0
-Read malformed base left table = Unit
-Read (reading is waiting) base left table = IsRead is waiting base left table
-
--- ---- a line before others
-
--- A list of one item before those of its list.
-item-read : (xs is : Items) (waiting : Waiting) (base n : ℕ) (left : Left) (table : List ℤ) → itemsRows xs ≡ n → orMore false (xs ⧺ is) ≡ true → itemsRows (xs ⧺ is) ≡ n + itemsRows is
-    → IsRead is waiting (base + n) left table → IsRead (xs ⧺ is) waiting base (record { follows = true; waiting = left .waiting }) (emitItems (left .follows) xs base ++ table)
-item-read xs is waiting base n left table e some-more size r =
-    let behind : base + n + itemsRows is ≡ base + itemsRows (xs ⧺ is) = omega (arith, size) in
-    record {
-      follows = sym some-more;
-      rows = r .rows ∙ ap (waitingRows waiting) behind;
-      words =
-          ap₂ (λ (f : Bool) (l : List ℤ). emitItems f xs base ++ l) (r .follows) (r .words)
-          ∙ sym (append-assoc (emitItems (orMore false is) xs base) (emitItems false is (base + n)) (waitingTable waiting (base + n + itemsRows is)))
-          ∙ ap₂ (λ (k : ℕ) (l : List ℤ). (emitItems (orMore false is) xs base ++ emitItems false is (base + k)) ++ l) (sym e) (ap (waitingTable waiting) behind)
-          ∙ ap (λ (l : List ℤ). l ++ waitingTable waiting (base + itemsRows (xs ⧺ is))) (sym (emit-append false xs is base));
-    }
-
--- A statement before the list behind its blocks, which begins at the row b.
-statement-read : (s : Statement) (later : Items) (waiting : Waiting) (base b : ℕ) (left : Left) (table : List ℤ) → b ≡ base + statementRows s
-    → left .follows ≡ true → left .waiting ≡ waitingRows waiting (b + itemsRows later)
-    → table ≡ emitStatement s base (listLink false later b) ++ (emitItems false later b ++ waitingTable waiting (b + itemsRows later))
-    → IsRead (s then later) waiting base left table
-unfolding emitItems itemsRows
-statement-read s later waiting base b left table e f w t =
-    let behind : b + itemsRows later ≡ base + (statementRows s + itemsRows later) = omega (arith, e) in
-    record {
-      follows = f;
-      rows = w ∙ ap (waitingRows waiting) behind;
-      words =
-          t ∙ sym (append-assoc (emitStatement s base (listLink false later b)) (emitItems false later b) (waitingTable waiting (b + itemsRows later)))
-          ∙ ap₂ (λ (k : ℕ) (l : List ℤ). (emitStatement s base (listLink false later k) ++ emitItems false later k) ++ l) e (ap (waitingTable waiting) behind);
-    }
-
--- A line that opens a block which closes: its own k rows are the statement's up to the items of that block.
-opened-read : (s : Statement) (is later : Items) (waiting : Waiting) (base k : ℕ) (left : Left) (table : List ℤ) (head : ℕ → List ℤ) → statementRows s ≡ k + itemsRows is
-    → ((next : ℕ) → head next ++ emitItems false is (base + k) ≡ emitStatement s base next) → IsRead is (closed later waiting) (base + k) left table
-    → IsRead (s then later) waiting base (record { follows = true; waiting = drop 1 (left .waiting) }) (head (getD (left .waiting) 0 0) ++ table)
-unfolding waitingRows waitingTable
-opened-read s is later waiting base k left table head e own r =
-    let b = base + k + itemsRows is in
-    let rest = emitItems false later b ++ waitingTable waiting (b + itemsRows later) in
-    let next : getD (left .waiting) 0 0 ≡ listLink false later b = ap (λ (l : List ℕ). getD l 0 0) (r .rows) in
-    statement-read s later waiting base b _ _ (omega (arith, e)) refl (ap (drop 1) (r .rows))
-    (ap₂ (λ (n : ℕ) (l : List ℤ). head n ++ l) next (r .words) ∙ sym (append-assoc (head (listLink false later b)) (emitItems false is (base + k)) rest) ∙ ap (λ (l : List ℤ). l ++ rest) (own (listLink false later b)))
-
--- One that opens the first branch of an if.
-branched-read : (s : Statement) (is onFalse later : Items) (waiting : Waiting) (base k : ℕ) (left : Left) (table : List ℤ) (head : ℕ → ℕ → List ℤ)
-    → statementRows s ≡ k + itemsRows is + (1 + itemsRows onFalse)
-    → ((next : ℕ) → (head (base + k + itemsRows is) next ++ emitItems false is (base + k)) ++ emitStatement (block onFalse) (base + k + itemsRows is) 0 ≡ emitStatement s base next)
-    → IsRead is (elseWaiting onFalse (closed later waiting)) (base + k) left table
-    → IsRead (s then later) waiting base (record { follows = true; waiting = drop 2 (left .waiting) }) (head (getD (left .waiting) 0 0) (getD (left .waiting) 1 0) ++ table)
-unfolding waitingRows waitingTable
-branched-read s is onFalse later waiting base k left table head e own r =
-    let c = base + k + itemsRows is in
-    let b = c + (1 + itemsRows onFalse) in
-    let rest = emitItems false later b ++ waitingTable waiting (b + itemsRows later) in
-    let other = emitStatement (block onFalse) c 0 in
-    let second : getD (left .waiting) 0 0 ≡ c = ap (λ (l : List ℕ). getD l 0 0) (r .rows) in
-    let next : getD (left .waiting) 1 0 ≡ listLink false later b = ap (λ (l : List ℕ). getD l 1 0) (r .rows) in
-    let own-rows = head c (listLink false later b) in
-    statement-read s later waiting base b _ _ (omega (arith, e)) refl (ap (drop 2) (r .rows))
-    (ap₂ (λ (n : ℕ) (l : List ℤ). head n (getD (left .waiting) 1 0) ++ l) second (r .words) ∙ ap (λ (n : ℕ). head c n ++ (emitItems false is (base + k) ++ (other ++ rest))) next
-    ∙ sym (append-assoc own-rows (emitItems false is (base + k)) (other ++ rest)) ∙ sym (append-assoc (own-rows ++ emitItems false is (base + k)) other rest)
-    ∙ ap (λ (l : List ℤ). l ++ rest) (own (listLink false later b)))
-
--- The statements, each by the rows of the line that opens it and those of its blocks.
-module _ (is : Items) (base : ℕ) (follows : Bool) (e : follows ≡ orMore false is) where
-  block-words : (next : ℕ) → blockRow base follows next ++ emitItems false is (base + 1) ≡ emitStatement (block is) base next
-  unfolding emitStatement
-  block-words next = rw (e, link-is is (base + 1))
-
-module _ (x : Expression) (one : expressionRows x ≡ 1) (is : Items) (base : ℕ) (follows : Bool) (e : follows ≡ orMore false is) where
-  while-words : (next : ℕ)
-      → ((rowOf 44 (pos (base + 1)) (base + 2) 0 0 next ++ emitExpression x (base + 1)) ++ blockRow (base + 2) follows 0) ++ emitItems false is (base + 3) ≡ emitStatement (while x (block is)) base next
-  unfolding emitStatement
-  while-words next =
-      let at : base + 1 + expressionRows x ≡ base + 2 = omega (arith, one) in
-      let behind : base + 2 + 1 ≡ base + 3 = omega arith in
-      let opened = rowOf 42 (pos (pick (orMore false is) (base + 3) 0)) 0 0 0 0 in
-      rw (at, behind, e, link-is is (base + 3))
-      (ap (λ (l : List ℤ). rowOf 44 (pos (base + 1)) (base + 2) 0 0 next ++ l) (append-assoc (emitExpression x (base + 1)) opened (emitItems false is (base + 3))))
-
-  if-words : (onFalse : Items) (next : ℕ)
-      → (((rowOf 43 (pos (base + 1)) (base + 2) (base + 3 + itemsRows is) 0 next ++ emitExpression x (base + 1)) ++ blockRow (base + 2) follows 0) ++ emitItems false is (base + 3))
-      ++ emitStatement (block onFalse) (base + 3 + itemsRows is) 0 ≡ emitStatement (ifElse x (block is) (block onFalse)) base next
-  unfolding emitStatement statementRows
-  if-words onFalse next =
-      let at : base + 1 + expressionRows x ≡ base + 2 = omega (arith, one) in
-      let behind : base + 2 + 1 ≡ base + 3 = omega arith in
-      let other : base + 2 + (1 + itemsRows is) ≡ base + 3 + itemsRows is = omega arith in
-      let opened = rowOf 42 (pos (pick (orMore false is) (base + 3) 0)) 0 0 0 0 in
-      rw (at, behind, other, e, link-is is (base + 3))
-      (ap (λ (l : List ℤ). rowOf 43 (pos (base + 1)) (base + 2) (base + 3 + itemsRows is) 0 next ++ (l ++ emitStatement (block onFalse) (base + 3 + itemsRows is) 0))
-      (append-assoc (emitExpression x (base + 1)) opened (emitItems false is (base + 3))))
-
--- A line that closes or turns puts the list behind it aside.
-module _ (is : Items) (waiting : Waiting) (base : ℕ) (left : Left) (table : List ℤ) where
-  closed-read : IsRead is waiting (base + 0) left table → IsRead noItem (closed is waiting) base (record { follows = false; waiting = pick (left .follows) base 0 ∷ left .waiting }) table
-  unfolding waitingRows waitingTable emitItems itemsRows
-  closed-read r =
-      let same : base + 0 ≡ base = omega arith in
-      record {
-        follows = refl;
-        rows = rw (same, link-is is base, ← r .follows) (ap (λ (l : List ℕ). pick (left .follows) base 0 ∷ l) (rw same at (r .rows)));
-        words = rw same (rw same at (r .words));
-      }
-
-  turned-read : IsRead is waiting (base + 1) left table
-      → IsRead noItem (elseWaiting is waiting) base (record { follows = false; waiting = base ∷ left .waiting }) (blockRow base (left .follows) 0 ++ table)
-  unfolding waitingRows waitingTable emitItems itemsRows
-  turned-read r =
-      let same : base + 0 ≡ base = omega arith in
-      let behind : base + 1 + itemsRows is ≡ base + (1 + itemsRows is) = omega arith in
-      record {
-        follows = refl;
-        rows = rw same (ap (λ (l : List ℕ). base ∷ l) (r .rows ∙ ap (waitingRows waiting) behind));
-        words =
-            rw same
-            (ap (λ (l : List ℤ). blockRow base (left .follows) 0 ++ l) (r .words) ∙ sym (append-assoc (blockRow base (left .follows) 0) (emitItems false is (base + 1)) (waitingTable waiting (base + 1 + itemsRows is)))
-            ∙ ap₂ (λ (l m : List ℤ). l ++ m) (block-words is base (left .follows) (r .follows) 0) (ap (waitingTable waiting) behind));
-      }
+use Rattle.page_rows.specs.Rows.{Left, leftBefore, lineItem, blockRow, lineTable, leftBy, linesTable, pageTable}
+use Rattle.page.specs.LinesLaws.{before-items, before-arguments, before-parameters, before-block, before-branches}
+use Rattle.page_rows.specs.ReadRows.{waitingRows, waitingTable, Read, item-read, opened-read, branched-read, block-words, while-words, if-words, closed-read, turned-read}
+use Rattle.page_rows.specs.FunctionRows.{last-passed, more-passed, call-read, function-read, last-taken, more-taken, definition-read}
 
 module _ (sizes : Sizes) where
-  line-read : (line : LineContent) (r : Reading) (base : ℕ) (left : Left) (table : List ℤ) → Read r (base + lineRows line) left table
-      → Read (readLine (lineTree sizes line) r) base (leftBefore line base left) (lineTable sizes line base left ++ table)
-  unfolding Read statementRows expressionRows _⧺_
-  line-read Empty malformed base left table h = tt
-  line-read Empty (reading is waiting) base left table h = item-read (lineItem sizes Empty) is waiting base 1 left table refl refl refl h
-  line-read Abort malformed base left table h = tt
-  line-read Abort (reading is waiting) base left table h = item-read (lineItem sizes Abort) is waiting base 1 left table refl refl refl h
-  line-read (Goto l) malformed base left table h = tt
-  line-read (Goto l) (reading is waiting) base left table h = item-read (lineItem sizes (Goto l)) is waiting base 1 left table refl refl refl h
-  line-read (Label l) malformed base left table h = tt
-  line-read (Label l) (reading is waiting) base left table h = item-read (lineItem sizes (Label l)) is waiting base 1 left table refl refl refl h
-  line-read (Store a v) malformed base left table h = tt
-  line-read (Store (Constant c) v) (reading is waiting) base left table h =
-      item-read (lineItem sizes (Store (Constant c) v)) is waiting base (lineRows (Store (Constant c) v)) left table (omega (arith, value-rows sizes v)) refl (omega (arith, value-rows sizes v)) h
-  line-read (Store (Variable n) v) (reading is waiting) base left table h =
-      item-read (lineItem sizes (Store (Variable n) v)) is waiting base (lineRows (Store (Variable n) v)) left table (omega (arith, value-rows sizes v)) refl (omega (arith, value-rows sizes v)) h
-  line-read (Store (Declared n) v) (reading is waiting) base left table h =
-      item-read (lineItem sizes (Store (Declared n) v)) is waiting base (lineRows (Store (Declared n) v)) left table (omega (arith, value-rows sizes v)) refl (omega (arith, value-rows sizes v)) h
-  line-read (Store (Temporary n) v) (reading is waiting) base left table h =
-      item-read (lineItem sizes (Store (Temporary n) v)) is waiting base (lineRows (Store (Temporary n) v)) left table (omega (arith, value-rows sizes v)) refl (omega (arith, value-rows sizes v)) h
-  line-read (Put array index a) malformed base left table h = tt
-  line-read (Put array index a) (reading is waiting) base left table h =
-      item-read (lineItem sizes (Put array index a)) is waiting base 5 left table (omega (arith, atom-rows sizes index, atom-rows sizes a)) refl (omega (arith, atom-rows sizes index, atom-rows sizes a)) h
-  line-read Opens malformed base left table h = tt
-  line-read Opens (reading is outermost) base left table h = tt
-  line-read Opens (reading is (closed later waiting)) base left table h =
-      opened-read (block is) is later waiting base 1 left table (blockRow base (left .follows)) refl (block-words is base (left .follows) (h .follows)) h
-  line-read Opens (reading is (elseWaiting onFalse waiting)) base left table h = tt
-  line-read (While a) malformed base left table h = tt
-  line-read (While a) (reading is outermost) base left table h = tt
-  line-read (While a) (reading is (closed later waiting)) base left table h =
-      opened-read (while (atomTree sizes a) (block is)) is later waiting base 3 left table
-      (λ next. (rowOf 44 (pos (base + 1)) (base + 2) 0 0 next ++ emitExpression (atomTree sizes a) (base + 1)) ++ blockRow (base + 2) (left .follows) 0) (omega (arith, atom-rows sizes a))
-      (while-words (atomTree sizes a) (atom-rows sizes a) is base (left .follows) (h .follows)) h
-  line-read (While a) (reading is (elseWaiting onFalse waiting)) base left table h = tt
-  line-read (If a) malformed base left table h = tt
-  line-read (If a) (reading is outermost) base left table h = tt
-  line-read (If a) (reading is (closed later waiting)) base left table h = tt
-  line-read (If a) (reading is (elseWaiting onFalse outermost)) base left table h = tt
-  line-read (If a) (reading is (elseWaiting onFalse (closed later waiting))) base left table h =
-      branched-read (ifElse (atomTree sizes a) (block is) (block onFalse)) is onFalse later waiting base 3 left table
-      (λ second next. (rowOf 43 (pos (base + 1)) (base + 2) second 0 next ++ emitExpression (atomTree sizes a) (base + 1)) ++ blockRow (base + 2) (left .follows) 0) (omega (arith, atom-rows sizes a))
-      (if-words (atomTree sizes a) (atom-rows sizes a) is base (left .follows) (h .follows) onFalse) h
-  line-read (If a) (reading is (elseWaiting onFalse (elseWaiting other waiting))) base left table h = tt
-  line-read Turns malformed base left table h = tt
-  line-read Turns (reading is waiting) base left table h = turned-read is waiting base left table h
-  line-read Closes malformed base left table h = tt
-  line-read Closes (reading is waiting) base left table h = closed-read is waiting base left table h
+  module _ (base : ℕ) (left : Left) (table : List ℤ) where
+    -- A line before what these rows are.
+    abbrev Onto : LineContent → Reading → Reading → Type 0
+    Onto line r read = Read r (base + lineRows line) left table → Read read base (leftBefore line base left) (lineTable sizes line base left ++ table)
+
+    wrong : (line : LineContent) (r : Reading) → Onto line r malformed
+    unfolding Read
+    wrong line r h = tt
+
+    line-read : (line : LineContent) (r : Reading) → Onto line r (readLine (lineTree sizes line) r)
+    unfolding Read statementRows expressionRows _⧺_
+    line-read Empty = before-items (Onto Empty) (wrong Empty) _ (λ is waiting h. item-read (lineItem sizes Empty) is waiting base 1 left table refl refl refl h)
+    line-read Abort = before-items (Onto Abort) (wrong Abort) _ (λ is waiting h. item-read (lineItem sizes Abort) is waiting base 1 left table refl refl refl h)
+    line-read (Goto l) = before-items (Onto (Goto l)) (wrong (Goto l)) _ (λ is waiting h. item-read (lineItem sizes (Goto l)) is waiting base 1 left table refl refl refl h)
+    line-read (Label l) = before-items (Onto (Label l)) (wrong (Label l)) _ (λ is waiting h. item-read (lineItem sizes (Label l)) is waiting base 1 left table refl refl refl h)
+    line-read (Store (Constant c) v) =
+        before-items (Onto (Store (Constant c) v)) (wrong (Store (Constant c) v)) _
+        (λ is waiting h. item-read (lineItem sizes (Store (Constant c) v)) is waiting base (lineRows (Store (Constant c) v)) left table (omega (arith, value-rows sizes v)) refl (omega (arith, value-rows sizes v)) h)
+    line-read (Store (Variable n) v) =
+        before-items (Onto (Store (Variable n) v)) (wrong (Store (Variable n) v)) _
+        (λ is waiting h. item-read (lineItem sizes (Store (Variable n) v)) is waiting base (lineRows (Store (Variable n) v)) left table (omega (arith, value-rows sizes v)) refl (omega (arith, value-rows sizes v)) h)
+    line-read (Store (Declared n) v) =
+        before-items (Onto (Store (Declared n) v)) (wrong (Store (Declared n) v)) _
+        (λ is waiting h. item-read (lineItem sizes (Store (Declared n) v)) is waiting base (lineRows (Store (Declared n) v)) left table (omega (arith, value-rows sizes v)) refl (omega (arith, value-rows sizes v)) h)
+    line-read (Store (Temporary n) v) =
+        before-items (Onto (Store (Temporary n) v)) (wrong (Store (Temporary n) v)) _
+        (λ is waiting h. item-read (lineItem sizes (Store (Temporary n) v)) is waiting base (lineRows (Store (Temporary n) v)) left table (omega (arith, value-rows sizes v)) refl (omega (arith, value-rows sizes v)) h)
+    line-read (Put array index a) =
+        before-items (Onto (Put array index a)) (wrong (Put array index a)) _
+        (λ is waiting h. item-read (lineItem sizes (Put array index a)) is waiting base 5 left table (omega (arith, atom-rows sizes index, atom-rows sizes a)) refl (omega (arith, atom-rows sizes index, atom-rows sizes a)) h)
+    line-read Opens =
+        before-block (Onto Opens) (wrong Opens) _
+        (λ is later waiting h. opened-read (block is) is later waiting base 1 left table (blockRow base (left .follows)) refl (block-words is base (left .follows) (h .follows)) h)
+    line-read (While a) =
+        before-block (Onto (While a)) (wrong (While a)) _
+        (λ is later waiting h.
+        opened-read (while (atomTree sizes a) (block is)) is later waiting base 3 left table
+        (λ next. (rowOf 44 (pos (base + 1)) (base + 2) 0 0 next ++ emitExpression (atomTree sizes a) (base + 1)) ++ blockRow (base + 2) (left .follows) 0) (omega (arith, atom-rows sizes a))
+        (while-words (atomTree sizes a) (atom-rows sizes a) is base (left .follows) (h .follows)) h)
+    line-read (If a) =
+        before-branches (Onto (If a)) (wrong (If a)) (atomTree sizes a)
+        (λ is onFalse later waiting h.
+        branched-read (ifElse (atomTree sizes a) (block is) (block onFalse)) is onFalse later waiting base 3 left table
+        (λ second next. (rowOf 43 (pos (base + 1)) (base + 2) second 0 next ++ emitExpression (atomTree sizes a) (base + 1)) ++ blockRow (base + 2) (left .follows) 0) (omega (arith, atom-rows sizes a))
+        (if-words (atomTree sizes a) (atom-rows sizes a) is base (left .follows) (h .follows) onFalse) h)
+    line-read Turns = before-items (Onto Turns) (wrong Turns) _ (λ is waiting h. turned-read is waiting base left table h)
+    line-read Closes = before-items (Onto Closes) (wrong Closes) _ (λ is waiting h. closed-read is waiting base left table h)
+    line-read (Return a) =
+        before-items (Onto (Return a)) (wrong (Return a)) _
+        (λ is waiting h. item-read (lineItem sizes (Return a)) is waiting base 2 left table (omega (arith, atom-rows sizes a)) refl (omega (arith, atom-rows sizes a)) h)
+    line-read (LastArgument a) = before-items (Onto (LastArgument a)) (wrong (LastArgument a)) _ (λ is waiting h. last-passed (atomTree sizes a) (atom-rows sizes a) is waiting base left table h)
+    line-read (Argument a) =
+        before-arguments (Onto (Argument a)) (wrong (Argument a)) _ (λ e arguments is waiting h. more-passed (atomTree sizes a) (atom-rows sizes a) is waiting base left table e arguments h)
+    line-read (OpensCall (Constant c) f) = before-arguments (Onto (OpensCall (Constant c) f)) (wrong (OpensCall (Constant c) f)) _ (λ e arguments is waiting h. call-read 0 f e arguments is waiting base left table h)
+    line-read (OpensCall (Variable n) f) = before-arguments (Onto (OpensCall (Variable n) f)) (wrong (OpensCall (Variable n) f)) _ (λ e arguments is waiting h. call-read n f e arguments is waiting base left table h)
+    line-read (OpensCall (Declared n) f) = before-arguments (Onto (OpensCall (Declared n) f)) (wrong (OpensCall (Declared n) f)) _ (λ e arguments is waiting h. call-read (sizes .store + n) f e arguments is waiting base left table h)
+    line-read (OpensCall (Temporary n) f) = before-arguments (Onto (OpensCall (Temporary n) f)) (wrong (OpensCall (Temporary n) f)) _ (λ e arguments is waiting h. call-read (firstTemporary sizes + n) f e arguments is waiting base left table h)
+    line-read (OpensFunction f) = before-block (Onto (OpensFunction f)) (wrong (OpensFunction f)) _ (λ is later waiting h. function-read f is later waiting base left table h)
+    line-read (LastParameter n) = before-block (Onto (LastParameter n)) (wrong (LastParameter n)) _ (λ is later waiting h. last-taken (sizes .store + n) is later waiting base left table h)
+    line-read (Parameter n) =
+        before-parameters (Onto (Parameter n)) (wrong (Parameter n)) _ (λ word words body later waiting h. more-taken (sizes .store + n) word words body later waiting base left table h)
+    line-read (OpensParameters f) =
+        before-parameters (Onto (OpensParameters f)) (wrong (OpensParameters f)) _ (λ word words body later waiting h. definition-read f word words body later waiting base left table h)
 
   lines-read : (lines : List LineContent) (base : ℕ) → Read (readBefore (trees sizes lines) (reading noItem outermost)) base (leftBy lines base) (linesTable sizes lines base)
   unfolding Read readBefore leftBy linesTable waitingRows waitingTable emitItems itemsRows
   lines-read [] base = record { follows = refl; rows = refl; words = refl }
   lines-read (line ∷ lines) base =
-      line-read line (readBefore (trees sizes lines) (reading noItem outermost)) base (leftBy lines (base + lineRows line)) (linesTable sizes lines (base + lineRows line)) (lines-read lines (base + lineRows line))
+      line-read base (leftBy lines (base + lineRows line)) (linesTable sizes lines (base + lineRows line)) line (readBefore (trees sizes lines) (reading noItem outermost)) (lines-read lines (base + lineRows line))
 
   -- The rows of the lines are those of the program that they are read as.
   pub table-of-page : (lines : List LineContent) (items : Items) → readLines (trees sizes lines) ≡ some items → pageTable sizes lines ≡ emit (block items)
@@ -242,6 +105,8 @@ module _ (sizes : Sizes) where
     where
       from : (r : Reading) → Read r 1 (leftBy lines 1) (linesTable sizes lines 1) → whole r ≡ some items → blockRow 0 (leftBy lines 1 .follows) 0 ++ linesTable sizes lines 1 ≡ emitStatement (block items) 0 0
       from malformed h q = not-some q
+      from (passing e arguments is waiting) h q = not-some q
+      from (taking word words body later waiting) h q = not-some q
       from (reading is outermost) h q =
           let same : is ≡ items = cc in
           ap (λ (l : List ℤ). blockRow 0 (leftBy lines 1 .follows) 0 ++ l) (h .words ∙ append-nil (emitItems false is 1)) ∙ block-words is 0 (leftBy lines 1 .follows) (h .follows) 0 ∙ ap (λ (x : Items). emitStatement (block x) 0 0) same

@@ -6,6 +6,8 @@ use leaves::assignments::put_copy;
 use leaves::assignments::put_fetch;
 use leaves::assignments::put_minus;
 use leaves::assignments::put_store;
+use leaves::assignments::put_target;
+use leaves::rows::put_row;
 use page::Sizes;
 use page_words::PageAtom;
 use page_words::Value;
@@ -13,7 +15,7 @@ ghost use mathlib.Core.Path.{_≡_};
 ghost use Prim.Native.Nat.{_+_, _≤_, _<_};
 ghost use lib.ListN.{length};
 ghost use Rattle.words.specs.Over.{over};
-ghost use Rattle.language.specs.Trees.{assign, variable, express, none, _then_};
+ghost use Rattle.language.specs.Trees.{assign, call, variable, noMore, express, none, _then_};
 ghost use Rattle.emission.specs.Emission.{emitItems};
 ghost use Rattle.leaves.specs.Room.{Room};
 ghost use Rattle.page_words.specs.Texts.{AtomFits, NameFits, ElementFits, ValueFits};
@@ -22,6 +24,15 @@ ghost use Rattle.page_words.specs.declared.LineContent.the-variants.{Store, Put
 ghost use Rattle.page_blocks.specs.Scans.{valueRows};
 ghost use Rattle.page_rows.specs.Rows.{lineItem};
 ghost use Rattle.page_rows.specs.Fits.{mostNames, SmallSizes};
+
+// A call without arguments, assigned to the variable of this number.
+fn put_called(number: usize, function: usize, base: usize, follows: bool, out: &mut [i32])
+    requires { ⌜ Room 4 base (length (now out)) × (number < 65536) × (function < 65536) ⌝ }
+    ensures { λ _. ⌜ now (out .exit) ≡ over (emitItems follows (express (assign (variable number) (call function noMore)) then none) base) (now (out .entry)) ⌝ }
+{
+    put_target(2, number, 0, base + 3, 4, base, follows, out);
+    put_row(31, function, 0, 0, 0, &mut out[18..]);
+}
 
 // A value assigned to the variable of this number.
 fn put_value(sizes: Sizes, number: usize, value: Value, base: usize, follows: bool, out: &mut [i32])
@@ -48,6 +59,7 @@ fn put_value(sizes: Sizes, number: usize, value: Value, base: usize, follows: bo
             follows,
             out,
         ),
+        Value::Call(function) => put_called(number, function as usize, base, follows, out),
     }
 }
 

@@ -2,12 +2,20 @@
 use super::assignments::put_element;
 use super::assignments::put_named;
 use super::atoms::kernel_atom;
+use super::atoms::variable_number;
+use super::functions::put_argument;
+use super::functions::put_call;
+use super::functions::put_function;
+use super::functions::put_last_parameter;
+use super::functions::put_parameter;
+use super::functions::put_parameters;
 use leaves::control::put_abort;
 use leaves::control::put_block;
 use leaves::control::put_empty;
 use leaves::control::put_goto;
 use leaves::control::put_if;
 use leaves::control::put_label;
+use leaves::control::put_return;
 use leaves::rows::behind;
 use leaves::rows::put_atom;
 use leaves::rows::put_row;
@@ -101,5 +109,36 @@ pub fn put_line(
         ),
         LineContent::Turns => put_block_row(base, follows, 0, out),
         LineContent::Closes => {}
+        LineContent::Return(atom) => put_return(kernel_atom(sizes, atom), base, follows, out),
+        LineContent::OpensCall(name, function) => put_call(
+            variable_number(sizes, name),
+            function as usize,
+            base,
+            first,
+            out,
+        ),
+        LineContent::Argument(atom) => put_argument(kernel_atom(sizes, atom), base, base + 2, out),
+        LineContent::LastArgument(atom) => put_argument(kernel_atom(sizes, atom), base, 0, out),
+        LineContent::OpensFunction(function) => put_function(
+            function as usize,
+            base,
+            follows,
+            first,
+            out,
+        ),
+        LineContent::OpensParameters(function) => put_parameters(
+            function as usize,
+            base,
+            first,
+            second,
+            out,
+        ),
+        LineContent::Parameter(word) => put_parameter(sizes.store + word as usize, base, out),
+        LineContent::LastParameter(word) => put_last_parameter(
+            sizes.store + word as usize,
+            base,
+            follows,
+            out,
+        ),
     }
 }

@@ -10,9 +10,12 @@ use lib.Dec.{eqb}
 use lib.ListN.{length, getD, set, drop}
 use lib.Seq.{getD-set-same, getD-set-other}
 use borrow.Author.Tests.{eq-eqb, ne-eqb}
-use Rattle.page_blocks.specs.Blocks.{Open, turned, shut}
+use Rattle.page_blocks.specs.Blocks.{Open, outside as amongItems, turned, shut, whereItems, whereArguments, whereParameters, levelIn}
 use Rattle.page_blocks.specs.Scans.{ended}
-use Rattle.page_scan.specs.Stacks.{stackOf, isFirst, blocksOf, endOf}
+use Rattle.page_scan.specs.Stacks.{stackOf, isFirst, blocksOf, openBy, openOf, movedSays, depthIn, afterItem, afterArgument, afterParameter, endOf}
+use Rattle.page_scan.specs.declared.blocks.Moved.{Moved}
+use Rattle.page_scan.specs.declared.blocks.Among.{Among}
+use Rattle.page_scan.specs.declared.blocks.Among.the-variants.{Items, Arguments, Parameters}
 
 -- ---- numbers
 
@@ -90,7 +93,7 @@ module _ (depth : ℕ) (flags : List ℕ) where
     pub turn-wrong : (getD flags (depth - 1) 0 ≡ 1 → ⊥) → none ≡ turned (blocksOf depth flags)
     turn-wrong f = rw (top depth flags more, ne-eqb (getD flags (depth - 1) 0) 1 f)
 
-    pub turn-right : depth ≤ length flags → getD flags (depth - 1) 0 ≡ 1 → some (blocksOf depth (set flags (depth - 1) 0)) ≡ turned (blocksOf depth flags)
+    pub turn-right : depth ≤ length flags → getD flags (depth - 1) 0 ≡ 1 → some (amongItems (blocksOf depth (set flags (depth - 1) 0))) ≡ turned (blocksOf depth flags)
     turn-right h e =
         let inside : 0 < depth = more in
         rw (top depth flags more, top depth (set flags (depth - 1) 0) more, eq-eqb (getD flags (depth - 1) 0) 1 e, getD-set-same flags (depth - 1) 0 0 (omega arith), block-above (depth - 1) (depth - 1) 0 flags (omega arith))
@@ -98,12 +101,44 @@ module _ (depth : ℕ) (flags : List ℕ) where
     pub shut-wrong : getD flags (depth - 1) 0 ≡ 1 → none ≡ shut (blocksOf depth flags)
     shut-wrong e = rw (top depth flags more, eq-eqb (getD flags (depth - 1) 0) 1 e)
 
-    pub shut-right : (getD flags (depth - 1) 0 ≡ 1 → ⊥) → some (blocksOf (depth - 1) flags) ≡ shut (blocksOf depth flags)
+    pub shut-right : (getD flags (depth - 1) 0 ≡ 1 → ⊥) → some (amongItems (blocksOf (depth - 1) flags)) ≡ shut (blocksOf depth flags)
     shut-right f = rw (top depth flags more, ne-eqb (getD flags (depth - 1) 0) 1 f)
 
-pub end-is : (whole : Bool) (depth rows next : ℕ) (flags : List ℕ) → endOf whole depth rows next ≡ ended whole (blocksOf depth flags) rows next
+-- ---- what is open
+
+pub level-is : (among : Among) (depth : ℕ) (flags : List ℕ) → levelIn (openOf among depth flags) ≡ depth
+level-is Items depth flags = length-blocks depth flags
+level-is Arguments depth flags = length-blocks depth flags
+level-is Parameters depth flags = length-blocks depth flags
+
+-- Lines that open and close no block.
+abbrev Moves : Moved → List ℕ → ℕ → Option Open → Type 0
+Moves moved flags depth around = (movedSays moved flags ≡ around) × ((depthIn moved ≤ depth + 1) × (length flags ≡ 81958))
+
+pub item-moves : (among next : Among) (depth : ℕ) (flags : List ℕ) → length flags ≡ 81958
+    → Moves (afterItem among next depth) flags depth (whereItems (λ blocks. some (openBy next blocks)) (openOf among depth flags))
+item-moves Items next depth flags l = (refl, (omega arith, l))
+item-moves Arguments next depth flags l = (refl, (omega arith, l))
+item-moves Parameters next depth flags l = (refl, (omega arith, l))
+
+pub argument-moves : (among next : Among) (depth : ℕ) (flags : List ℕ) → length flags ≡ 81958
+    → Moves (afterArgument among next depth) flags depth (whereArguments (λ blocks. some (openBy next blocks)) (openOf among depth flags))
+argument-moves Items next depth flags l = (refl, (omega arith, l))
+argument-moves Arguments next depth flags l = (refl, (omega arith, l))
+argument-moves Parameters next depth flags l = (refl, (omega arith, l))
+
+pub parameter-moves : (among : Among) (depth : ℕ) (flags : List ℕ) → length flags ≡ 81958
+    → Moves (afterParameter among depth) flags depth (whereParameters (λ blocks. some (openBy Parameters blocks)) (openOf among depth flags))
+parameter-moves Items depth flags l = (refl, (omega arith, l))
+parameter-moves Arguments depth flags l = (refl, (omega arith, l))
+parameter-moves Parameters depth flags l = (refl, (omega arith, l))
+
+pub end-is : (whole : Bool) (among : Among) (depth rows next : ℕ) (flags : List ℕ) → endOf whole among depth rows next ≡ ended whole (openOf among depth flags) rows next
 unfolding endOf blocksOf stackOf
-end-is true zero rows next flags = refl
-end-is true (suc depth) rows next flags = rw (ne-eqb (suc depth) 0 (λ e. omega arith))
-end-is false zero rows next flags = refl
-end-is false (suc depth) rows next flags = refl
+end-is true Items zero rows next flags = refl
+end-is true Items (suc depth) rows next flags = rw (ne-eqb (suc depth) 0 (λ e. omega arith))
+end-is true Arguments depth rows next flags = refl
+end-is true Parameters depth rows next flags = refl
+end-is false Items depth rows next flags = refl
+end-is false Arguments depth rows next flags = refl
+end-is false Parameters depth rows next flags = refl

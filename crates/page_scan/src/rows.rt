@@ -14,6 +14,7 @@ fn value_rows(value: Value) -> usize
         Value::Element(_, _) => 2,
         Value::Minus(_) => 2,
         Value::Binary(_, _, _) => 3,
+        Value::Call(_) => 1,
     }
 }
 
@@ -34,6 +35,14 @@ pub fn rows_of(line: LineContent) -> usize
         LineContent::If(_) => 3,
         LineContent::Turns => 1,
         LineContent::Closes => 0,
+        LineContent::Return(_) => 2,
+        LineContent::OpensCall(_, _) => 4,
+        LineContent::Argument(_) => 2,
+        LineContent::LastArgument(_) => 2,
+        LineContent::OpensFunction(_) => 2,
+        LineContent::OpensParameters(_) => 1,
+        LineContent::Parameter(_) => 1,
+        LineContent::LastParameter(_) => 2,
     }
 }
 

@@ -16,7 +16,7 @@ use page_words::PageAtom;
 use page_words::Value;
 use page_words::ValueRead;
 ghost use mathlib.Core.Path.{_≡_};
-ghost use Rattle.page_words.specs.Reads.{gotoOf, labelOf, ifOf, whileOf, storeOf, putOf, assignedOf, assignmentOf, assignmentRead, jumpRead, testRead, lineRead};
+ghost use Rattle.page_words.specs.Reads.{gotoOf, labelOf, ifOf, whileOf, returnOf, callOf, argumentOf, lastArgumentOf, functionOf, parametersOf, parameterOf, lastParameterOf, storeOf, putOf, assignedOf, assignmentOf, argumentRead, assignmentRead, parameterRead, functionRead, jumpRead, testRead, lineRead};
 use text_lines::line::piece_end;
 
 fn goto_of(number: NumberRead) -> LineRead
@@ -55,6 +55,81 @@ fn while_of(test: AtomRead) -> LineRead
     LineRead::Read(LineContent::While(tested))
 }
 
+fn return_of(value: AtomRead) -> LineRead
+    ensures { λ r. ⌜ r ≡ returnOf value ⌝ }
+{
+    let AtomRead::Read(returned) = value else {
+        return LineRead::Malformed;
+    };
+    LineRead::Read(LineContent::Return(returned))
+}
+
+fn argument_of(value: AtomRead) -> LineRead
+    ensures { λ r. ⌜ r ≡ argumentOf value ⌝ }
+{
+    let AtomRead::Read(passed) = value else {
+        return LineRead::Malformed;
+    };
+    LineRead::Read(LineContent::Argument(passed))
+}
+
+fn last_argument_of(value: AtomRead) -> LineRead
+    ensures { λ r. ⌜ r ≡ lastArgumentOf value ⌝ }
+{
+    let AtomRead::Read(passed) = value else {
+        return LineRead::Malformed;
+    };
+    LineRead::Read(LineContent::LastArgument(passed))
+}
+
+fn function_of(number: NumberRead) -> LineRead
+    ensures { λ r. ⌜ r ≡ functionOf number ⌝ }
+{
+    match number {
+        NumberRead::Number(function) => LineRead::Read(LineContent::OpensFunction(function)),
+        NumberRead::Malformed => LineRead::Malformed,
+    }
+}
+
+fn parameters_of(number: NumberRead) -> LineRead
+    ensures { λ r. ⌜ r ≡ parametersOf number ⌝ }
+{
+    match number {
+        NumberRead::Number(function) => LineRead::Read(LineContent::OpensParameters(function)),
+        NumberRead::Malformed => LineRead::Malformed,
+    }
+}
+
+fn parameter_of(number: NumberRead) -> LineRead
+    ensures { λ r. ⌜ r ≡ parameterOf number ⌝ }
+{
+    match number {
+        NumberRead::Number(word) => LineRead::Read(LineContent::Parameter(word)),
+        NumberRead::Malformed => LineRead::Malformed,
+    }
+}
+
+fn last_parameter_of(number: NumberRead) -> LineRead
+    ensures { λ r. ⌜ r ≡ lastParameterOf number ⌝ }
+{
+    match number {
+        NumberRead::Number(word) => LineRead::Read(LineContent::LastParameter(word)),
+        NumberRead::Malformed => LineRead::Malformed,
+    }
+}
+
+fn call_of(name: AtomRead, number: NumberRead) -> LineRead
+    ensures { λ r. ⌜ r ≡ callOf name number ⌝ }
+{
+    let AtomRead::Read(target) = name else {
+        return LineRead::Malformed;
+    };
+    match number {
+        NumberRead::Number(function) => LineRead::Read(LineContent::OpensCall(target, function)),
+        NumberRead::Malformed => LineRead::Malformed,
+    }
+}
+
 // A name takes any value.
 fn store_of(name: AtomRead, value: ValueRead) -> LineRead
     ensures { λ r. ⌜ r ≡ storeOf name value ⌝ }
@@ -80,6 +155,7 @@ fn put_of(array: u32, index: PageAtom, value: ValueRead) -> LineRead
         Value::Element(_, _) => LineRead::Malformed,
         Value::Minus(_) => LineRead::Malformed,
         Value::Binary(_, _, _) => LineRead::Malformed,
+        Value::Call(_) => LineRead::Malformed,
     }
 }
 
@@ -96,6 +172,11 @@ fn assigned_of(element: ElementRead, name: AtomRead, value: ValueRead) -> LineRe
 fn assignment_of(names: Names, target: &[u8], rest: &[u8]) -> LineRead
     ensures { λ r. ⌜ r ≡ assignmentOf names (now (target .entry)) (now (rest .entry)) ⌝ }
 {
+    if is_framed(b" = f", b"(", rest) {
+        let last = rest.len() - 1;
+        let called = number_below(&rest[4..last], 40980);
+        return call_of(name_of(atom(names, target)), called);
+    }
     if !is_framed(b" = ", b";", rest) {
         return LineRead::Malformed;
     }
@@ -108,11 +189,29 @@ fn assignment_of(names: Names, target: &[u8], rest: &[u8]) -> LineRead
     )
 }
 
-// `P = X;` and the others with an equals sign.
+// `X,`, `X);`
+fn argument(names: Names, text: &[u8]) -> LineRead
+    ensures { λ r. ⌜ r ≡ argumentRead names (now (text .entry)) ⌝ }
+{
+    if is_framed(b"", b",", text) {
+        let last = text.len() - 1;
+        return argument_of(atom(names, &text[0..last]));
+    }
+    if is_framed(b"", b");", text) {
+        let last = text.len() - 2;
+        return last_argument_of(atom(names, &text[0..last]));
+    }
+    LineRead::Malformed
+}
+
+// `P = X;` and the others with an equals sign; an argument has no blank.
 fn assignment(names: Names, text: &[u8]) -> LineRead
     ensures { λ r. ⌜ r ≡ assignmentRead names (now (text .entry)) ⌝ }
 {
     let end = piece_end(text, 0, b' ');
+    if end == text.len() {
+        return argument(names, text);
+    }
     assignment_of(names, &text[0..end], &text[end..])
 }
 
@@ -131,6 +230,40 @@ fn tested(names: Names, text: &[u8]) -> LineRead
     assignment(names, text)
 }
 
+// `int lN) {`, `int lN,`, or one of those.
+fn parameter(names: Names, text: &[u8]) -> LineRead
+    ensures { λ r. ⌜ r ≡ parameterRead names (now (text .entry)) ⌝ }
+{
+    if is_framed(b"int l", b") {", text) {
+        let last = text.len() - 3;
+        return last_parameter_of(number_below(&text[5..last], names.declared));
+    }
+    if is_framed(b"int l", b",", text) {
+        let last = text.len() - 1;
+        return parameter_of(number_below(&text[5..last], names.declared));
+    }
+    tested(names, text)
+}
+
+// `return X;`, `int fN() {`, `int fN(`, or one of those.
+fn function(names: Names, text: &[u8]) -> LineRead
+    ensures { λ r. ⌜ r ≡ functionRead names (now (text .entry)) ⌝ }
+{
+    if is_framed(b"return ", b";", text) {
+        let last = text.len() - 1;
+        return return_of(atom(names, &text[7..last]));
+    }
+    if is_framed(b"int f", b"() {", text) {
+        let last = text.len() - 4;
+        return function_of(number_below(&text[5..last], 40980));
+    }
+    if is_framed(b"int f", b"(", text) {
+        let last = text.len() - 1;
+        return parameters_of(number_below(&text[5..last], 40980));
+    }
+    parameter(names, text)
+}
+
 // `goto LN;`, `LN:;`, or one of those.
 fn jump(names: Names, text: &[u8]) -> LineRead
     ensures { λ r. ⌜ r ≡ jumpRead names (now (text .entry)) ⌝ }
@@ -143,7 +276,7 @@ fn jump(names: Names, text: &[u8]) -> LineRead
         let last = text.len() - 2;
         return label_of(number_below(&text[1..last], 40980));
     }
-    tested(names, text)
+    function(names, text)
 }
 
 // The lines that are one fixed word, or one of those.

@@ -1,17 +1,20 @@
 // Operators, and what is assigned.
 use page_atoms::atoms::atom;
 use page_atoms::atoms::element;
+use page_atoms::atoms::number_below;
+use page_atoms::compare::is_framed;
 use page_atoms::compare::is_word;
 use page_words::AtomRead;
 use page_words::ElementRead;
 use page_words::Names;
+use page_words::NumberRead;
 use page_words::OperatorRead;
 use page_words::Value;
 use page_words::ValueRead;
 use text_lines::line::piece_end;
 use words::Operator;
 ghost use mathlib.Core.Path.{_≡_};
-ghost use Rattle.page_words.specs.Reads.{operatorOfOne, operatorOfTwo, operatorRead, singleOf, minusOf, binaryOf, binaryRead, severalRead, valueRead};
+ghost use Rattle.page_words.specs.Reads.{operatorOfOne, operatorOfTwo, operatorRead, singleOf, calledOf, minusOf, binaryOf, binaryRead, severalRead, singleRead, valueRead};
 
 fn operator_of_one(byte: u8) -> OperatorRead
     ensures { λ r. ⌜ r ≡ operatorOfOne byte ⌝ }
@@ -86,6 +89,15 @@ fn single_of(element: ElementRead, atom: AtomRead) -> ValueRead
     ValueRead::Read(Value::Single(single))
 }
 
+fn called_of(number: NumberRead) -> ValueRead
+    ensures { λ r. ⌜ r ≡ calledOf number ⌝ }
+{
+    match number {
+        NumberRead::Number(function) => ValueRead::Read(Value::Call(function)),
+        NumberRead::Malformed => ValueRead::Malformed,
+    }
+}
+
 fn minus_of(atom: AtomRead) -> ValueRead
     ensures { λ r. ⌜ r ≡ minusOf atom ⌝ }
 {
@@ -135,13 +147,24 @@ fn several(names: Names, first: &[u8], rest: &[u8]) -> ValueRead
     binary(names, first, rest)
 }
 
+// `f7()`, an element, or an atom.
+fn single(names: Names, text: &[u8]) -> ValueRead
+    ensures { λ r. ⌜ r ≡ singleRead names (now (text .entry)) ⌝ }
+{
+    if is_framed(b"f", b"()", text) {
+        let last = text.len() - 2;
+        return called_of(number_below(&text[1..last], 40980));
+    }
+    single_of(element(names, text), atom(names, text))
+}
+
 // What is assigned, without its semicolon.
 pub fn value(names: Names, text: &[u8]) -> ValueRead
     ensures { λ r. ⌜ r ≡ valueRead names (now (text .entry)) ⌝ }
 {
     let end = piece_end(text, 0, b' ');
     if end == text.len() {
-        return single_of(element(names, text), atom(names, text));
+        return single(names, text);
     }
     let next = end + 1;
     several(names, &text[0..end], &text[next..])

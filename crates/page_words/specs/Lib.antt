@@ -14,9 +14,13 @@ pub mod CompareLaws
 pub mod FirstBytes
 -- Parts: texts by where a separator parts them, or by what stands around them.
 pub mod Parts
--- Sound: bytes that are read as a line are that line's, and it fits.
+-- Sound: bytes that are read as an atom, an element or a value are its bytes, and it fits.
 pub mod Sound
--- Complete: the bytes of each line that fits are read as it.
+-- Sound lines: bytes that are read as a line are that line's, and it fits.
+pub mod LineSound
+-- Complete: the bytes of each atom, element or value that fits are read as it.
 pub mod Complete
+-- Complete lines: the bytes of each line that fits are read as it.
+pub mod LineComplete
 -- Trees: the line of a page that each line read is; the same bytes there.
 pub mod Trees

@@ -11,7 +11,7 @@ use Rattle.words.specs.Laws.{by-cases}
 use Rattle.words.specs.OverLaws.{rest-of}
 use Rattle.text_lines.specs.Reader.{pieceEnd}
 use Rattle.page_words.specs.Compare.{isPrefix, isWord, isFramed, middle}
-use Rattle.page_words.specs.Reads.{numberRead, atomRead, nameOf, elementOf, elementIn, elementRead, operatorRead, singleOf, binaryOf, binaryRead, severalRead, valueRead, assignedOf, assignmentRead}
+use Rattle.page_words.specs.Reads.{numberRead, atomRead, nameOf, elementOf, elementIn, elementRead, operatorRead, binaryOf, binaryRead, severalRead, singleRead, valueRead, assignmentOf, argumentRead, assignmentRead}
 use Rattle.page_words.specs.declared.Names.{Names}
 use Rattle.page_words.specs.declared.ElementRead.the-variants as element-cases
 use Rattle.page_words.specs.declared.ValueRead.the-variants as value-cases
@@ -94,7 +94,7 @@ module _ (names : Names) where
     here : end ≡ pieceEnd 32 text
     here = piece-is 32 text end e
 
-    pub value-unparted : end ≡ length text → singleOf (elementRead names text) (atomRead names text) ≡ valueRead names text
+    pub value-unparted : end ≡ length text → singleRead names text ≡ valueRead names text
     unfolding valueRead
     value-unparted h = rw (eq-eqb (pieceEnd 32 text) (length text) (sym here ∙ h))
 
@@ -104,8 +104,16 @@ module _ (names : Names) where
         ap₂ (λ (l m : List ℕ). severalRead names l m) (front end text) (rest-of text (end + 1)) ∙ rw (here, ne-eqb (pieceEnd 32 text) (length text) (λ h. f (here ∙ h)))
 
     -- the target of an assignment, and the rest of it
-    pub target-is : take (end - 0) (drop 0 text) ≡ take (pieceEnd 32 text) text
+    target-is : take (end - 0) (drop 0 text) ≡ take (pieceEnd 32 text) text
     target-is = front end text ∙ ap (λ (n : ℕ). take n text) here
 
-    pub rest-is : take (length text - end) (drop end text) ≡ drop (pieceEnd 32 text) text
+    rest-is : take (length text - end) (drop end text) ≡ drop (pieceEnd 32 text) text
     rest-is = rest-of text end ∙ ap (λ (n : ℕ). drop n text) here
+
+    pub assignment-unparted : end ≡ length text → argumentRead names text ≡ assignmentRead names text
+    unfolding assignmentRead
+    assignment-unparted h = rw (eq-eqb (pieceEnd 32 text) (length text) (sym here ∙ h))
+
+    pub assignment-parted : (end ≡ length text → ⊥) → assignmentOf names (take (end - 0) (drop 0 text)) (take (length text - end) (drop end text)) ≡ assignmentRead names text
+    unfolding assignmentRead
+    assignment-parted f = ap₂ (λ (l m : List ℕ). assignmentOf names l m) target-is rest-is ∙ rw (ne-eqb (pieceEnd 32 text) (length text) (λ h. f (here ∙ h)))

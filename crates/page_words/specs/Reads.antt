@@ -15,9 +15,9 @@ use Rattle.page_words.specs.declared.Names.{Names}
 use Rattle.page_words.specs.declared.PageAtom.{PageAtom}
 use Rattle.page_words.specs.declared.PageAtom.the-variants.{Constant, Variable, Declared, Temporary}
 use Rattle.page_words.specs.declared.Value.{Value}
-use Rattle.page_words.specs.declared.Value.the-variants.{Single, Element, Minus, Binary}
+use Rattle.page_words.specs.declared.Value.the-variants.{Single, Element, Minus, Binary, Call}
 use Rattle.page_words.specs.declared.LineContent.{LineContent}
-use Rattle.page_words.specs.declared.LineContent.the-variants.{Empty, Abort, Goto, Label, Store, Put, Opens, While, If, Turns, Closes}
+use Rattle.page_words.specs.declared.LineContent.the-variants.{Empty, Abort, Goto, Label, Store, Put, Opens, While, If, Turns, Closes, Return, OpensCall, Argument, LastArgument, OpensFunction, OpensParameters, Parameter, LastParameter}
 use Rattle.page_words.specs.declared.NumberRead.{NumberRead}
 use Rattle.page_words.specs.declared.NumberRead.the-variants as number-cases
 use Rattle.page_words.specs.declared.AtomRead.{AtomRead}
@@ -95,6 +95,10 @@ singleOf (element-cases.Read array index) atom = value-cases.Read (Element array
 singleOf element-cases.Malformed (atom-cases.Read a) = value-cases.Read (Single a)
 singleOf element-cases.Malformed atom-cases.Malformed = value-cases.Malformed
 
+abbrev pub calledOf : NumberRead → ValueRead
+calledOf (number-cases.Number f) = value-cases.Read (Call f)
+calledOf number-cases.Malformed = value-cases.Malformed
+
 abbrev pub minusOf : AtomRead → ValueRead
 minusOf (atom-cases.Read a) = value-cases.Read (Minus a)
 minusOf atom-cases.Malformed = value-cases.Malformed
@@ -123,6 +127,39 @@ abbrev pub whileOf : AtomRead → LineRead
 whileOf (atom-cases.Read a) = line-cases.Read (While a)
 whileOf atom-cases.Malformed = line-cases.Malformed
 
+abbrev pub returnOf : AtomRead → LineRead
+returnOf (atom-cases.Read a) = line-cases.Read (Return a)
+returnOf atom-cases.Malformed = line-cases.Malformed
+
+abbrev pub callOf : AtomRead → NumberRead → LineRead
+callOf atom-cases.Malformed number = line-cases.Malformed
+callOf (atom-cases.Read a) number-cases.Malformed = line-cases.Malformed
+callOf (atom-cases.Read a) (number-cases.Number f) = line-cases.Read (OpensCall a f)
+
+abbrev pub argumentOf : AtomRead → LineRead
+argumentOf (atom-cases.Read a) = line-cases.Read (Argument a)
+argumentOf atom-cases.Malformed = line-cases.Malformed
+
+abbrev pub lastArgumentOf : AtomRead → LineRead
+lastArgumentOf (atom-cases.Read a) = line-cases.Read (LastArgument a)
+lastArgumentOf atom-cases.Malformed = line-cases.Malformed
+
+abbrev pub functionOf : NumberRead → LineRead
+functionOf (number-cases.Number f) = line-cases.Read (OpensFunction f)
+functionOf number-cases.Malformed = line-cases.Malformed
+
+abbrev pub parametersOf : NumberRead → LineRead
+parametersOf (number-cases.Number f) = line-cases.Read (OpensParameters f)
+parametersOf number-cases.Malformed = line-cases.Malformed
+
+abbrev pub parameterOf : NumberRead → LineRead
+parameterOf (number-cases.Number n) = line-cases.Read (Parameter n)
+parameterOf number-cases.Malformed = line-cases.Malformed
+
+abbrev pub lastParameterOf : NumberRead → LineRead
+lastParameterOf (number-cases.Number n) = line-cases.Read (LastParameter n)
+lastParameterOf number-cases.Malformed = line-cases.Malformed
+
 -- A name takes any value,
 abbrev pub storeOf : AtomRead → ValueRead → LineRead
 storeOf atom-cases.Malformed value = line-cases.Malformed
@@ -136,6 +173,7 @@ putOf array index (value-cases.Read (Single a)) = line-cases.Read (Put array ind
 putOf array index (value-cases.Read (Element other at)) = line-cases.Malformed
 putOf array index (value-cases.Read (Minus a)) = line-cases.Malformed
 putOf array index (value-cases.Read (Binary o a b)) = line-cases.Malformed
+putOf array index (value-cases.Read (Call f)) = line-cases.Malformed
 
 abbrev pub assignedOf : ElementRead → AtomRead → ValueRead → LineRead
 assignedOf (element-cases.Read array index) name value = putOf array index value
@@ -170,31 +208,57 @@ module _ (names : Names) where
   unfoldable pub severalRead : List ℕ → List ℕ → ValueRead
   severalRead first rest = pick (isWord (45 ∷ []) first) (minusOf (atomRead rest)) (binaryRead first rest)
 
+  -- `f7()`, an element, or an atom
+  unfoldable pub singleRead : List ℕ → ValueRead
+  singleRead text =
+      pick (isFramed (102 ∷ []) (40 ∷ 41 ∷ []) text) (calledOf (numberRead 40980 (middle 1 2 text))) (singleOf (elementRead text) (atomRead text))
+
   -- What is assigned, without its semicolon.
   unfoldable pub valueRead : List ℕ → ValueRead
   valueRead text =
-      pick (eqb (pieceEnd 32 text) (length text)) (singleOf (elementRead text) (atomRead text))
+      pick (eqb (pieceEnd 32 text) (length text)) (singleRead text)
       (severalRead (take (pieceEnd 32 text) text) (drop (pieceEnd 32 text + 1) text))
 
-  -- `P = X;`: the target's bytes, and the rest with its blank, equals sign and semicolon.
-  abbrev pub assignmentOf : List ℕ → List ℕ → LineRead
+  -- `P = fN(` or `P = X;`: the target's bytes, and the rest with its blank, equals sign and parenthesis or semicolon.
+  unfoldable pub assignmentOf : List ℕ → List ℕ → LineRead
   assignmentOf target rest =
-      pick (isFramed (32 ∷ 61 ∷ 32 ∷ []) (59 ∷ []) rest) (assignedOf (elementRead target) (nameOf (atomRead target)) (valueRead (middle 3 1 rest))) line-cases.Malformed
+      pick (isFramed (32 ∷ 61 ∷ 32 ∷ 102 ∷ []) (40 ∷ []) rest) (callOf (nameOf (atomRead target)) (numberRead 40980 (middle 4 1 rest)))
+      (pick (isFramed (32 ∷ 61 ∷ 32 ∷ []) (59 ∷ []) rest) (assignedOf (elementRead target) (nameOf (atomRead target)) (valueRead (middle 3 1 rest))) line-cases.Malformed)
 
+  -- `X,`, `X);`
+  unfoldable pub argumentRead : List ℕ → LineRead
+  argumentRead text =
+      pick (isFramed [] (44 ∷ []) text) (argumentOf (atomRead (middle 0 1 text)))
+      (pick (isFramed [] (41 ∷ 59 ∷ []) text) (lastArgumentOf (atomRead (middle 0 2 text))) line-cases.Malformed)
+
+  -- An argument has no blank.
   unfoldable pub assignmentRead : List ℕ → LineRead
-  assignmentRead text = assignmentOf (take (pieceEnd 32 text) text) (drop (pieceEnd 32 text) text)
+  assignmentRead text = pick (eqb (pieceEnd 32 text) (length text)) (argumentRead text) (assignmentOf (take (pieceEnd 32 text) text) (drop (pieceEnd 32 text) text))
 
-  -- `if (X) {`, `while (X) {`, or an assignment
+  -- `if (X) {`, `while (X) {`, or an assignment or argument
   unfoldable pub testRead : List ℕ → LineRead
   testRead text =
       pick (isFramed (105 ∷ 102 ∷ 32 ∷ 40 ∷ []) (41 ∷ 32 ∷ 123 ∷ []) text) (ifOf (atomRead (middle 4 3 text)))
       (pick (isFramed (119 ∷ 104 ∷ 105 ∷ 108 ∷ 101 ∷ 32 ∷ 40 ∷ []) (41 ∷ 32 ∷ 123 ∷ []) text) (whileOf (atomRead (middle 7 3 text))) (assignmentRead text))
 
+  -- `int lN) {`, `int lN,`, or one of those
+  unfoldable pub parameterRead : List ℕ → LineRead
+  parameterRead text =
+      pick (isFramed (105 ∷ 110 ∷ 116 ∷ 32 ∷ 108 ∷ []) (41 ∷ 32 ∷ 123 ∷ []) text) (lastParameterOf (numberRead (names .declared) (middle 5 3 text)))
+      (pick (isFramed (105 ∷ 110 ∷ 116 ∷ 32 ∷ 108 ∷ []) (44 ∷ []) text) (parameterOf (numberRead (names .declared) (middle 5 1 text))) (testRead text))
+
+  -- `return X;`, `int fN() {`, `int fN(`, or one of those
+  unfoldable pub functionRead : List ℕ → LineRead
+  functionRead text =
+      pick (isFramed (114 ∷ 101 ∷ 116 ∷ 117 ∷ 114 ∷ 110 ∷ 32 ∷ []) (59 ∷ []) text) (returnOf (atomRead (middle 7 1 text)))
+      (pick (isFramed (105 ∷ 110 ∷ 116 ∷ 32 ∷ 102 ∷ []) (40 ∷ 41 ∷ 32 ∷ 123 ∷ []) text) (functionOf (numberRead 40980 (middle 5 4 text)))
+      (pick (isFramed (105 ∷ 110 ∷ 116 ∷ 32 ∷ 102 ∷ []) (40 ∷ []) text) (parametersOf (numberRead 40980 (middle 5 1 text))) (parameterRead text)))
+
   -- `goto LN;`, `LN:;`, or one of those
   unfoldable pub jumpRead : List ℕ → LineRead
   jumpRead text =
       pick (isFramed (103 ∷ 111 ∷ 116 ∷ 111 ∷ 32 ∷ 76 ∷ []) (59 ∷ []) text) (gotoOf (numberRead 40980 (middle 6 1 text)))
-      (pick (isFramed (76 ∷ []) (58 ∷ 59 ∷ []) text) (labelOf (numberRead 40980 (middle 1 2 text))) (testRead text))
+      (pick (isFramed (76 ∷ []) (58 ∷ 59 ∷ []) text) (labelOf (numberRead 40980 (middle 1 2 text))) (functionRead text))
 
   -- One fixed word, or one of those.
   unfoldable pub lineRead : List ℕ → LineRead

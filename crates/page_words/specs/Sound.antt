@@ -1,4 +1,4 @@
--- Sound: bytes that are read as a line are that line's, and it fits.
+-- Sound: bytes that are read as an atom, an element or a value are its bytes, and it fits.
 use mathlib.Core.Path.{_≡_, refl, sym, ap, ap₂, _∙_}
 use mathlib.Core.Bool.{true, false}
 use mathlib.Core.List.{List, [], _∷_, _++_}
@@ -18,16 +18,14 @@ use Rattle.text_numbers.specs.NumberLaws.{not-some, word-is, IsNumber, number-r
 use Rattle.text_lines.specs.Reader.{pieceEnd}
 use Rattle.page.specs.Page.{operatorWord}
 use Rattle.page_words.specs.Compare.{isWord, isFramed, middle}
-use Rattle.page_words.specs.CompareLaws.{never, word-sound, framed-sound, piece-splits, piece-halves}
-use Rattle.page_words.specs.Texts.{atomText, elementText, valueText, assignmentText, lineText, AtomFits, NameFits, ElementFits, ValueFits, LineFits}
-use Rattle.page_words.specs.Reads.{belowOf, numberRead, variableOf, declaredWordOf, temporaryOf, constantOf, atomRead, nameOf, elementOf, elementIn, elementRead, operatorOfOne, operatorOfTwo, operatorRead, singleOf, minusOf, binaryOf, binaryRead, severalRead, valueRead, gotoOf, labelOf, ifOf, whileOf, storeOf, putOf, assignedOf, assignmentRead, testRead, jumpRead, lineRead}
+use Rattle.page_words.specs.CompareLaws.{never, word-sound, framed-sound, piece-splits}
+use Rattle.page_words.specs.Texts.{atomText, elementText, valueText, AtomFits, ElementFits, ValueFits}
+use Rattle.page_words.specs.Reads.{belowOf, numberRead, variableOf, declaredWordOf, temporaryOf, constantOf, atomRead, elementOf, elementIn, elementRead, operatorOfOne, operatorOfTwo, operatorRead, singleOf, calledOf, minusOf, binaryOf, binaryRead, severalRead, singleRead, valueRead}
 use Rattle.page_words.specs.declared.Names.{Names}
 use Rattle.page_words.specs.declared.PageAtom.{PageAtom}
 use Rattle.page_words.specs.declared.PageAtom.the-variants.{Constant, Variable, Declared, Temporary}
 use Rattle.page_words.specs.declared.Value.{Value}
-use Rattle.page_words.specs.declared.Value.the-variants.{Single, Element, Minus, Binary}
-use Rattle.page_words.specs.declared.LineContent.{LineContent}
-use Rattle.page_words.specs.declared.LineContent.the-variants.{Empty, Abort, Goto, Label, Store, Put, Opens, While, If, Turns, Closes}
+use Rattle.page_words.specs.declared.Value.the-variants.{Single, Element, Minus, Binary, Call}
 use Rattle.page_words.specs.declared.NumberRead.{NumberRead}
 use Rattle.page_words.specs.declared.NumberRead.the-variants as number-cases
 use Rattle.page_words.specs.declared.AtomRead.{AtomRead}
@@ -38,8 +36,6 @@ use Rattle.page_words.specs.declared.OperatorRead.{OperatorRead}
 use Rattle.page_words.specs.declared.OperatorRead.the-variants as operator-cases
 use Rattle.page_words.specs.declared.ValueRead.{ValueRead}
 use Rattle.page_words.specs.declared.ValueRead.the-variants as value-cases
-use Rattle.page_words.specs.declared.LineRead.{LineRead}
-use Rattle.page_words.specs.declared.LineRead.the-variants as line-cases
 
 -- ---- numbers
 
@@ -245,117 +241,24 @@ module _ (names : Names) (few-variables : names .variables ≤ 256) (few-behind 
       (λ t. rw (word-sound (45 ∷ []) first t) (minus-sound rest (atomRead names rest) v refl (rw t at e)))
       (λ t. binary-sound first rest v (rw t at e))
 
+  called-sound : (word : List ℕ) (r : NumberRead) (v : Value) → numberRead 40980 word ≡ r → calledOf r ≡ value-cases.Read v → ((102 ∷ []) ++ (word ++ (40 ∷ 41 ∷ [])) ≡ valueText v) × ValueFits names v
+  called-sound word number-cases.Malformed v q e = absurd (let z : _≡_ {A = ℕ} 0 1 = cc in omega arith)
+  called-sound word (number-cases.Number f) v q e = let g = below-sound 40980 word f (omega arith) q in let same : Call f ≡ v = cc in rw (← same) (rw (g .0), g .1)
+
+  single-read-sound : (text : List ℕ) (v : Value) → singleRead names text ≡ value-cases.Read v → (text ≡ valueText v) × ValueFits names v
+  unfolding singleRead
+  single-read-sound text v e =
+      by-cases (isFramed (102 ∷ []) (40 ∷ 41 ∷ []) text)
+      (λ t.
+      let f = called-sound (middle 1 2 text) (numberRead 40980 (middle 1 2 text)) v refl (rw t at e) in
+      (framed-sound (102 ∷ []) (40 ∷ 41 ∷ []) text t ∙ f .0, f .1))
+      (λ t. single-sound text (elementRead names text) (atomRead names text) v refl refl (rw t at e))
+
   pub value-sound : (text : List ℕ) (v : Value) → valueRead names text ≡ value-cases.Read v → (text ≡ valueText v) × ValueFits names v
   unfolding valueRead
   value-sound text v e =
       by-cases (eqb (pieceEnd 32 text) (length text))
-      (λ t. single-sound text (elementRead names text) (atomRead names text) v refl refl (rw t at e))
+      (λ t. single-read-sound text v (rw t at e))
       (λ t.
       let f = several-sound (take (pieceEnd 32 text) text) (drop (pieceEnd 32 text + 1) text) v (rw t at e) in
       (piece-splits 32 text (eqb-false _ _ t) ∙ f .0, f .1))
-
-  -- ---- lines
-
-  name-sound : (word : List ℕ) (r : AtomRead) (a : PageAtom) → atomRead names word ≡ r → nameOf r ≡ atom-cases.Read a → (word ≡ atomText a) × NameFits names a
-  name-sound word atom-cases.Malformed a q e = absurd (let z : _≡_ {A = ℕ} 0 1 = cc in omega arith)
-  name-sound word (atom-cases.Read (Constant v)) a q e = absurd (let z : _≡_ {A = ℕ} 0 1 = cc in omega arith)
-  name-sound word (atom-cases.Read (Variable n)) a q e = let same : Variable n ≡ a = cc in rw (← same) (atom-sound word (Variable n) q)
-  name-sound word (atom-cases.Read (Declared n)) a q e = let same : Declared n ≡ a = cc in rw (← same) (atom-sound word (Declared n) q)
-  name-sound word (atom-cases.Read (Temporary n)) a q e = let same : Temporary n ≡ a = cc in rw (← same) (atom-sound word (Temporary n) q)
-
-  store-sound : (target value : List ℕ) (r : AtomRead) (s : ValueRead) (line : LineContent) → nameOf (atomRead names target) ≡ r → valueRead names value ≡ s → storeOf r s ≡ line-cases.Read line
-      → (assignmentText target value ≡ lineText line) × LineFits names line
-  store-sound target value atom-cases.Malformed s line q p e = absurd (let z : _≡_ {A = ℕ} 0 1 = cc in omega arith)
-  store-sound target value (atom-cases.Read a) value-cases.Malformed line q p e = absurd (let z : _≡_ {A = ℕ} 0 1 = cc in omega arith)
-  store-sound target value (atom-cases.Read a) (value-cases.Read v) line q p e =
-      let f = name-sound target (atomRead names target) a refl q in
-      let g = value-sound value v p in
-      let same : Store a v ≡ line = cc in
-      rw (← same) (ap₂ assignmentText (f .0) (g .0), (f .1, g .1))
-
-  put-sound : (target value : List ℕ) (array : ℕ) (index : PageAtom) (s : ValueRead) (line : LineContent) → elementRead names target ≡ element-cases.Read array index → valueRead names value ≡ s
-      → putOf array index s ≡ line-cases.Read line → (assignmentText target value ≡ lineText line) × LineFits names line
-  put-sound target value array index value-cases.Malformed line q p e = absurd (let z : _≡_ {A = ℕ} 0 1 = cc in omega arith)
-  put-sound target value array index (value-cases.Read (Element other at)) line q p e = absurd (let z : _≡_ {A = ℕ} 0 1 = cc in omega arith)
-  put-sound target value array index (value-cases.Read (Minus a)) line q p e = absurd (let z : _≡_ {A = ℕ} 0 1 = cc in omega arith)
-  put-sound target value array index (value-cases.Read (Binary o a b)) line q p e = absurd (let z : _≡_ {A = ℕ} 0 1 = cc in omega arith)
-  put-sound target value array index (value-cases.Read (Single a)) line q p e =
-      let f = element-sound target array index q in
-      let g = value-sound value (Single a) p in
-      let same : Put array index a ≡ line = cc in
-      rw (← same) (ap₂ assignmentText (f .0) (g .0), (f .1, g .1))
-
-  assigned-sound : (target value : List ℕ) (r : ElementRead) (line : LineContent) → elementRead names target ≡ r → assignedOf r (nameOf (atomRead names target)) (valueRead names value) ≡ line-cases.Read line
-      → (assignmentText target value ≡ lineText line) × LineFits names line
-  assigned-sound target value (element-cases.Read array index) line q e = put-sound target value array index (valueRead names value) line q refl e
-  assigned-sound target value element-cases.Malformed line q e = store-sound target value (nameOf (atomRead names target)) (valueRead names value) line refl refl e
-
-  assignment-sound : (text : List ℕ) (line : LineContent) → assignmentRead names text ≡ line-cases.Read line → (text ≡ lineText line) × LineFits names line
-  unfolding assignmentRead
-  assignment-sound text line e =
-      let target = take (pieceEnd 32 text) text in
-      let rest = drop (pieceEnd 32 text) text in
-      by-cases (isFramed (32 ∷ 61 ∷ 32 ∷ []) (59 ∷ []) rest)
-      (λ t.
-      let f = assigned-sound target (middle 3 1 rest) (elementRead names target) line refl (rw t at e) in
-      (piece-halves 32 text ∙ ap (λ (l : List ℕ). target ++ l) (framed-sound (32 ∷ 61 ∷ 32 ∷ []) (59 ∷ []) rest t) ∙ f .0, f .1))
-      (λ t. absurd (let found : line-cases.Malformed ≡ line-cases.Read line = rw t at e in let z : _≡_ {A = ℕ} 0 1 = cc in omega arith))
-
-  if-sound : (word : List ℕ) (r : AtomRead) (line : LineContent) → atomRead names word ≡ r → ifOf r ≡ line-cases.Read line
-      → ((105 ∷ 102 ∷ 32 ∷ 40 ∷ []) ++ (word ++ (41 ∷ 32 ∷ 123 ∷ [])) ≡ lineText line) × LineFits names line
-  if-sound word atom-cases.Malformed line q e = absurd (let z : _≡_ {A = ℕ} 0 1 = cc in omega arith)
-  if-sound word (atom-cases.Read a) line q e = let f = atom-sound word a q in let same : If a ≡ line = cc in rw (← same) (rw (f .0), f .1)
-
-  while-sound : (word : List ℕ) (r : AtomRead) (line : LineContent) → atomRead names word ≡ r → whileOf r ≡ line-cases.Read line
-      → ((119 ∷ 104 ∷ 105 ∷ 108 ∷ 101 ∷ 32 ∷ 40 ∷ []) ++ (word ++ (41 ∷ 32 ∷ 123 ∷ [])) ≡ lineText line) × LineFits names line
-  while-sound word atom-cases.Malformed line q e = absurd (let z : _≡_ {A = ℕ} 0 1 = cc in omega arith)
-  while-sound word (atom-cases.Read a) line q e = let f = atom-sound word a q in let same : While a ≡ line = cc in rw (← same) (rw (f .0), f .1)
-
-  test-sound : (text : List ℕ) (line : LineContent) → testRead names text ≡ line-cases.Read line → (text ≡ lineText line) × LineFits names line
-  unfolding testRead
-  test-sound text line e =
-      let end : List ℕ = 41 ∷ 32 ∷ 123 ∷ [] in
-      let if-start : List ℕ = 105 ∷ 102 ∷ 32 ∷ 40 ∷ [] in
-      let while-start : List ℕ = 119 ∷ 104 ∷ 105 ∷ 108 ∷ 101 ∷ 32 ∷ 40 ∷ [] in
-      by-cases (isFramed if-start end text)
-      (λ t. let f = if-sound (middle 4 3 text) (atomRead names (middle 4 3 text)) line refl (rw t at e) in (framed-sound if-start end text t ∙ f .0, f .1))
-      (λ t. by-cases (isFramed while-start end text)
-      (λ u. let f = while-sound (middle 7 3 text) (atomRead names (middle 7 3 text)) line refl (rw (t, u) at e) in (framed-sound while-start end text u ∙ f .0, f .1))
-      (λ u. assignment-sound text line (rw (t, u) at e)))
-
-  goto-sound : (word : List ℕ) (r : NumberRead) (line : LineContent) → numberRead 40980 word ≡ r → gotoOf r ≡ line-cases.Read line
-      → ((103 ∷ 111 ∷ 116 ∷ 111 ∷ 32 ∷ 76 ∷ []) ++ (word ++ (59 ∷ [])) ≡ lineText line) × LineFits names line
-  goto-sound word number-cases.Malformed line q e = absurd (let z : _≡_ {A = ℕ} 0 1 = cc in omega arith)
-  goto-sound word (number-cases.Number l) line q e = let f = below-sound 40980 word l (omega arith) q in let same : Goto l ≡ line = cc in rw (← same) (rw (f .0), f .1)
-
-  label-sound : (word : List ℕ) (r : NumberRead) (line : LineContent) → numberRead 40980 word ≡ r → labelOf r ≡ line-cases.Read line
-      → ((76 ∷ []) ++ (word ++ (58 ∷ 59 ∷ [])) ≡ lineText line) × LineFits names line
-  label-sound word number-cases.Malformed line q e = absurd (let z : _≡_ {A = ℕ} 0 1 = cc in omega arith)
-  label-sound word (number-cases.Number l) line q e = let f = below-sound 40980 word l (omega arith) q in let same : Label l ≡ line = cc in rw (← same) (rw (f .0), f .1)
-
-  jump-sound : (text : List ℕ) (line : LineContent) → jumpRead names text ≡ line-cases.Read line → (text ≡ lineText line) × LineFits names line
-  unfolding jumpRead
-  jump-sound text line e =
-      let goto-start : List ℕ = 103 ∷ 111 ∷ 116 ∷ 111 ∷ 32 ∷ 76 ∷ [] in
-      by-cases (isFramed goto-start (59 ∷ []) text)
-      (λ t. let f = goto-sound (middle 6 1 text) (numberRead 40980 (middle 6 1 text)) line refl (rw t at e) in (framed-sound goto-start (59 ∷ []) text t ∙ f .0, f .1))
-      (λ t. by-cases (isFramed (76 ∷ []) (58 ∷ 59 ∷ []) text)
-      (λ u. let f = label-sound (middle 1 2 text) (numberRead 40980 (middle 1 2 text)) line refl (rw (t, u) at e) in (framed-sound (76 ∷ []) (58 ∷ 59 ∷ []) text u ∙ f .0, f .1))
-      (λ u. test-sound text line (rw (t, u) at e)))
-
-  fixed-sound : (text word : List ℕ) (found line : LineContent) → isWord word text ≡ true → word ≡ lineText found → LineFits names found → line-cases.Read found ≡ line-cases.Read line
-      → (text ≡ lineText line) × LineFits names line
-  fixed-sound text word found line t w h e = let same : found ≡ line = cc in rw (← same) (word-sound word text t ∙ w, h)
-
-  -- What is read is the bytes of what it is read as.
-  pub line-sound : (text : List ℕ) (line : LineContent) → lineRead names text ≡ line-cases.Read line → (text ≡ lineText line) × LineFits names line
-  unfolding lineRead
-  line-sound text line e =
-      let turning : List ℕ = 125 ∷ 32 ∷ 101 ∷ 108 ∷ 115 ∷ 101 ∷ 32 ∷ 123 ∷ [] in
-      let aborting : List ℕ = 97 ∷ 98 ∷ 111 ∷ 114 ∷ 116 ∷ 40 ∷ 41 ∷ 59 ∷ [] in
-      by-cases (isWord (59 ∷ []) text) (λ t. fixed-sound text (59 ∷ []) Empty line t refl tt (rw t at e))
-      (λ t. by-cases (isWord (123 ∷ []) text) (λ u. fixed-sound text (123 ∷ []) Opens line u refl tt (rw (t, u) at e))
-      (λ u. by-cases (isWord (125 ∷ []) text) (λ v. fixed-sound text (125 ∷ []) Closes line v refl tt (rw (t, u, v) at e))
-      (λ v. by-cases (isWord turning text) (λ w. fixed-sound text turning Turns line w refl tt (rw (t, u, v, w) at e))
-      (λ w. by-cases (isWord aborting text) (λ x. fixed-sound text aborting Abort line x refl tt (rw (t, u, v, w, x) at e))
-      (λ x. jump-sound text line (rw (t, u, v, w, x) at e))))))

@@ -9,20 +9,20 @@ use native.Mathlib.Omega.{arith}
 use lib.Dec.{ltb}
 use borrow.Author.Tests.{lt-ltb, le-ltb}
 use Rattle.text_numbers.specs.Number.{digits}
-use Rattle.language.specs.Trees.{Expression, constant, read, minus, binary, assign, Place, variable, element, label, empty, express, goto, abort}
-use Rattle.page.specs.Lines.{PageLine, single, mark, opens, opensWhile, opensIf, turns, closes}
+use Rattle.language.specs.Trees.{Expression, constant, read, minus, binary, assign, call, Place, variable, element, noMore, present, label, empty, express, goto, abort, giveBack}
+use Rattle.page.specs.Lines.{PageLine, single, mark, opens, opensWhile, opensIf, turns, closes, opensCall, argument, lastArgument, opensFunction, opensParameters, parameter, lastParameter}
 use Rattle.page.specs.declared.Sizes.{Sizes}
-use Rattle.page.specs.Page.{operatorWord, firstTemporary, name, atomWord, placeWord, valueWords, ended, parted, lineWords}
-use Rattle.page.specs.Fits.{fits-constant, fits-variable, value-atom, value-element, value-minus, value-binary, fits-empty, fits-abort, fits-goto, fits-label, fits-store, fits-put, fits-opens, fits-while, fits-if, fits-turns, fits-closes}
+use Rattle.page.specs.Page.{operatorWord, functionWord, openedWord, firstTemporary, name, atomWord, placeWord, valueWords, ended, parted, lineWords}
+use Rattle.page.specs.Fits.{fits-constant, fits-variable, value-atom, value-element, value-minus, value-binary, value-call, fits-empty, fits-abort, fits-goto, fits-label, fits-store, fits-put, fits-return, fits-opens, fits-while, fits-if, fits-turns, fits-closes, fits-call, fits-argument, fits-last-argument, fits-function, fits-parameters, fits-parameter, fits-last-parameter}
 use Rattle.page.specs.Fits as page-fits
 use Rattle.page_words.specs.Texts.{atomText, elementText, valueText, assignmentText, lineText, AtomFits, NameFits, ElementFits, ValueFits, LineFits}
 use Rattle.page_words.specs.declared.Names.{Names}
 use Rattle.page_words.specs.declared.PageAtom.{PageAtom}
 use Rattle.page_words.specs.declared.PageAtom.the-variants.{Constant, Variable, Declared, Temporary}
 use Rattle.page_words.specs.declared.Value.{Value}
-use Rattle.page_words.specs.declared.Value.the-variants.{Single, Element, Minus, Binary}
+use Rattle.page_words.specs.declared.Value.the-variants.{Single, Element, Minus, Binary, Call}
 use Rattle.page_words.specs.declared.LineContent.{LineContent}
-use Rattle.page_words.specs.declared.LineContent.the-variants.{Empty, Abort, Goto, Label, Store, Put, Opens, While, If, Turns, Closes}
+use Rattle.page_words.specs.declared.LineContent.the-variants.{Empty, Abort, Goto, Label, Store, Put, Opens, While, If, Turns, Closes, Return, OpensCall, Argument, LastArgument, OpensFunction, OpensParameters, Parameter, LastParameter}
 
 -- S and D.
 module _ (sizes : Sizes) where
@@ -44,6 +44,7 @@ module _ (sizes : Sizes) where
   valueTree (Element array index) = read (element array (atomTree index))
   valueTree (Minus a) = minus (atomTree a)
   valueTree (Binary o a b) = binary o (atomTree a) (atomTree b)
+  valueTree (Call f) = call f noMore
 
   abbrev pub lineTree : LineContent → PageLine
   lineTree Empty = single empty
@@ -57,6 +58,14 @@ module _ (sizes : Sizes) where
   lineTree (If a) = opensIf (atomTree a)
   lineTree Turns = turns
   lineTree Closes = closes
+  lineTree (Return a) = single (giveBack (present (atomTree a)))
+  lineTree (OpensCall a f) = opensCall (placeTree a) f
+  lineTree (Argument a) = argument (atomTree a)
+  lineTree (LastArgument a) = lastArgument (atomTree a)
+  lineTree (OpensFunction f) = opensFunction f
+  lineTree (OpensParameters f) = opensParameters f
+  lineTree (Parameter n) = parameter (sizes .store + n)
+  lineTree (LastParameter n) = lastParameter (sizes .store + n)
 
 -- ---- laws
 
@@ -107,6 +116,9 @@ module _ (sizes : Sizes) (names : Names) (within : Within sizes names) where
   assigned-atom word (Declared n) h = rw (declared-word n h)
   assigned-atom word (Temporary n) h = rw (temporary-word n)
 
+  called-word : (f : ℕ) → (openedWord f ++ (41 ∷ [])) ≡ 102 ∷ (digits f ++ (40 ∷ 41 ∷ []))
+  called-word f = append-assoc (functionWord f) (40 ∷ []) (41 ∷ [])
+
   assigned : (word : List ℕ) (v : Value) → ValueFits names v → parted (word ∷ ((61 ∷ []) ∷ ended (valueWords sizes (valueTree sizes v)))) ≡ assignmentText word (valueText v)
   unfolding parted ended
   assigned word (Single a) h = assigned-atom word a h
@@ -117,6 +129,7 @@ module _ (sizes : Sizes) (names : Names) (within : Within sizes names) where
       (ap (λ (l : List ℕ). word ++ (32 ∷ (61 ∷ (32 ∷ l))))
       (sym (append-assoc (atomText a) (32 ∷ (operatorWord o ++ (32 ∷ atomText b))) (59 ∷ [])
       ∙ ap (λ (l : List ℕ). atomText a ++ (32 ∷ l)) (append-assoc (operatorWord o) (32 ∷ atomText b) (59 ∷ [])))))
+  assigned word (Call f) h = ap (λ (l : List ℕ). word ++ (32 ∷ (61 ∷ (32 ∷ (l ++ (59 ∷ [])))))) (called-word f)
 
   -- The bytes of a line are its words on the page, parted by blanks.
   pub line-words : (line : LineContent) → LineFits names line → parted (lineWords sizes (lineTree sizes line)) ≡ lineText line
@@ -133,12 +146,24 @@ module _ (sizes : Sizes) (names : Names) (within : Within sizes names) where
   line-words (If a) h = rw (atom-word a h) (ap (λ (l : List ℕ). 105 ∷ 102 ∷ 32 ∷ 40 ∷ l) (append-assoc (atomText a) (41 ∷ []) (32 ∷ 123 ∷ [])))
   line-words Turns h = refl
   line-words Closes h = refl
+  line-words (Return a) h = rw (atom-word a h)
+  line-words (OpensCall a f) h = rw (name-word a (h .0))
+  line-words (Argument a) h = rw (atom-word a h)
+  line-words (LastArgument a) h = rw (atom-word a h) (append-assoc (atomText a) (41 ∷ []) (59 ∷ []))
+  line-words (OpensFunction f) h = ap (λ (l : List ℕ). 105 ∷ 110 ∷ 116 ∷ 32 ∷ (l ++ (32 ∷ 123 ∷ []))) (called-word f) ∙ ap (λ (l : List ℕ). 105 ∷ 110 ∷ 116 ∷ 32 ∷ 102 ∷ l) (append-assoc (digits f) (40 ∷ 41 ∷ []) (32 ∷ 123 ∷ []))
+  line-words (OpensParameters f) h = refl
+  line-words (Parameter n) h = rw (declared-word n h)
+  line-words (LastParameter n) h = rw (declared-word n h) (ap (λ (l : List ℕ). 105 ∷ 110 ∷ 116 ∷ 32 ∷ 108 ∷ l) (append-assoc (digits n) (41 ∷ []) (32 ∷ 123 ∷ [])))
 
   -- ---- it fits, as page/Fits has it
 
   -- The variables, and the declared words and temporaries behind the store.
   abbrev pub Named : ℕ → Type 0
   Named i = (i < names .variables) ⊎ ((sizes .store ≤ i) × (i < sizes .store + (names .declared + names .temporaries)))
+
+  -- The declared words.
+  abbrev pub Declares : ℕ → Type 0
+  Declares i = (sizes .store ≤ i) × (i < firstTemporary sizes)
 
   atom-fits : (a : PageAtom) → AtomFits names a → page-fits.AtomFits Named (names .arrays) (atomTree sizes a)
   atom-fits (Constant v) h = fits-constant h
@@ -151,8 +176,9 @@ module _ (sizes : Sizes) (names : Names) (within : Within sizes names) where
   value-fits (Element array a) h = value-element (h .0) (atom-fits a (h .1))
   value-fits (Minus a) h = value-minus (atom-fits a h)
   value-fits (Binary o a b) h = value-binary (atom-fits a (h .0)) (atom-fits b (h .1))
+  value-fits (Call f) h = value-call h
 
-  pub line-fits : (line : LineContent) → LineFits names line → page-fits.LineFits Named (names .arrays) (lineTree sizes line)
+  pub line-fits : (line : LineContent) → LineFits names line → page-fits.LineFits Named (names .arrays) Declares (lineTree sizes line)
   line-fits Empty h = fits-empty
   line-fits Abort h = fits-abort
   line-fits (Goto l) h = fits-goto h
@@ -167,3 +193,14 @@ module _ (sizes : Sizes) (names : Names) (within : Within sizes names) where
   line-fits (If a) h = fits-if (atom-fits a h)
   line-fits Turns h = fits-turns
   line-fits Closes h = fits-closes
+  line-fits (Return a) h = fits-return (atom-fits a h)
+  line-fits (OpensCall (Constant v) f) h = absurd (h .0)
+  line-fits (OpensCall (Variable n) f) h = fits-call (inl (h .0)) (h .1)
+  line-fits (OpensCall (Declared n) f) h = let less = h .0 in fits-call {i = sizes .store + n} (inr (omega arith, omega arith)) (h .1)
+  line-fits (OpensCall (Temporary n) f) h = let less = h .0 in fits-call {i = firstTemporary sizes + n} (inr (omega arith, omega (arith, within .same-declared))) (h .1)
+  line-fits (Argument a) h = fits-argument (atom-fits a h)
+  line-fits (LastArgument a) h = fits-last-argument (atom-fits a h)
+  line-fits (OpensFunction f) h = fits-function h
+  line-fits (OpensParameters f) h = fits-parameters h
+  line-fits (Parameter n) h = fits-parameter {word = sizes .store + n} (omega arith, omega (arith, within .same-declared))
+  line-fits (LastParameter n) h = fits-last-parameter {word = sizes .store + n} (omega arith, omega (arith, within .same-declared))

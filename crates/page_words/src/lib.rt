@@ -17,15 +17,16 @@ pub enum PageAtom {
     Temporary(u32),
 }
 
-// What is assigned.
+// What is assigned; a call here has no arguments.
 pub enum Value {
     Single(PageAtom),
     Element(u32, PageAtom),
     Minus(PageAtom),
     Binary(Operator, PageAtom, PageAtom),
+    Call(u32),
 }
 
-// What a line says. `Store` assigns to a name, `Put` to an element.
+// What a line says. `Store` assigns to a name, `Put` to an element. Functions are told by their number, parameters by their declared word.
 pub enum LineContent {
     Empty,
     Abort,
@@ -38,6 +39,14 @@ pub enum LineContent {
     If(PageAtom),
     Turns,
     Closes,
+    Return(PageAtom),
+    OpensCall(PageAtom, u32),
+    Argument(PageAtom),
+    LastArgument(PageAtom),
+    OpensFunction(u32),
+    OpensParameters(u32),
+    Parameter(u32),
+    LastParameter(u32),
 }
 
 // What bytes are read as.

@@ -1,14 +1,10 @@
--- The causes 4 and 19 for parameters. A line of comment for each file.
+-- The cause 19 for parameters. A line of comment for each file.
 
 -- ---- definitions
 -- Parameters: the function in whose block's own list a row stands; 19 for a declaration there with the number of a parameter.
 pub mod Parameters
 -- Demands: what the request demands of them, as relations in its words.
 pub mod Demands
--- Roles: kind 58 as a parameter and as a declaration; cause 4 at its row.
-pub mod Roles
--- Role demands: what the request demands of the two roles.
-pub mod RoleDemands
 -- ---- laws
 -- Laws of blocks of functions: the note says in which function's list a row stands.
 pub mod BodyLaws
@@ -16,5 +12,3 @@ pub mod BodyLaws
 pub mod SearchLaws
 -- The theorem: the test is true exactly at a declaration whose number a parameter of its function has.
 pub mod ParameterLaws
--- Laws of roles: the search finds the parameters and no others; cause 4 is what the role asks.
-pub mod RoleLaws

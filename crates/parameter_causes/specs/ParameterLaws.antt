@@ -15,9 +15,8 @@ use Rattle.words.specs.Declarations.{isDeclaration}
 use Rattle.structure.specs.LinkLaws.{part-inside}
 use Rattle.structure.specs.NoteLaws.{above-zero}
 use Rattle.structure.specs.Structured.{Leads, Tree}
-use Rattle.declaration_causes.specs.Causes.{sameNumber}
 use Rattle.function_causes.specs.Functions.{isDefinition}
-use Rattle.parameter_causes.specs.Parameters.{bodyAt, someOfList, declaredAsParameter}
+use Rattle.parameter_causes.specs.Parameters.{bodyAt, someOfList, sameNumber, declaredAsParameter}
 use Rattle.parameter_causes.specs.Demands.{Parameter, firstParameter, nextParameter, BodyItem, firstItem, nextItem, NotParameter}
 use Rattle.parameter_causes.specs.BodyLaws.{body-later, body-noted, Body, as-block, as-item, noted-body}
 use Rattle.parameter_causes.specs.SearchLaws.{some-none, some-here, some-behind, Met, some-met}

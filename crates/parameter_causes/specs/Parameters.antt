@@ -6,10 +6,9 @@ use Prim.Native.Nat.{ℕ, zero, suc}
 use lib.Dec.{eqb}
 use lib.IntN.{ℤ}
 use Rattle.words.specs.Word.{pick}
-use Rattle.words.specs.Table.{rowCount}
+use Rattle.words.specs.Table.{rowCount, numberAt}
 use Rattle.words.specs.Links.{link, note}
 use Rattle.words.specs.Declarations.{isDeclaration}
-use Rattle.declaration_causes.specs.Causes.{sameNumber}
 use Rattle.function_causes.specs.Functions.{isDefinition}
 
 -- A definition hands itself to its block, which is its field c; the block hands it to its first item, at a; an item hands it to the next.
@@ -28,6 +27,10 @@ someOfList zero property rows row = false
 someOfList (suc most) property rows row =
     let rest = someOfList most property rows (link rows row 5) in
     pick (eqb row 0) false (pick (property row) true rest)
+
+-- Two declarations have one number.
+unfoldable pub sameNumber : List ℤ → ℕ → ℕ → Bool
+sameNumber rows row declaration = eqb (numberAt rows declaration 1) (numberAt rows row 1)
 
 -- 19 at a declaration in a function's block with the number of a parameter: it is the later of the two in the order of c's items, also where
 -- its row is the lower.

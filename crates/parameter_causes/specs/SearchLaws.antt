@@ -45,7 +45,7 @@ module _ (rows : List ℤ) (t : Tree rows) (property : ℕ → Bool) where
       go (last z) rest = rw z (some-end most ∙ sym (some-end (suc most)))
       go (later leads) rest = let l = leads .later in rest (link rows row 5) (leads .inside) (omega arith)
 
-  some-step : (row : ℕ) → (row ≡ 0 → ⊥) → row < rowCount rows
+  pub some-step : (row : ℕ) → (row ≡ 0 → ⊥) → row < rowCount rows
       → someOfList (rowCount rows) property rows row ≡ pick (property row) true (someOfList (rowCount rows) property rows (link rows row 5))
   unfolding someOfList
   some-step row p n = go (rowCount rows) refl

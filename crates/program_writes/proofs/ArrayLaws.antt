@@ -11,19 +11,20 @@ use lib.IntN.{ℤ}
 use lib.ListN.{length, set, getD, length-set}
 use lib.Seq.{getD-set-same, getD-set-other}
 use Rattle.words.specs.Table.{rowCount}
-use Rattle.language.specs.Trees.{Expression, Place}
-use Rattle.language.specs.Decode.{placeOf, expressionAt}
-use Rattle.shapes.specs.Shapes.{placeTree, expressionTree, Onward, OptionalOnward, ExpressionOnward}
+use Rattle.language.specs.Trees.{Expression, Place, Arguments}
+use Rattle.language.specs.Decode.{placeOf, expressionAt, argumentListAt}
+use Rattle.shapes.specs.Shapes.{placeTree, expressionTree, Onward, OptionalOnward, ExpressionOnward, ArgumentAt}
 use Rattle.shapes.specs.Source.{Name, mostArrays, Source, PlaceAt, ExpressionAt}
 use Rattle.shapes.specs.declared.PlaceShape.the-variants.{Variable, Element}
 use Rattle.shapes.specs.declared.OperationShape.the-variants.{Minus, Not, Binary, Comma, Assign, Compound, Prefix, Postfix}
 use Rattle.shapes.specs.declared.ChoiceShape.the-variants.{And, Or, Conditional}
 use Rattle.shapes.specs.declared.ExpressionShape.{ExpressionShape}
 use Rattle.shapes.specs.declared.ExpressionShape.the-variants.{Number, Read, Operation, Choice, Call}
+use Rattle.shapes.specs.declared.ArgumentShape.the-variants.{Argument, NoArgument}
+use Rattle.row_writes.proofs.ArgumentLaws.{list-some}
 use Rattle.write_sets.specs.Sets.{memberArray}
 use Rattle.write_sets.specs.SetLaws.{array-none, array-join, array-alone}
-use Rattle.measure_table.specs.PlainRows.{no-call}
-use Rattle.program_writes.specs.ArrayWrites.{isElement, writesArray, indexWritesArray, placeWritesArray}
+use Rattle.program_writes.specs.ArrayWrites.{isElement, writesArray, indexWritesArray, argumentsWriteArray, placeWritesArray}
 use Rattle.program_writes.specs.Links.{linksOf}
 use Rattle.program_writes.specs.Arrays.{ArraysAre, linkWrites, storedArrays, arraysAt, linkedArrays, LinkHeld, LinksHeld, ArraysFrom}
 use Rattle.program_writes.specs.declared.Links.{Links}
@@ -75,10 +76,12 @@ pub record LinksOnward (rows : List ℤ) (row : ℕ) (links : Links) : Type 0 wh
   pub second : OptionalOnward rows row (links .second)
   pub third : OptionalOnward rows row (links .third)
   pub place : OptionalOnward rows row (links .place)
+  pub arguments : OptionalOnward rows row (links .arguments)
 
 -- what the links write, in the order of the code
 abbrev linksWrite : List ℤ → Links → ℕ → Bool
-linksWrite rows links n = storedArrays rows (links .place) n || (linkWrites rows (links .first) n || (linkWrites rows (links .second) n || linkWrites rows (links .third) n))
+linksWrite rows links n =
+    storedArrays rows (links .place) n || ((linkWrites rows (links .first) n || (linkWrites rows (links .second) n || linkWrites rows (links .third) n)) || argumentsWriteArray (argumentListAt rows (links .arguments)) n)
 
 module _ {rows : List ℤ} {row : ℕ} where
   absent : OptionalOnward rows row 0
@@ -88,21 +91,21 @@ module _ {rows : List ℤ} {row : ℕ} where
   here o h = o
 
   links-onward : (sh : ExpressionShape) → ExpressionOnward rows row (Name rows) mostArrays sh → LinksOnward rows row (linksOf sh)
-  links-onward (Number v) o = record { first = absent; second = absent; third = absent; place = absent }
-  links-onward (Read (Variable i)) o = record { first = absent; second = absent; third = absent; place = absent }
-  links-onward (Read (Element array index)) o = record { first = here (o .1); second = absent; third = absent; place = absent }
-  links-onward (Operation (Minus a)) o = record { first = here o; second = absent; third = absent; place = absent }
-  links-onward (Operation (Not a)) o = record { first = here o; second = absent; third = absent; place = absent }
-  links-onward (Operation (Binary operator a b)) o = record { first = here (o .0); second = here (o .1); third = absent; place = absent }
-  links-onward (Operation (Comma a b)) o = record { first = here (o .0); second = here (o .1); third = absent; place = absent }
-  links-onward (Operation (Assign p e)) o = record { first = here (o .1); second = absent; third = absent; place = here (o .0) }
-  links-onward (Operation (Compound operator p e)) o = record { first = here (o .1); second = absent; third = absent; place = here (o .0) }
-  links-onward (Operation (Prefix operator p)) o = record { first = absent; second = absent; third = absent; place = here o }
-  links-onward (Operation (Postfix operator p)) o = record { first = absent; second = absent; third = absent; place = here o }
-  links-onward (Choice (And a b)) o = record { first = here (o .0); second = here (o .1); third = absent; place = absent }
-  links-onward (Choice (Or a b)) o = record { first = here (o .0); second = here (o .1); third = absent; place = absent }
-  links-onward (Choice (Conditional c a b)) o = record { first = here (o .0); second = here (o .1); third = here (o .2); place = absent }
-  links-onward (Call f arguments) o = record { first = absent; second = absent; third = absent; place = absent }
+  links-onward (Number v) o = record { first = absent; second = absent; third = absent; place = absent; arguments = absent }
+  links-onward (Read (Variable i)) o = record { first = absent; second = absent; third = absent; place = absent; arguments = absent }
+  links-onward (Read (Element array index)) o = record { first = here (o .1); second = absent; third = absent; place = absent; arguments = absent }
+  links-onward (Operation (Minus a)) o = record { first = here o; second = absent; third = absent; place = absent; arguments = absent }
+  links-onward (Operation (Not a)) o = record { first = here o; second = absent; third = absent; place = absent; arguments = absent }
+  links-onward (Operation (Binary operator a b)) o = record { first = here (o .0); second = here (o .1); third = absent; place = absent; arguments = absent }
+  links-onward (Operation (Comma a b)) o = record { first = here (o .0); second = here (o .1); third = absent; place = absent; arguments = absent }
+  links-onward (Operation (Assign p e)) o = record { first = here (o .1); second = absent; third = absent; place = here (o .0); arguments = absent }
+  links-onward (Operation (Compound operator p e)) o = record { first = here (o .1); second = absent; third = absent; place = here (o .0); arguments = absent }
+  links-onward (Operation (Prefix operator p)) o = record { first = absent; second = absent; third = absent; place = here o; arguments = absent }
+  links-onward (Operation (Postfix operator p)) o = record { first = absent; second = absent; third = absent; place = here o; arguments = absent }
+  links-onward (Choice (And a b)) o = record { first = here (o .0); second = here (o .1); third = absent; place = absent; arguments = absent }
+  links-onward (Choice (Or a b)) o = record { first = here (o .0); second = here (o .1); third = absent; place = absent; arguments = absent }
+  links-onward (Choice (Conditional c a b)) o = record { first = here (o .0); second = here (o .1); third = here (o .2); place = absent; arguments = absent }
+  links-onward (Call f arguments) o = record { first = absent; second = absent; third = absent; place = absent; arguments = o }
 
   one : (n : ℕ) {a : ℕ} → Onward rows row a → (linkWrites rows a n || false) ≡ writesArray (expressionAt rows a) n
   one n {a} o = or-none _ ∙ link-some rows a n (omega (arith, o .later))
@@ -118,39 +121,24 @@ module _ {rows : List ℤ} {row : ℕ} where
   stepped : (n : ℕ) {p : ℕ} → Onward rows row p → (storedArrays rows p n || false) ≡ placeWritesArray (placeOf (expressionAt rows p)) n
   stepped n {p} o = or-none _ ∙ stored-is rows p n (omega (arith, o .later))
 
--- no form has calls yet
-abbrev NoCall : ExpressionShape → Type 0
-NoCall (Number v) = Unit {0}
-NoCall (Read p) = Unit {0}
-NoCall (Operation o) = Unit {0}
-NoCall (Choice c) = Unit {0}
-NoCall (Call f arguments) = ⊥
-
-not-called : {rows : List ℤ} {row : ℕ} (sh : ExpressionShape) → Source rows → row < rowCount rows → ExpressionAt rows row sh → NoCall sh
-not-called (Number v) s inside f = tt
-not-called (Read p) s inside f = tt
-not-called (Operation o) s inside f = tt
-not-called (Choice c) s inside f = tt
-not-called {row = row} (Call g arguments) s inside f = no-call s row inside (f .is)
-
-links-write : (rows : List ℤ) (row n : ℕ) (sh : ExpressionShape) → NoCall sh → ExpressionOnward rows row (Name rows) mostArrays sh → linksWrite rows (linksOf sh) n ≡ writesArray (expressionTree rows sh) n
-unfolding writesArray indexWritesArray
-links-write rows row n (Number v) c o = refl
-links-write rows row n (Read (Variable i)) c o = refl
-links-write rows row n (Read (Element array index)) c o = one n (o .1)
-links-write rows row n (Operation (Minus a)) c o = one n o
-links-write rows row n (Operation (Not a)) c o = one n o
-links-write rows row n (Operation (Binary operator a b)) c o = two n (o .0) (o .1)
-links-write rows row n (Operation (Comma a b)) c o = two n (o .0) (o .1)
-links-write rows row n (Operation (Assign p e)) c o = valued n (o .0) (o .1)
-links-write rows row n (Operation (Compound operator p e)) c o = valued n (o .0) (o .1)
-links-write rows row n (Operation (Prefix operator p)) c o = stepped n o
-links-write rows row n (Operation (Postfix operator p)) c o = stepped n o
-links-write rows row n (Choice (And a b)) c o = two n (o .0) (o .1)
-links-write rows row n (Choice (Or a b)) c o = two n (o .0) (o .1)
-links-write rows row n (Choice (Conditional test a b)) c o =
-    ap₂ _||_ (link-some rows test n (omega (arith, o .0 .later))) (ap₂ _||_ (link-some rows a n (omega (arith, o .1 .later))) (link-some rows b n (omega (arith, o .2 .later))))
-links-write rows row n (Call f arguments) c o = absurd c
+links-write : (rows : List ℤ) (row n : ℕ) (sh : ExpressionShape) → ExpressionOnward rows row (Name rows) mostArrays sh → linksWrite rows (linksOf sh) n ≡ writesArray (expressionTree rows sh) n
+unfolding writesArray indexWritesArray argumentsWriteArray
+links-write rows row n (Number v) o = refl
+links-write rows row n (Read (Variable i)) o = refl
+links-write rows row n (Read (Element array index)) o = or-none _ ∙ one n (o .1)
+links-write rows row n (Operation (Minus a)) o = or-none _ ∙ one n o
+links-write rows row n (Operation (Not a)) o = or-none _ ∙ one n o
+links-write rows row n (Operation (Binary operator a b)) o = or-none _ ∙ two n (o .0) (o .1)
+links-write rows row n (Operation (Comma a b)) o = or-none _ ∙ two n (o .0) (o .1)
+links-write rows row n (Operation (Assign p e)) o = ap (λ (b : Bool). storedArrays rows p n || b) (or-none (linkWrites rows e n || false)) ∙ valued n (o .0) (o .1)
+links-write rows row n (Operation (Compound operator p e)) o = ap (λ (b : Bool). storedArrays rows p n || b) (or-none (linkWrites rows e n || false)) ∙ valued n (o .0) (o .1)
+links-write rows row n (Operation (Prefix operator p)) o = stepped n o
+links-write rows row n (Operation (Postfix operator p)) o = stepped n o
+links-write rows row n (Choice (And a b)) o = or-none _ ∙ two n (o .0) (o .1)
+links-write rows row n (Choice (Or a b)) o = or-none _ ∙ two n (o .0) (o .1)
+links-write rows row n (Choice (Conditional test a b)) o =
+    or-none _ ∙ ap₂ _||_ (link-some rows test n (omega (arith, o .0 .later))) (ap₂ _||_ (link-some rows a n (omega (arith, o .1 .later))) (link-some rows b n (omega (arith, o .2 .later))))
+links-write rows row n (Call f arguments) o = refl
 
 -- the links that were found lead on
 pub found-onward : {rows : List ℤ} {row : ℕ} {sh : ExpressionShape} {links : Links} → ExpressionAt rows row sh → links ≡ linksOf sh → LinksOnward rows row links
@@ -166,7 +154,7 @@ module _ {rows : List ℤ} {arrays : List ℕ} {row : ℕ} (m : ArraysFrom rows 
   pub links-held : {links : Links} → LinksOnward rows row links → LinksHeld arrays links
   links-held o = record { first = link-held (o .first); second = link-held (o .second); third = link-held (o .third) }
 
-  linked-are : (link : ℕ) → OptionalOnward rows row link → ArraysAre (arraysAt arrays link) (linkWrites rows link)
+  pub linked-are : (link : ℕ) → OptionalOnward rows row link → ArraysAre (arraysAt arrays link) (linkWrites rows link)
   linked-are zero o = arrays-none
   linked-are (suc link) o = let x = o (omega arith) in m .row-arrays (suc link) (omega (arith, x .later)) (x .inside)
 
@@ -183,12 +171,12 @@ module _ {rows : List ℤ} {arrays : List ℕ} {row : ℕ} (m : ArraysFrom rows 
 
   -- ---- an expression
 
-  pub row-arrays-are : {sh : ExpressionShape} {links : Links} {own operands w : ℕ} → row < rowCount rows → ExpressionAt rows row sh → links ≡ linksOf sh → ArraysAre own (storedArrays rows (links .place)) → operands ≡ linkedArrays arrays links → w ≡ bitOr own operands → ArraysAre w (writesArray (expressionAt rows row))
-  row-arrays-are {sh} {links} {own} {operands} inside f el x eo e =
+  pub row-arrays-are : {sh : ExpressionShape} {links : Links} {own operands passed all w : ℕ} → ExpressionAt rows row sh → links ≡ linksOf sh → ArraysAre own (storedArrays rows (links .place)) → operands ≡ linkedArrays arrays links → ArraysAre passed (argumentsWriteArray (argumentListAt rows (links .arguments))) → all ≡ bitOr operands passed → w ≡ bitOr own all → ArraysAre w (writesArray (expressionAt rows row))
+  row-arrays-are {sh} {links} {own} {operands} {passed} {all} f el x eo y ea e =
       let on = found-onward f el in
-      arrays-as _ _ (arrays-join own operands _ _ x
-      (arrays-join _ _ _ _ (linked-are (links .first) (on .first)) (arrays-join _ _ _ _ (linked-are (links .second) (on .second)) (linked-are (links .third) (on .third)) refl) eo) e)
-      (λ n. ap (λ (l : Links). linksWrite rows l n) el ∙ links-write rows row n sh (not-called sh (m .source) inside f) (f .onward) ∙ sym (ap (λ (t : Expression). writesArray t n) (f .is)))
+      arrays-as _ _ (arrays-join own all _ _ x (arrays-join operands passed _ _
+      (arrays-join _ _ _ _ (linked-are (links .first) (on .first)) (arrays-join _ _ _ _ (linked-are (links .second) (on .second)) (linked-are (links .third) (on .third)) refl) eo) y ea) e)
+      (λ n. ap (λ (l : Links). linksWrite rows l n) el ∙ links-write rows row n sh (f .onward) ∙ sym (ap (λ (t : Expression). writesArray t n) (f .is)))
 
 pub variable-arrays : {rows : List ℤ} {row i : ℕ} → PlaceAt rows row (Variable i) → ArraysAre 0 (placeWritesArray (placeOf (expressionAt rows row)))
 unfolding indexWritesArray
@@ -210,3 +198,20 @@ one-row-more {rows} {arrays} {row} {w} inside x m = record {
     by : (r : ℕ) → row ≤ r → r < rowCount rows → Dec (r ≡ row) → ArraysAre (getD (set arrays row w) r 0) (writesArray (expressionAt rows r))
     by r h b (yes q) = subst (λ (r : ℕ). ArraysAre (getD (set arrays row w) r 0) (writesArray (expressionAt rows r))) (sym q) (subst (λ (v : ℕ). ArraysAre v (writesArray (expressionAt rows row))) (sym (getD-set-same arrays row w 0 (omega (arith, m .room)))) x)
     by r h b (no q) = subst (λ (v : ℕ). ArraysAre v (writesArray (expressionAt rows r))) (sym (getD-set-other arrays row r w 0 q)) (m .row-arrays r (let k = lt-of-le-ne h (λ e. q (sym e)) in omega arith) b)
+
+-- ---- arguments
+
+pub none-passed : (rows : List ℤ) (link : ℕ) → link ≡ 0 → ArraysAre 0 (argumentsWriteArray (argumentListAt rows link))
+unfolding argumentsWriteArray
+none-passed rows zero e = arrays-none
+none-passed rows (suc link) e = absurd (omega arith)
+
+pub ended-passed : (rows : List ℤ) (link : ℕ) {next : ℕ} → 0 < link → ArgumentAt rows link next NoArgument → ArraysAre 0 (argumentsWriteArray (argumentListAt rows link))
+unfolding argumentsWriteArray
+ended-passed rows link h f = subst (λ (a : Arguments). ArraysAre 0 (argumentsWriteArray a)) (sym (list-some rows link h ∙ f .is)) arrays-none
+
+pub argument-passed : {rows : List ℤ} {arrays : List ℕ} (link : ℕ) {next e a b w : ℕ} → ArraysFrom rows arrays (link + 1) → 0 < link → ArgumentAt rows link next (Argument e) → a ≡ arraysAt arrays e → ArraysAre b (argumentsWriteArray (argumentListAt rows next)) → w ≡ bitOr a b → ArraysAre w (argumentsWriteArray (argumentListAt rows link))
+unfolding argumentsWriteArray
+argument-passed {rows} {arrays} link {next} {e} {a} {b} {w} m h f ea y ew =
+    subst (λ (l : Arguments). ArraysAre w (argumentsWriteArray l)) (sym (list-some rows link h ∙ f .is))
+    (arrays-as _ _ (arrays-join a b (linkWrites rows e) _ (subst (λ (x : ℕ). ArraysAre x (linkWrites rows e)) (sym ea) (linked-are m e (λ p. f .onward))) y ew) (λ n. ap (λ (x : Bool). x || argumentsWriteArray (argumentListAt rows next) n) (link-some rows e n (omega (arith, f .onward .later)))))

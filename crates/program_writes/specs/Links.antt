@@ -1,4 +1,5 @@
--- Links: the links of an expression, by its shape: up to three expressions, and the place that it stores to. 0 is absent.
+-- Links: the links of an expression, by its shape: up to three expressions, the place that it stores to, and the first argument of a call. 0 is
+-- absent.
 use Prim.Native.Nat.{ℕ}
 use Rattle.shapes.specs.declared.PlaceShape.{PlaceShape}
 use Rattle.shapes.specs.declared.PlaceShape.the-variants.{Variable, Element}
@@ -11,7 +12,7 @@ use Rattle.shapes.specs.declared.ExpressionShape.the-variants.{Number, Read, Op
 use Rattle.program_writes.specs.declared.Links.{Links}
 
 abbrev pub linksTo : ℕ → ℕ → ℕ → ℕ → Links
-linksTo first second third place = record { first = first; second = second; third = third; place = place }
+linksTo first second third place = record { first = first; second = second; third = third; place = place; arguments = 0 }
 
 abbrev pub readLinks : PlaceShape → Links
 readLinks (Variable i) = linksTo 0 0 0 0
@@ -37,5 +38,4 @@ linksOf (Number v) = linksTo 0 0 0 0
 linksOf (Read p) = readLinks p
 linksOf (Operation o) = operationLinks o
 linksOf (Choice c) = choiceLinks c
--- no form has calls yet
-linksOf (Call f arguments) = linksTo 0 0 0 0
+linksOf (Call f arguments) = record { first = 0; second = 0; third = 0; place = 0; arguments = arguments }

@@ -1,7 +1,9 @@
 // The arrays of the rows: which arrays the expression at a row can write an element of, found by a pass over the rows from the last to
 // the first.
 use super::Links;
+use super::arguments::argument_arrays;
 use super::operands::links_of;
+use super::table::linked;
 use shapes::PlaceShape;
 use shapes::rows::expression_at;
 use shapes::rows::place_at;
@@ -14,18 +16,7 @@ ghost use Rattle.words.specs.Table.{rowCount};
 ghost use Rattle.language.specs.Decode.{placeOf, expressionAt};
 ghost use Rattle.shapes.specs.Source.{Source};
 ghost use Rattle.program_writes.specs.ArrayWrites.{writesArray, placeWritesArray};
-ghost use Rattle.program_writes.specs.Arrays.{ArraysAre, arraysAt, storedArrays, linkedArrays, LinkHeld, LinksHeld, ArraysFrom};
-
-// The arrays of the row that a link leads to; an absent link writes nothing.
-fn linked(arrays: &[u32], link: usize) -> u32
-    requires { ⌜ LinkHeld (now arrays) link ⌝ }
-    ensures { λ r. ⌜ r ≡ arraysAt (now (arrays .entry)) link ⌝ }
-{
-    if link == 0 {
-        return 0;
-    }
-    arrays[link]
-}
+ghost use Rattle.program_writes.specs.Arrays.{ArraysAre, storedArrays, linkedArrays, LinksHeld, ArraysFrom};
 
 // What an update of the place at a row writes.
 fn place_arrays(rows: &[i32], arrays: &[u32], row: usize) -> u32
@@ -69,7 +60,8 @@ fn arrays_of(rows: &[i32], arrays: &[u32], row: usize) -> u32
     let shape = expression_at(rows, row);
     let links = links_of(shape);
     let own = stored(rows, arrays, row, links.place);
-    join_arrays(own, operand_arrays(arrays, links))
+    let passed = argument_arrays(rows, arrays, links.arguments);
+    join_arrays(own, join_arrays(operand_arrays(arrays, links), passed))
 }
 
 // Fills the table of arrays, a word a row.

@@ -15,6 +15,7 @@ fn links(first: usize, second: usize, third: usize, place: usize) -> Links
         second,
         third,
         place,
+        arguments: 0,
     }
 }
 
@@ -60,7 +61,12 @@ pub fn links_of(shape: ExpressionShape) -> Links
         ExpressionShape::Read(place) => read_links(place),
         ExpressionShape::Operation(operation) => operation_links(operation),
         ExpressionShape::Choice(choice) => choice_links(choice),
-        // no form has calls yet
-        ExpressionShape::Call(_, _) => links(0, 0, 0, 0),
+        ExpressionShape::Call(_, first) => Links {
+            first: 0,
+            second: 0,
+            third: 0,
+            place: 0,
+            arguments: first,
+        },
     }
 }

@@ -1,6 +1,8 @@
 // What any row of a program can write: the sets of its rows joined, and the words of its declarations. The declared words begin at `store`.
 use super::Writes;
 use super::arrays::fill_arrays;
+use function_writes::functions::fill_functions;
+use row_writes::table::set_of;
 use row_writes::writes::fill_sets;
 use words::declarations::is_declaration;
 use words::table::number_at;
@@ -9,29 +11,12 @@ use write_sets::arrays::join_arrays;
 use write_sets::join;
 use write_sets::nothing;
 use write_sets::single;
-ghost use mathlib.Core.Path.{_≡_};
-ghost use Prim.Native.Nat.{_+_, _*_, _≤_, _<_};
-ghost use lib.ListN.{length};
+ghost use Prim.Native.Nat.{_<_};
 ghost use Rattle.words.specs.Table.{rowCount};
 ghost use Rattle.shapes.specs.Source.{NamesFrom, Source};
-ghost use Rattle.row_writes.specs.WriteSets.{SetIs, Sets, setWidth, setOf};
+ghost use Rattle.row_writes.specs.WriteSets.{SetIs, Sets};
 ghost use Rattle.program_writes.specs.Arrays.{ArraysAre, ArraysFrom};
 ghost use Rattle.program_writes.specs.ProgramWrites.{declares, programWrites, programWritesArray, WritesAre};
-
-// The set of a row.
-fn row_set(sets: &[u64], row: usize) -> WriteSet
-    requires { ⌜ setWidth * row + setWidth ≤ length (now sets) ⌝ }
-    ensures { λ r. ⌜ r ≡ setOf (now (sets .entry)) row ⌝ }
-{
-    let at = 5 * row;
-    WriteSet {
-        word0: sets[at],
-        word1: sets[at + 1],
-        word2: sets[at + 2],
-        word3: sets[at + 3],
-        word4: sets[at + 4],
-    }
-}
 
 // The word of a row that is a declaration.
 fn declared_set(store: usize, rows: &[i32], row: usize) -> WriteSet
@@ -51,7 +36,7 @@ fn any_variables(store: usize, rows: &[i32], sets: &[u64]) -> WriteSet
     let mut any = nothing();
     let mut row: usize = 0;
     while row < rows.len() / 6 {
-        let written = join(row_set(sets, row), declared_set(store, rows, row));
+        let written = join(set_of(sets, row), declared_set(store, rows, row));
         any = join(any, written);
         row += 1;
     }
@@ -76,6 +61,7 @@ fn variables_written(store: usize, rows: &[i32]) -> WriteSet
     ensures { λ r. ⌜ SetIs store r (programWrites (now (rows .entry))) ⌝ }
 {
     let mut sets = [0u64; 10240];
+    fill_functions(store, rows, &mut sets);
     fill_sets(store, rows, &mut sets);
     any_variables(store, rows, &sets)
 }

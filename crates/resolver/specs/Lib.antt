@@ -1,12 +1,12 @@
 -- The resolved table in code. A line of comment for each file.
 
 -- ---- definitions
--- Passes: what the two passes over a table leave.
+-- Passes: what the passes over a table leave.
 pub mod Passes
 -- ---- laws
--- Laws of the passes: what each has written after so many words or rows, and what the tables hold when both are done.
+-- Laws of the passes: what each has written after so many words or rows, and what the tables hold when all are done.
 pub mod ScanLaws
--- Laws of the search outward: one declaration at a time.
+-- Laws of the searches outward and along parameters: one declaration at a time.
 pub mod MeantLaws
 -- Laws of the resolved words, a case each; and a table filled word by word.
 pub mod WordLaws

@@ -1,4 +1,4 @@
--- Laws of the search outward: one declaration at a time.
+-- Laws of the searches outward and along parameters: one declaration at a time; and of the two together.
 use mathlib.Core.Path.{_≡_, refl}
 use mathlib.Core.Bool.{Bool, true, false, _||_}
 use mathlib.Core.List.{List}
@@ -9,7 +9,10 @@ use lib.IntN.{ℤ}
 use borrow.Author.Tests.{eq-eqb, ne-eqb}
 use Rattle.words.specs.Word.{pick}
 use Rattle.words.specs.Table.{numberAt}
-use Rattle.names.specs.Names.{scopeAt, meantFrom}
+use Rattle.words.specs.Links.{link}
+use Rattle.words.specs.Declarations.{isDeclaration}
+use Rattle.function_causes.specs.Functions.{functionAround}
+use Rattle.names.specs.Names.{scopeAt, meantFrom, parameterFrom, parameterAt, meantAt}
 
 module _ (rows : List ℤ) where
   -- none is left around
@@ -32,3 +35,36 @@ module _ (rows : List ℤ) where
   unfolding meantFrom
   meant-outward zero declaration number p d n = absurd (omega arith)
   meant-outward (suc outward) declaration number p d n = let z : suc outward - 1 ≡ outward = omega arith in rw (ne-eqb _ _ d, ne-eqb _ _ n, z)
+
+  -- ---- parameters
+
+  -- the list has ended
+  pub named-nothing : (most parameter number : ℕ) → isDeclaration rows parameter ≡ false → parameterFrom most rows parameter number ≡ 0
+  unfolding parameterFrom
+  named-nothing zero parameter number d = refl
+  named-nothing (suc most) parameter number d = rw d
+
+  pub named-here : (most parameter number : ℕ) → 0 < most → isDeclaration rows parameter ≡ true → numberAt rows parameter 1 ≡ number → parameterFrom most rows parameter number ≡ parameter
+  unfolding parameterFrom
+  named-here zero parameter number p d e = absurd (omega arith)
+  named-here (suc most) parameter number p d e = rw (d, eq-eqb _ _ e)
+
+  pub named-along : (most parameter number : ℕ) → 0 < most → isDeclaration rows parameter ≡ true → (numberAt rows parameter 1 ≡ number → ⊥)
+      → parameterFrom most rows parameter number ≡ parameterFrom (most - 1) rows (link rows parameter 5) number
+  unfolding parameterFrom
+  named-along zero parameter number p d n = absurd (omega arith)
+  named-along (suc most) parameter number p d n = let z : suc most - 1 ≡ most = omega arith in rw (d, ne-eqb _ _ n, z)
+
+  pub named-inside : (definition number : ℕ) → (definition ≡ 0 → ⊥) → parameterAt rows definition number ≡ parameterFrom 64 rows (link rows definition 2) number
+  unfolding parameterAt
+  named-inside definition number d = rw (ne-eqb _ _ d)
+
+  -- ---- both
+
+  pub meant-around : (row number declaration : ℕ) → declaration ≡ meantFrom 64 rows (scopeAt rows row) number → (declaration ≡ 0 → ⊥) → meantAt rows row number ≡ declaration
+  unfolding meantAt
+  meant-around row number declaration e some = rw (← e, ne-eqb _ _ some)
+
+  pub meant-parameter : (row number declaration : ℕ) → declaration ≡ meantFrom 64 rows (scopeAt rows row) number → declaration ≡ 0 → meantAt rows row number ≡ parameterAt rows (functionAround rows row) number
+  unfolding meantAt
+  meant-parameter row number declaration e none = rw (← e, eq-eqb _ _ none)

@@ -1,4 +1,4 @@
--- Laws of the passes: what each has written after so many words or rows, and what the tables hold when both are done.
+-- Laws of the passes: what each has written after so many words or rows, and what the tables hold when all are done.
 use mathlib.Core.Path.{_≡_, refl, _∙_}
 use mathlib.Core.List.{List}
 use Prim.Native.Nat.{ℕ, _+_, _≤_, _<_}
@@ -12,9 +12,12 @@ use lib.Seq.{getD-set-same, getD-set-other}
 use Rattle.words.specs.Word.{one}
 use Rattle.words.specs.Table.{rowCount}
 use Rattle.structure.specs.Structured.{Tree}
-use Rattle.structure.specs.Passes.{written, Notes}
-use Rattle.structure.specs.NoteLaws.{Noted, noted-start}
-use Rattle.structure.specs.WrittenLaws.{written-length, written-noted, notes-written}
+use Rattle.structure.specs.Passes.{Notes}
+use Rattle.row_notes.specs.RowNotes.{handed, noteAt}
+use Rattle.row_notes.specs.RowNoteLaws.{same-notes}
+use Rattle.row_notes.specs.declared.Note.the-variants.{Behind}
+use Rattle.function_causes.specs.Functions.{functionAround}
+use Rattle.function_causes.specs.AroundLaws.{around-most}
 use Rattle.names.specs.Names.{inScope, scopeAt}
 use Rattle.names.specs.ScopeLaws.{scope-before}
 use Rattle.words.specs.StoreLaws.{before-few}
@@ -23,25 +26,12 @@ use Rattle.resolver.specs.Passes.{Scanned}
 
 -- ---- scopes
 
--- The scopes after so many words; the array keeps its length.
-pub record Scoping (rows : List ℤ) (start : List ℕ) (words : ℕ) (scopes : List ℕ) : Type 0 where
-  pub same : length scopes ≡ length start
-  pub noted : (t : Tree rows) → Noted (inScope rows) 0 rows t words scopes
+scope-note : (rows : List ℤ) (row : ℕ) → noteAt (Behind 58) rows row ≡ scopeAt rows row
+unfolding noteAt handed scopeAt inScope isDeclaration
+scope-note rows row = refl
 
-module _ {rows : List ℤ} {start : List ℕ} where
-  pub scoping-begun : rowCount rows ≤ length start → getD start 0 0 ≡ 0 → Scoping rows start 0 start
-  scoping-begun room root = record { same = refl; noted = λ t. noted-start _ _ _ t _ room root }
-
-  pub scoping-on : {words : ℕ} {scopes next : List ℕ} → words < length rows → Scoping rows start words scopes → next ≡ written (inScope rows) rows words scopes → Scoping rows start (words + 1) next
-  scoping-on {words} {scopes} h s e =
-      record {
-        same = rw e (written-length _ _ _ _ ∙ s .same);
-        noted = λ t. rw e (written-noted _ _ _ _ _ t (let whole = t .whole in omega arith) (s .noted t));
-      }
-
-  pub scoping-ended : {words : ℕ} {scopes : List ℕ} → Tree rows → length rows ≤ words → Scoping rows start words scopes → Notes rows (scopeAt rows) scopes
-  unfolding scopeAt
-  scoping-ended t h s = notes-written _ _ _ t _ _ (let whole = t .whole in omega arith) (s .noted t)
+pub scope-notes : {rows : List ℤ} {notes : List ℕ} → Notes rows (noteAt (Behind 58) rows) notes → Notes rows (scopeAt rows) notes
+scope-notes {rows} n = same-notes (scope-note rows) n
 
 -- ---- counts
 
@@ -66,9 +56,9 @@ counting-on {rows} {row} {count} {next} {counts} c room e =
 pub counting-ended : {rows : List ℤ} {row count : ℕ} {counts : List ℕ} → Counting rows row counts count → rowCount rows ≤ row → rowCount rows ≤ length counts → Notes rows (declarationsBefore rows) counts
 counting-ended c h room = record { room = room; is = λ row n. c .before row (omega arith) }
 
--- ---- both
+-- ---- all
 
-module _ {rows : List ℤ} {scopes counts : List ℕ} (s : Scanned rows scopes counts) (row : ℕ) (n : row < rowCount rows) where
+module _ {rows : List ℤ} {scopes around counts : List ℕ} (s : Scanned rows scopes around counts) (row : ℕ) (n : row < rowCount rows) where
   pub scope-room : row < length scopes
   scope-room = let room = s .scoped .room in omega arith
 
@@ -78,6 +68,16 @@ module _ {rows : List ℤ} {scopes counts : List ℕ} (s : Scanned rows scopes c
   -- a row's scope is a row
   pub scope-inside : getD scopes row 0 < rowCount rows
   scope-inside = omega (arith, scope-is, scope-before rows (s .tree) row n, n)
+
+  pub around-room : row < length around
+  around-room = let room = s .standing .room in omega arith
+
+  pub around-is : getD around row 0 ≡ functionAround rows row
+  around-is = s .standing .is row n
+
+  -- a definition stands at a row
+  pub around-inside : getD around row 0 < rowCount rows
+  around-inside = omega (arith, around-is, around-most rows (s .tree) row n, n)
 
   pub count-room : row < length counts
   count-room = let room = s .counted .room in omega arith

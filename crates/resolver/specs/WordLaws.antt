@@ -46,7 +46,7 @@ module _ (S : ℕ) (rows : List ℤ) (row : ℕ) where
   word-kept field n = rw (ne-eqb field 1 n)
 
   -- the word of a declaration, by its count
-  pub declared-word : {scopes counts : List ℕ} → Scanned rows scopes counts → row < rowCount rows → pos (S + getD counts row 0) ≡ pos (wordOf S rows row)
+  pub declared-word : {scopes around counts : List ℕ} → Scanned rows scopes around counts → row < rowCount rows → pos (S + getD counts row 0) ≡ pos (wordOf S rows row)
   unfolding wordOf
   declared-word s n = ap (λ (k : ℕ). pos (S + k)) (count-is s row n)
 

@@ -1,5 +1,6 @@
 // The causes that lie in one field of a row: 3, 4 and 6. Each test is true where the field breaks the cause.
 use super::Bounds;
+use super::NumberRange;
 use grammar::ABSENT;
 use grammar::ARGUMENT;
 use grammar::ARM;
@@ -14,6 +15,7 @@ use grammar::OPERAND;
 use grammar::OPTIONAL;
 use grammar::PARAMETER;
 use grammar::PLACE;
+use grammar::STATEMENT;
 use grammar::VARIABLE;
 use grammar::in_language;
 use grammar::is_argument;
@@ -27,6 +29,7 @@ use grammar::is_statement;
 use grammar::sort_at;
 use words::Form;
 use words::declarations::is_declaration;
+use words::layout::declared;
 use words::layout::header_store;
 use words::layout::leading;
 use words::layout::store_size;
@@ -42,7 +45,9 @@ ghost use Rattle.words.specs.Layout.{headerFits};
 ghost use Rattle.words.specs.Kinds.{bodyBlock};
 ghost use Rattle.grammar.specs.Grammar.{grammar};
 ghost use Rattle.words.specs.Links.{isStatement, isBlock, fitsPart, fits as fitsOf};
-ghost use Rattle.row_fields.specs.Fields.{foreign, leadsRight, mislinked, boundsOf, variableFits, numberFits, outside};
+ghost use Rattle.row_roles.specs.Roles.{parameterSort, roleSort};
+ghost use Rattle.row_roles.specs.Passes.{Parameters};
+ghost use Rattle.row_fields.specs.Fields.{foreign, leadsRight, mislinked, declaredRange, boundsOf, variableFits, declaredFits, numberFits, outside};
 
 // Cause 3.
 pub fn is_foreign(kinds: &KindTable, form: Form, rows: &[i32], row: usize, field: usize) -> bool
@@ -126,12 +131,39 @@ fn leads_right(kinds: &KindTable, rows: &[i32], row: usize, sort: u8, link: usiz
     false
 }
 
+// What the fields of a parameter hold.
+const PARAMETER_FIELDS: [u8; 6] = [STATEMENT, DECLARED, ABSENT, NONE, NONE, PARAMETER];
+
+fn parameter_sort(field: usize) -> u8
+    requires { ⌜ field < 6 ⌝ }
+    ensures { λ r. ⌜ r ≡ parameterSort field ⌝ }
+{
+    PARAMETER_FIELDS[field]
+}
+
+// What a field of a row holds, by the row's role. `parameters` marks the parameters.
+fn role_sort(kinds: &KindTable, rows: &[i32], parameters: &[u8], row: usize, field: usize) -> u8
+    requires { ⌜ (6 * row + 5 < length (now rows)) × (field < 6) × Parameters (now rows) (now parameters) × (now kinds ≡ grammar) ⌝ }
+    ensures { λ r. ⌜ r ≡ roleSort (now (rows .entry)) row field ⌝ }
+{
+    if parameters[row] == 1 {
+        return parameter_sort(field);
+    }
+    sort_at(kinds, rows, row, field)
+}
+
 // Cause 4.
-pub fn is_mislinked(kinds: &KindTable, rows: &[i32], row: usize, field: usize) -> bool
-    requires { ⌜ (6 * row + 5 < length (now rows)) × (field < 6) × (now kinds ≡ grammar) ⌝ }
+pub fn is_mislinked(
+    kinds: &KindTable,
+    rows: &[i32],
+    parameters: &[u8],
+    row: usize,
+    field: usize,
+) -> bool
+    requires { ⌜ (6 * row + 5 < length (now rows)) × (field < 6) × Parameters (now rows) (now parameters) × (now kinds ≡ grammar) ⌝ }
     ensures { λ r. ⌜ r ≡ mislinked (now (rows .entry)) row field ⌝ }
 {
-    let sort = sort_at(kinds, rows, row, field);
+    let sort = role_sort(kinds, rows, parameters, row, field);
     if is_link(sort) {
         let link = number_at(rows, row, field);
         if link == 0 {
@@ -140,6 +172,27 @@ pub fn is_mislinked(kinds: &KindTable, rows: &[i32], row: usize, field: usize) -
         return !leads_right(kinds, rows, row, sort, link);
     }
     false
+}
+
+// The numbers that a header gives to declarations and parameters.
+fn declared_range(form: Form, header: &[i32]) -> NumberRange
+    requires { ⌜ headerFits form (now header) ≡ true ⌝ }
+    ensures { λ r. ⌜ r ≡ declaredRange form (now (header .entry)) ⌝ }
+{
+    match form {
+        Form::Source => NumberRange {
+            first: 0,
+            past: natural(header[0]),
+        },
+        Form::Kernel => {
+            let store = store_size(form, header);
+            let past = store + declared(form, header);
+            NumberRange {
+                first: store,
+                past: past,
+            }
+        }
+    }
 }
 
 // The numbers that a header gives.
@@ -151,11 +204,13 @@ pub fn bounds_of(form: Form, header: &[i32]) -> Bounds
     let arrays = header.len() - leading(form);
     let store = store_size(form, header);
     let words = header_store(form, header);
+    let declared = declared_range(form, header);
     Bounds {
         variables: variables,
         arrays: arrays,
         store: store,
         words: words,
+        declared: declared,
     }
 }
 
@@ -171,6 +226,16 @@ fn variable_fits(bounds: Bounds, number: usize) -> bool
     false
 }
 
+fn declared_fits(bounds: Bounds, number: usize) -> bool
+    ensures { λ r. ⌜ r ≡ declaredFits bounds number ⌝ }
+{
+    let declared = bounds.declared;
+    if declared.first <= number {
+        return number < declared.past;
+    }
+    false
+}
+
 pub fn number_fits(bounds: Bounds, sort: u8, number: usize) -> bool
     ensures { λ r. ⌜ r ≡ numberFits bounds sort number ⌝ }
 {
@@ -178,7 +243,7 @@ pub fn number_fits(bounds: Bounds, sort: u8, number: usize) -> bool
         return variable_fits(bounds, number);
     }
     if sort == DECLARED {
-        return variable_fits(bounds, number);
+        return declared_fits(bounds, number);
     }
     if sort == ARRAY {
         return number < bounds.arrays;

@@ -5,12 +5,15 @@ use grammar::link;
 use list_items::hand_earlier;
 use list_items::hand_item;
 use structure::row_number::narrow;
+use structure::row_number::wide;
 use words::table::number_at;
 ghost use mathlib.Core.Path.{_≡_};
+ghost use mathlib.Core.Bool.{_&&_};
 ghost use Prim.Native.Nat.{_+_, _*_, _/_, _<_, _≤_};
 ghost use lib.Dec.{eqb};
 ghost use lib.ListN.{length, getD};
 ghost use Rattle.words.specs.Word.{pick};
+ghost use Rattle.words.specs.Table.{numberAt};
 ghost use Rattle.words.specs.Links.{target};
 ghost use Rattle.grammar.specs.Grammar.{grammar};
 ghost use Rattle.structure.specs.Structured.{Tree};
@@ -27,6 +30,10 @@ pub enum Note {
     ItemOf(usize, usize),
     // the nearest row of the kinds from the first to the last before the row in its own list, or 0
     Before(usize, usize),
+    // the nearest row of this kind that the row stands behind, in its own list or in one around it, or 0
+    Behind(usize),
+    // the row of this kind whose field c is the row, or the block in whose own list the row stands, or 0
+    BodyOf(usize),
 }
 
 // Inside a row: as its part, or where the row stands inside already. `mark` is the note of what stands inside.
@@ -40,6 +47,62 @@ fn inside(around: bool, mark: u16, field: usize, own: u16) -> u16
         return mark;
     }
     own
+}
+
+// Behind a row: its next item. `passed` says whether the owner is of the kind.
+fn behind(passed: bool, owner: usize, field: usize, own: u16) -> u16
+    requires { ⌜ owner < 65536 ⌝ }
+    ensures { λ r. ⌜ r ≡ pick (eqb field 5 && passed) owner own ⌝ }
+{
+    if field == 5 {
+        if passed {
+            return narrow(owner);
+        }
+        return own;
+    }
+    own
+}
+
+// From a block to its first item where the block is a body, from an item to the next.
+fn body_item(block: bool, field: usize, own: u16) -> u16
+    ensures { λ r. ⌜ r ≡ pick block (pick (eqb field 1) own 0) (pick (eqb field 5) own 0) ⌝ }
+{
+    if block {
+        if field == 1 {
+            return own;
+        }
+        return 0;
+    }
+    if field == 5 {
+        return own;
+    }
+    0
+}
+
+// Field c of a row; 0 beyond the table.
+fn third(rows: &[i32], row: usize) -> usize
+    requires { ⌜ row < 65536 ⌝ }
+    ensures { λ r. ⌜ r ≡ numberAt (now (rows .entry)) row 3 ⌝ }
+{
+    if 6 * row + 3 < rows.len() {
+        return number_at(rows, row, 3);
+    }
+    0
+}
+
+// The owner of a body; `owning` says whether it is of the kind.
+fn body(owning: bool, rows: &[i32], owner: usize, field: usize, own: u16) -> u16
+    requires { ⌜ owner < 65536 ⌝ }
+    ensures { λ r. ⌜ r ≡ pick (owning && eqb field 3) owner (pick (eqb (numberAt (now (rows .entry)) own 3) owner) (pick (eqb field 1) own 0) (pick (eqb field 5) own 0)) ⌝ }
+{
+    let item = body_item(third(rows, wide(own)) == owner, field, own);
+    if owning {
+        if field == 3 {
+            return narrow(owner);
+        }
+        return item;
+    }
+    item
 }
 
 // What a row hands to the row that its field links.
@@ -62,6 +125,8 @@ fn hand(which: Note, rows: &[i32], owner: usize, field: usize, own: u16) -> u16
             field,
             own,
         ),
+        Note::Behind(kind) => behind(number_at(rows, owner, 0) == kind, owner, field, own),
+        Note::BodyOf(kind) => body(number_at(rows, owner, 0) == kind, rows, owner, field, own),
     }
 }
 

@@ -15,15 +15,7 @@ use Rattle.write_sets.specs.Sets.{nothing, join}
 use Rattle.write_sets.specs.declared.WriteSet.{WriteSet}
 use Rattle.measure_table.specs.Parts.{calledIn}
 use Rattle.row_writes.specs.WriteSets.{SetIs, setAt, SetsFrom, firstWrites, behindFirst, NextArgument}
-use Rattle.row_writes.proofs.WriteLaws.{set-nothing, set-join, set-as, link-set}
-
-or-assoc : (a b c : Bool) → ((a || b) || c) ≡ (a || (b || c))
-or-assoc true b c = refl
-or-assoc false b c = refl
-
-or-none : (a : Bool) → (a || false) ≡ a
-or-none true = refl
-or-none false = refl
+use Rattle.row_writes.proofs.WriteLaws.{or-assoc, or-none, set-nothing, set-join, set-as, link-set}
 
 -- ---- one argument
 
@@ -47,7 +39,7 @@ unfolding argumentsWrite
 by-first called noMore i = refl
 by-first called (e also arguments) i = refl
 
-list-some : (rows : List ℤ) (link : ℕ) → 0 < link → argumentListAt rows link ≡ argumentsAt rows link
+pub list-some : (rows : List ℤ) (link : ℕ) → 0 < link → argumentListAt rows link ≡ argumentsAt rows link
 list-some rows zero h = absurd (omega arith)
 list-some rows (suc link) h = refl
 

@@ -1,4 +1,4 @@
--- The sets of the rows, clause by clause of `writes`; a row's set put into the table; and which values are copied by them.
+-- Sets and the words that they hold; a row's set or a function's put into the table; and which values are copied by them.
 use mathlib.Core.Path.{_≡_, refl, sym, ap, ap₂, subst, _∙_}
 use mathlib.Core.Bool.{Bool, true, false, _&&_, _||_, and-false}
 use mathlib.Core.List.{List, [], _∷_, _++_}
@@ -7,7 +7,7 @@ use native.Mathlib.Nat.{suc-add}
 use native.Mathlib.Decide.{ℕ-discrete}
 use native.Mathlib.Omega.{arith}
 use lib.Arith.{lt-of-le-ne}
-use borrow.Author.Tests.{ltb-true, ltb-false}
+use borrow.Author.Tests.{ltb-true, ltb-false, lt-ltb, le-ltb}
 use lib.Dec.{eqb, ltb}
 use lib.IntN.{ℤ}
 use lib.ListN.{length, take, drop, set, getD}
@@ -16,8 +16,10 @@ use Rattle.words.specs.Laws.{by-cases}
 use Rattle.words.specs.Table.{rowCount}
 use Rattle.words.specs.declared.Operator.{Operator}
 use Rattle.language.specs.Trees.{Expression, Place, variable, element, Part, absent, present}
-use Rattle.language.specs.Writes.{isVariable, writes, indexWrites, argumentsWrite}
-use Rattle.language.specs.Decode.{placeOf, expressionAt, partAt, argumentListAt}
+use Rattle.language.specs.Writes.{writes, indexWrites}
+use Rattle.language.specs.Functions.{functionCount}
+use Rattle.language.specs.Program.{contents}
+use Rattle.language.specs.Decode.{placeOf, expressionAt, partAt}
 use Rattle.language.specs.DecodeLaws.{part-some}
 use Rattle.translation.specs.Translate.{Atom, number, word, top, atomOf}
 use Rattle.translation.specs.TranslateSize.{copied}
@@ -34,17 +36,16 @@ use Rattle.write_sets.specs.Sets.{member, variableBit, declaredBit, nothing, jo
 use Rattle.write_sets.specs.SetLaws.{member-variable, member-declared, variable-join, declared-join, variable-nothing, declared-nothing, variable-single, declared-single}
 use Rattle.write_sets.specs.declared.WriteSet.{WriteSet}
 use Rattle.measure_table.specs.Parts.{calledIn, indexOf, firstCopied, Operand}
-use Rattle.measure_table.specs.PlainRows.{none-called}
-use Rattle.row_writes.specs.WriteSets.{SetIs, placeWrites, partWrites, setWidth, setOf, setAt, SetHeld, setWords, SetsFrom, Sets}
-use Rattle.measure_table.proofs.RowWords.{stored-length, own-words, other-words}
+use Rattle.row_writes.specs.WriteSets.{SetIs, partWrites, setWidth, setOf, setAt, functionSet, SetHeld, setWords, FunctionSets, SetsFrom, Sets}
+use Rattle.measure_table.proofs.RowWords.{stored-length, own-words, other-words, earlier-words}
 
 -- ---- sets
 
-or-assoc : (a b c : Bool) → ((a || b) || c) ≡ (a || (b || c))
+pub or-assoc : (a b c : Bool) → ((a || b) || c) ≡ (a || (b || c))
 or-assoc true b c = refl
 or-assoc false b c = refl
 
-or-none : (a : Bool) → (a || false) ≡ a
+pub or-none : (a : Bool) → (a || false) ≡ a
 or-none true = refl
 or-none false = refl
 
@@ -89,104 +90,28 @@ pub set-some : (sets : List ℕ) (link : ℕ) → 0 < link → setAt sets link �
 set-some sets zero h = absurd (omega arith)
 set-some sets (suc link) h = refl
 
+-- the set of a function, where it is known and where not
+pub function-known : (sets : List ℕ) (known f : ℕ) {s : WriteSet} → f < known → s ≡ setOf sets f → s ≡ functionSet sets known f
+function-known sets known f h e = e ∙ sym (ap (λ (b : Bool). pick b (setOf sets f) nothing) (lt-ltb f known h))
+
+pub function-unknown : (sets : List ℕ) (known f : ℕ) {s : WriteSet} → known ≤ f → s ≡ nothing → s ≡ functionSet sets known f
+function-unknown sets known f h e = e ∙ sym (ap (λ (b : Bool). pick b (setOf sets f) nothing) (le-ltb f known h))
+
 pub sets-less : {S : ℕ} {rows : List ℤ} {sets : List ℕ} {k : ℕ} (j : ℕ) → SetsFrom S rows sets k → k ≤ j → SetsFrom S rows sets j
 sets-less j m h = record { source = m .source; names = m .names; room = m .room; row-set = λ row l. m .row-set row (omega arith) }
 
 module _ {S : ℕ} {rows : List ℤ} {sets : List ℕ} {row : ℕ} (m : SetsFrom S rows sets (row + 1)) where
-  pub link-held : {link : ℕ} → Onward rows row link → SetHeld sets link
-  link-held o h = omega (arith, m .room, o .inside)
+  pub link-held : {link : ℕ} → OptionalOnward rows row link → SetHeld sets link
+  link-held o h = omega (arith, m .room, o h .inside)
 
   pub link-set : {link : ℕ} {s : WriteSet} → Onward rows row link → s ≡ setAt sets link → SetIs S s (writes (calledIn rows) (expressionAt rows link))
   link-set {link} {s} o e =
       subst (λ (z : WriteSet). SetIs S z (writes (calledIn rows) (expressionAt rows link))) (sym (e ∙ set-some sets link (omega (arith, o .later)))) (m .row-set link (omega (arith, o .later)) (o .inside))
 
-  -- ---- places
-
-  pub variable-writes : {i : ℕ} {s : WriteSet} → PlaceAt rows row (Variable i) → s ≡ single S i → SetIs S s (placeWrites (calledIn rows) (placeOf (expressionAt rows row)))
-  unfolding indexWrites
-  variable-writes {i} f e = rw (f .is) (set-as (λ j. eqb i j) _ (set-single i (f .onward .named S (m .names)) e) (λ j. sym (or-none (eqb i j))))
-
-  pub element-writes : {array index : ℕ} {s : WriteSet} → PlaceAt rows row (Element array index) → s ≡ setAt sets index → SetIs S s (placeWrites (calledIn rows) (placeOf (expressionAt rows row)))
-  unfolding indexWrites
-  element-writes {array} {index} f e = rw (f .is) (set-as (writes (calledIn rows) (expressionAt rows index)) _ (link-set (f .onward .1) e) (λ j. refl))
-
-  -- ---- expressions, a clause of `writes` each
-
-  shaped : {sh : ExpressionShape} {s : WriteSet} → ExpressionAt rows row sh → SetIs S s (writes (calledIn rows) (expressionTree rows sh)) → SetIs S s (writes (calledIn rows) (expressionAt rows row))
-  shaped {sh} {s} f x = subst (λ (e : Expression). SetIs S s (writes (calledIn rows) e)) (sym (f .is)) x
-
-  pub number-set : {v : ℤ} {s : WriteSet} → ExpressionAt rows row (Number v) → s ≡ nothing → SetIs S s (writes (calledIn rows) (expressionAt rows row))
-  unfolding writes
-  number-set f e = shaped f (set-as (λ i. false) _ (set-nothing e) (λ i. refl))
-
-  pub variable-set : {j : ℕ} {s : WriteSet} → ExpressionAt rows row (Read (Variable j)) → s ≡ nothing → SetIs S s (writes (calledIn rows) (expressionAt rows row))
-  unfolding writes indexWrites
-  variable-set f e = shaped f (set-as (λ i. false) _ (set-nothing e) (λ i. refl))
-
-  pub element-set : {array index : ℕ} {s : WriteSet} → ExpressionAt rows row (Read (Element array index)) → s ≡ setAt sets index → SetIs S s (writes (calledIn rows) (expressionAt rows row))
-  unfolding writes indexWrites
-  element-set {array} {index} f e = shaped f (set-as (writes (calledIn rows) (expressionAt rows index)) _ (link-set (f .onward .1) e) (λ i. refl))
-
-  pub minus-set : {a : ℕ} {s : WriteSet} → ExpressionAt rows row (Operation (Minus a)) → s ≡ setAt sets a → SetIs S s (writes (calledIn rows) (expressionAt rows row))
-  unfolding writes
-  minus-set {a} f e = shaped f (set-as (writes (calledIn rows) (expressionAt rows a)) _ (link-set (f .onward) e) (λ i. refl))
-
-  pub not-set : {a : ℕ} {s : WriteSet} → ExpressionAt rows row (Operation (Not a)) → s ≡ setAt sets a → SetIs S s (writes (calledIn rows) (expressionAt rows row))
-  unfolding writes
-  not-set {a} f e = shaped f (set-as (writes (calledIn rows) (expressionAt rows a)) _ (link-set (f .onward) e) (λ i. refl))
-
-  -- the sets of two operands joined
-  two-sets : {a b : ℕ} {x y s : WriteSet} → Onward rows row a → Onward rows row b → x ≡ setAt sets a → y ≡ setAt sets b → s ≡ join x y → SetIs S s (λ i. writes (calledIn rows) (expressionAt rows a) i || writes (calledIn rows) (expressionAt rows b) i)
-  two-sets {a} {b} {x} {y} oa ob ex ey e = set-join x y (writes (calledIn rows) (expressionAt rows a)) (writes (calledIn rows) (expressionAt rows b)) (link-set oa ex) (link-set ob ey) e
-
-  pub binary-set : {operator : Operator} {a b : ℕ} {x y s : WriteSet} → ExpressionAt rows row (Operation (Binary operator a b)) → x ≡ setAt sets a → y ≡ setAt sets b → s ≡ join x y → SetIs S s (writes (calledIn rows) (expressionAt rows row))
-  unfolding writes
-  binary-set f ex ey e = shaped f (set-as _ _ (two-sets (f .onward .0) (f .onward .1) ex ey e) (λ i. refl))
-
-  pub comma-set : {a b : ℕ} {x y s : WriteSet} → ExpressionAt rows row (Operation (Comma a b)) → x ≡ setAt sets a → y ≡ setAt sets b → s ≡ join x y → SetIs S s (writes (calledIn rows) (expressionAt rows row))
-  unfolding writes
-  comma-set f ex ey e = shaped f (set-as _ _ (two-sets (f .onward .0) (f .onward .1) ex ey e) (λ i. refl))
-
-  pub and-set : {a b : ℕ} {x y s : WriteSet} → ExpressionAt rows row (Choice (And a b)) → x ≡ setAt sets a → y ≡ setAt sets b → s ≡ join x y → SetIs S s (writes (calledIn rows) (expressionAt rows row))
-  unfolding writes
-  and-set f ex ey e = shaped f (set-as _ _ (two-sets (f .onward .0) (f .onward .1) ex ey e) (λ i. refl))
-
-  pub or-set : {a b : ℕ} {x y s : WriteSet} → ExpressionAt rows row (Choice (Or a b)) → x ≡ setAt sets a → y ≡ setAt sets b → s ≡ join x y → SetIs S s (writes (calledIn rows) (expressionAt rows row))
-  unfolding writes
-  or-set f ex ey e = shaped f (set-as _ _ (two-sets (f .onward .0) (f .onward .1) ex ey e) (λ i. refl))
-
-  pub conditional-set : {c a b : ℕ} {z x y branches s : WriteSet} → ExpressionAt rows row (Choice (Conditional c a b)) → x ≡ setAt sets a → y ≡ setAt sets b → branches ≡ join x y → z ≡ setAt sets c → s ≡ join z branches → SetIs S s (writes (calledIn rows) (expressionAt rows row))
-  unfolding writes
-  conditional-set {c} {a} {b} {z} {x} {y} {branches} f ex ey eb ez e =
-      shaped f (set-as _ _ (set-join z branches (writes (calledIn rows) (expressionAt rows c)) _ (link-set (f .onward .0) ez) (two-sets (f .onward .1) (f .onward .2) ex ey eb) e) (λ i. refl))
-
-  -- the set of a place and that of a value joined
-  update-set : (place : ℕ) {v : ℕ} {x y s : WriteSet} → Onward rows row v → SetIs S x (placeWrites (calledIn rows) (placeOf (expressionAt rows place))) → y ≡ setAt sets v → s ≡ join x y
-      → SetIs S s (λ i. isVariable (placeOf (expressionAt rows place)) i || (indexWrites (calledIn rows) (placeOf (expressionAt rows place)) i || writes (calledIn rows) (expressionAt rows v) i))
-  update-set place {v} {x} {y} o p ey e =
-      let q = placeOf (expressionAt rows place) in
-      set-as _ _ (set-join x y (placeWrites (calledIn rows) q) (writes (calledIn rows) (expressionAt rows v)) p (link-set o ey) e) (λ i. or-assoc (isVariable q i) (indexWrites (calledIn rows) q i) (writes (calledIn rows) (expressionAt rows v) i))
-
-  pub assign-set : {place v : ℕ} {x y s : WriteSet} → ExpressionAt rows row (Operation (Assign place v)) → SetIs S x (placeWrites (calledIn rows) (placeOf (expressionAt rows place))) → y ≡ setAt sets v → s ≡ join x y → SetIs S s (writes (calledIn rows) (expressionAt rows row))
-  unfolding writes
-  assign-set {place} f p ey e = shaped f (set-as _ _ (update-set place (f .onward .1) p ey e) (λ i. refl))
-
-  pub compound-set : {operator : Operator} {place v : ℕ} {x y s : WriteSet} → ExpressionAt rows row (Operation (Compound operator place v)) → SetIs S x (placeWrites (calledIn rows) (placeOf (expressionAt rows place))) → y ≡ setAt sets v → s ≡ join x y → SetIs S s (writes (calledIn rows) (expressionAt rows row))
-  unfolding writes
-  compound-set {operator} {place} f p ey e = shaped f (set-as _ _ (update-set place (f .onward .1) p ey e) (λ i. refl))
-
-  pub prefix-set : {operator : Operator} {place : ℕ} {s : WriteSet} → ExpressionAt rows row (Operation (Prefix operator place)) → SetIs S s (placeWrites (calledIn rows) (placeOf (expressionAt rows place))) → SetIs S s (writes (calledIn rows) (expressionAt rows row))
-  unfolding writes
-  prefix-set f p = shaped f (set-as _ _ p (λ i. refl))
-
-  pub postfix-set : {operator : Operator} {place : ℕ} {s : WriteSet} → ExpressionAt rows row (Operation (Postfix operator place)) → SetIs S s (placeWrites (calledIn rows) (placeOf (expressionAt rows place))) → SetIs S s (writes (calledIn rows) (expressionAt rows row))
-  unfolding writes
-  postfix-set f p = shaped f (set-as _ _ p (λ i. refl))
-
-  -- no form has functions yet
-  pub call-set : {f first : ℕ} {s : WriteSet} → ExpressionAt rows row (Call f first) → SetIs S s (argumentsWrite (calledIn rows) (argumentListAt rows first)) → SetIs S s (writes (calledIn rows) (expressionAt rows row))
-  unfolding writes
-  call-set {f} {first} g x = shaped g (set-as (argumentsWrite (calledIn rows) (argumentListAt rows first)) _ x (λ i. ap (λ (b : Bool). b || argumentsWrite (calledIn rows) (argumentListAt rows first) i) (sym (none-called (m .source) f i))))
+  -- of a link that may be absent
+  pub part-link : (link : ℕ) {s : WriteSet} → OptionalOnward rows row link → s ≡ setAt sets link → SetIs S s (partWrites (calledIn rows) (partAt rows link))
+  part-link zero o e = set-nothing e
+  part-link (suc link) o e = link-set (o (omega arith)) e
 
 -- ---- the table
 
@@ -207,6 +132,31 @@ module _ (rows : List ℤ) (t u : List ℕ) (row : ℕ) (s : WriteSet) (fits : s
   others : (other k : ℕ) → row < other → getD u (setWidth * other + k) 0 ≡ getD t (setWidth * other + k) 0
   others other k h = other-words setWidth t u (setWords s) row refl fits is (setWidth * other + k) (omega arith)
 
+  earlier : (other k : ℕ) → other < row → k < setWidth → getD u (setWidth * other + k) 0 ≡ getD t (setWidth * other + k) 0
+  earlier other k h b = earlier-words setWidth t u (setWords s) row refl fits is (setWidth * other + k) (omega arith)
+
+  zero-more : (n : ℕ) → n ≡ n + 0
+  zero-more n = omega arith
+
+  own-set : setOf u row ≡ s
+  own-set = rw (ap (λ (n : ℕ). getD u n 0) (zero-more (setWidth * row)) ∙ own 0 (omega arith), own 1 (omega arith), own 2 (omega arith), own 3 (omega arith), own 4 (omega arith))
+
+  earlier-set : (other : ℕ) → other < row → setOf u other ≡ setOf t other
+  earlier-set other h =
+      rw (ap (λ (n : ℕ). getD u n 0) (zero-more (setWidth * other)) ∙ earlier other 0 h (omega arith) ∙ sym (ap (λ (n : ℕ). getD t n 0) (zero-more (setWidth * other))), earlier other 1 h (omega arith), earlier other 2 h (omega arith), earlier other 3 h (omega arith), earlier other 4 h (omega arith))
+
+  -- the functions below it keep their sets
+  pub functions-kept : {S : ℕ} → FunctionSets S rows t row → FunctionSets S rows u row
+  functions-kept {S} m = record { function-set = λ f h b. subst (λ (z : WriteSet). SetIs S z (calledIn rows f)) (sym (earlier-set f h)) (m .function-set f h b) }
+
+  -- with the function's words in, one more function has its set
+  pub one-function-more : {S : ℕ} → SetIs S s (calledIn rows row) → FunctionSets S rows t row → FunctionSets S rows u (row + 1)
+  one-function-more {S} x m = record { function-set = λ f h b. by f h b (ℕ-discrete f row) }
+    where
+      by : (f : ℕ) → f < row + 1 → f < functionCount (contents rows) → Dec (f ≡ row) → SetIs S (setOf u f) (calledIn rows f)
+      by f h b (yes q) = subst (λ (f : ℕ). SetIs S (setOf u f) (calledIn rows f)) (sym q) (subst (λ (z : WriteSet). SetIs S z (calledIn rows row)) (sym own-set) x)
+      by f h b (no q) = functions-kept m .function-set f (omega (arith, q)) b
+
   -- with the row's words in, one more row has its set
   pub one-set-more : {S : ℕ} → SetIs S s (writes (calledIn rows) (expressionAt rows row)) → SetsFrom S rows t (row + 1) → SetsFrom S rows u row
   one-set-more {S} x m = record {
@@ -216,12 +166,6 @@ module _ (rows : List ℤ) (t u : List ℕ) (row : ℕ) (s : WriteSet) (fits : s
     row-set = λ r h b. by r h b (ℕ-discrete r row);
   }
     where
-      zero-more : (n : ℕ) → n ≡ n + 0
-      zero-more n = omega arith
-
-      own-set : setOf u row ≡ s
-      own-set = rw (ap (λ (n : ℕ). getD u n 0) (zero-more (setWidth * row)) ∙ own 0 (omega arith), own 1 (omega arith), own 2 (omega arith), own 3 (omega arith), own 4 (omega arith))
-
       other-set : (other : ℕ) → row < other → setOf u other ≡ setOf t other
       other-set other h = rw (ap (λ (n : ℕ). getD u n 0) (zero-more (setWidth * other)) ∙ others other 0 h ∙ sym (ap (λ (n : ℕ). getD t n 0) (zero-more (setWidth * other))), others other 1 h, others other 2 h, others other 3 h, others other 4 h)
 
@@ -230,6 +174,9 @@ module _ (rows : List ℤ) (t u : List ℕ) (row : ℕ) (s : WriteSet) (fits : s
       by r h b (no q) =
           let k = lt-of-le-ne h (λ x. q (sym x)) in
           subst (λ (z : WriteSet). SetIs S z (writes (calledIn rows) (expressionAt rows r))) (sym (other-set r k)) (m .row-set r (omega arith) b)
+
+pub functions-less : {S : ℕ} {rows : List ℤ} {sets : List ℕ} {k : ℕ} (j : ℕ) → FunctionSets S rows sets k → j ≤ k → FunctionSets S rows sets j
+functions-less j m h = record { function-set = λ f l. m .function-set f (omega arith) }
 
 pub sets-none : {S : ℕ} {rows : List ℤ} {sets : List ℕ} → Source rows → NamesFrom S rows → setWidth * rowCount rows ≤ length sets → SetsFrom S rows sets (rowCount rows)
 sets-none s n h = record { source = s; names = n; room = h; row-set = λ row l b. absurd (omega arith) }
@@ -252,14 +199,12 @@ copied-word : (i : ℕ) (W : ℕ → Bool) → pick (W i) 1 0 ≡ copied (word i
 copied-word i W = by-cases (W i) (λ e. rw e) (λ e. rw e)
 
 -- the set at a link, as what the expression there writes
-pub part-set : {S : ℕ} {rows : List ℤ} {sets : List ℕ} (link i : ℕ) → Sets S rows sets → link < rowCount rows → Named S i → member S (setAt sets link) i ≡ partWrites (calledIn rows) (partAt rows link) i
-part-set zero i m h n = set-member (λ j. false) i (set-nothing refl) n
-part-set {rows = rows} (suc link) i m h n = set-member (writes (calledIn rows) (expressionAt rows (suc link))) i (m .row-set (suc link) (omega arith) h) n
+pub part-set : {S : ℕ} {rows : List ℤ} {sets : List ℕ} (link : ℕ) {s : WriteSet} → Sets S rows sets → link < rowCount rows → s ≡ setAt sets link → SetIs S s (partWrites (calledIn rows) (partAt rows link))
+part-set zero m h e = set-nothing e
+part-set {S} {rows} (suc link) m h e = subst (λ (z : WriteSet). SetIs S z (writes (calledIn rows) (expressionAt rows (suc link)))) (sym e) (m .row-set (suc link) (omega arith) h)
 
-pub copied-variable : {S : ℕ} {rows : List ℤ} {sets : List ℕ} {link i r : ℕ} {h : Atom} → Sets S rows sets → link < rowCount rows → Name rows i → word i ≡ h → r ≡ pick (member S (setAt sets link) i) 1 0 → r ≡ copied h (partWrites (calledIn rows) (partAt rows link))
-copied-variable {S} {rows} {sets} {link} {i} m h n e w =
-    let W = partWrites (calledIn rows) (partAt rows link) in
-    w ∙ ap (λ (b : Bool). pick b 1 0) (part-set link i m h (n .named S (m .names))) ∙ copied-word i W ∙ ap (λ (x : Atom). copied x W) e
+pub copied-variable : {S : ℕ} {rows : List ℤ} {s : WriteSet} {i r : ℕ} {h : Atom} (W : ℕ → Bool) → NamesFrom S rows → SetIs S s W → Name rows i → word i ≡ h → r ≡ pick (member S s i) 1 0 → r ≡ copied h W
+copied-variable {S} {i = i} W names x n e w = w ∙ ap (λ (b : Bool). pick b 1 0) (set-member W i x (n .named S names)) ∙ copied-word i W ∙ ap (λ (x : Atom). copied x W) e
 
 index-writes : (called : ℕ → ℕ → Bool) (p : Place) (i : ℕ) → partWrites called (indexOf p) i ≡ indexWrites called p i
 unfolding indexWrites

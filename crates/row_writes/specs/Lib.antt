@@ -3,3 +3,5 @@
 -- ---- definitions
 -- Write sets: what the table of write sets holds.
 pub mod WriteSets
+-- Reaches: what an expression's own row writes, and the links at which more is written.
+pub mod Reaches

@@ -8,8 +8,11 @@ use lib.Dec.{ltb}
 use lib.IntN.{ℤ}
 use lib.ListN.{length, getD}
 use Rattle.words.specs.Table.{rowCount}
+use Rattle.words.specs.Word.{pick}
 use Rattle.language.specs.Trees.{Place, Part, absent, present, Arguments, noMore, _also_}
 use Rattle.language.specs.Writes.{isVariable, writes, indexWrites}
+use Rattle.language.specs.Functions.{functionCount}
+use Rattle.language.specs.Program.{contents}
 use Rattle.language.specs.Decode.{expressionAt, argumentsAt, argumentListAt}
 use Rattle.shapes.specs.Shapes.{OptionalOnward}
 use Rattle.shapes.specs.Source.{NamesFrom, Source}
@@ -65,6 +68,10 @@ abbrev pub setAt : List ℕ → ℕ → WriteSet
 setAt sets zero = nothing
 setAt sets (suc link) = setOf sets (suc link)
 
+-- The set of a function, which stands at its number; those from `known` on are taken to write nothing.
+abbrev pub functionSet : List ℕ → ℕ → ℕ → WriteSet
+functionSet sets known f = pick (ltb f known) (setOf sets f) nothing
+
 -- The set that a link leads to is in the table.
 abbrev pub SetHeld : List ℕ → ℕ → Type 0
 SetHeld sets link = 0 < link → setWidth * link + setWidth ≤ length sets
@@ -72,6 +79,10 @@ SetHeld sets link = 0 < link → setWidth * link + setWidth ≤ length sets
 -- The words of a set.
 abbrev pub setWords : WriteSet → List ℕ
 setWords s = s .word0 ∷ s .word1 ∷ s .word2 ∷ s .word3 ∷ s .word4 ∷ []
+
+-- The functions below `known` have their sets.
+pub record FunctionSets (S : ℕ) (rows : List ℤ) (sets : List ℕ) (known : ℕ) : Type 0 where
+  pub function-set : (f : ℕ) → f < known → f < functionCount (contents rows) → SetIs S (setOf sets f) (calledIn rows f)
 
 -- The rows from `least` on have their sets.
 pub record SetsFrom (S : ℕ) (rows : List ℤ) (sets : List ℕ) (least : ℕ) : Type 0 where

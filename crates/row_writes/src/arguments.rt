@@ -1,5 +1,5 @@
 // The write sets of arguments: what the arguments of a call can write, joined along their list. The declared words begin at `store`.
-use super::writes::set_at;
+use super::table::set_at;
 use shapes::ArgumentShape;
 use shapes::rows::argument_at;
 use words::table::number_at;

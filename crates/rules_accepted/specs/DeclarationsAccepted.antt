@@ -12,17 +12,20 @@ use Rattle.words.specs.declared.Verdict.{Verdict}
 use Rattle.words.specs.Links.{fits, isExpression, isPlace, isStatement, isBlock, isArm, link, target, linker, received, noteBy, note}
 use Rattle.words.specs.Kinds.{sortOf, sortAt, inLanguage, isLink, isRequired, kinds, kindIn, kindOf, sortIn, kindRow, expressionFields, statementFields, markFields, memberFields}
 use Rattle.words.specs.Search.{lowest, some, lowestRow, someField}
+use Rattle.row_roles.specs.Roles.{linksParameter, isParameterBy, isParameter, roleSort}
 use Rattle.row_fields.specs.Fields.{foreign, leadsRight, mislinked, boundsOf, numberFits, outside}
 use Rattle.structure.specs.Links.{loneBlock, notOnce}
 use Rattle.structure.specs.Refusal.{at, unless, _next_}
-use Rattle.names.specs.Names.{isName, inScope, scopeAt, wordOf, meantFrom, meantAt, variableWord, resolvedName, resolvedWord, resolved}
+use Rattle.names.specs.Names.{isName, inScope, scopeAt, wordOf, meantFrom, parameterAt, meantAt, variableWord, resolvedName, resolvedWord, resolved}
 use Rattle.list_items.specs.Items.{itemOf, itemAt, earlierOf, earlierAt, someFrom, someEarlier}
 use Rattle.repeated_marks.specs.Marks.{sameMark, repeated}
 use Rattle.row_notes.specs.RowNotes.{handed, noteAt}
 use Rattle.statement_places.specs.Places.{outOfPlace, misplaced}
-use Rattle.declaration_causes.specs.Causes.{outsideBlock, namesNumber, namedWithin, namedFrom, namesItself, sameNumber, declaredBefore, oneTooMany, declarationRefusal}
-use Rattle.function_causes.specs.Functions.{isDefinition, isCall, isReturn}
+use Rattle.declaration_causes.specs.Causes.{outsideBlock, namesNumber, namedWithin, namedFrom, namesItself, sameNumber, declaredBefore, oneTooMany, declarationRefusal, declaredTwice}
+use Rattle.function_causes.specs.Functions.{isCall, isReturn, aroundOf, functionAround}
+use Rattle.row_roles.specs.Roles.{linksParameter, isParameterBy, isParameter, roleSort, isDefinition}
 use Rattle.function_causes.specs.Causes.{returnsOutside, outOfOrder, wrongCall, functionRefusal}
+use Rattle.parameter_causes.specs.Parameters.{bodyOf, bodyAt, someOfList, declaredAsParameter}
 use Rattle.source_check.specs.Refusal.{wronglyPlaced}
 use Rattle.language.specs.Program.{Finished, runTable}
 use Rattle.language.specs.Rule.{Rule}
@@ -43,7 +46,7 @@ abbrev tested : Rule → Verdict
 tested rule = briefSource (rule .header) (rule .rows)
 
 programs-tested : map tested programs ≡ map accepted programs
-unfolding sameWord natural wordAt numberAt layoutOf sum storeSize headerStore allWithin headerFits countFits foreign fits leadsRight mislinked boundsOf numberFits outside kindOf kindIn kinds sortIn kindRow expressionFields statementFields markFields memberFields sortOf sortAt inLanguage isExpression isPlace isStatement isBlock isArm isLink isRequired link target loneBlock notOnce linker received noteBy note at unless _next_ lowest some lowestRow someField targets times briefCauses briefStructure briefDepth briefSource sameMark itemOf itemAt earlierOf earlierAt someFrom someEarlier repeated handed noteAt outOfPlace misplaced isDeclaration declarationsBefore isName outsideBlock namesNumber namedWithin namedFrom namesItself sameNumber declaredBefore oneTooMany declarationRefusal isDefinition isCall isReturn returnsOutside outOfOrder wrongCall functionRefusal wronglyPlaced
+unfolding sameWord natural wordAt numberAt layoutOf sum storeSize headerStore allWithin headerFits countFits foreign fits leadsRight mislinked boundsOf numberFits outside kindOf kindIn kinds sortIn kindRow expressionFields statementFields markFields memberFields sortOf sortAt inLanguage isExpression isPlace isStatement isBlock isArm isLink isRequired link target loneBlock notOnce linker received noteBy note at unless _next_ lowest some lowestRow someField targets times briefCauses briefStructure briefDepth briefSource sameMark itemOf itemAt earlierOf earlierAt someFrom someEarlier repeated handed noteAt outOfPlace misplaced isDeclaration declarationsBefore isName outsideBlock namesNumber namedWithin namedFrom namesItself sameNumber declaredBefore oneTooMany declarationRefusal isDefinition isCall isReturn returnsOutside outOfOrder wrongCall functionRefusal wronglyPlaced roleSort isParameter isParameterBy linksParameter declaredTwice declaredAsParameter bodyAt bodyOf someOfList
 programs-tested = refl
 
 pub declarations-accepted : map checked programs ≡ map accepted programs
@@ -61,7 +64,7 @@ abbrev tableOfRule : DeclarationProgram → List ℤ
 tableOfRule program = program .rule .rows
 
 pub declarations-resolved : map resolvedTable declarationPrograms ≡ map tableOfRule declarationPrograms
-unfolding resolved resolvedWord resolvedName variableWord numberAt natural wordAt meantAt wordOf meantFrom declarationsBefore scopeAt isDeclaration isName inScope note noteBy received linker lowest target link isLink sortAt sortOf sortIn kindOf kindIn kinds kindRow expressionFields statementFields markFields memberFields layoutOf sum storeSize
+unfolding resolved resolvedWord resolvedName variableWord numberAt natural wordAt meantAt parameterAt functionAround aroundOf isDefinition wordOf meantFrom declarationsBefore scopeAt isDeclaration isName inScope note noteBy received linker lowest target link isLink sortAt sortOf sortIn kindOf kindIn kinds kindRow expressionFields statementFields markFields memberFields layoutOf sum storeSize
 declarations-resolved = refl
 
 -- What the run of a program comes to.

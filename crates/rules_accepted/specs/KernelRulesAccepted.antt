@@ -9,6 +9,7 @@ use Rattle.words.specs.declared.Verdict.the-variants.{Accepted}
 use Rattle.language.specs.Rule.{Rule}
 use Rattle.language.specs.KernelRules.{kernelTable}
 use Rattle.words.specs.Links.{fits, isExpression, isPlace, isStatement, link, target, linker, received, noteBy, note}
+use Rattle.row_roles.specs.Roles.{linksParameter, isParameterBy, isParameter, roleSort}
 use Rattle.row_fields.specs.Fields.{foreign, leadsRight, mislinked, boundsOf, numberFits, outside}
 use Rattle.words.specs.Kinds.{kindOf, kindIn, kinds, sortIn, kindRow, expressionFields, statementFields, markFields, memberFields, sortOf, sortAt, inLanguage, isLink, isRequired}
 use Rattle.structure.specs.Links.{loneBlock, notOnce}
@@ -17,12 +18,13 @@ use Rattle.words.specs.Search.{lowest, some, lowestRow, someField}
 use Rattle.kernel_check.specs.Accepts.{accepted-legal}
 use Rattle.words.specs.Declarations.{isDeclaration}
 use Rattle.declaration_causes.specs.Causes.{declaredBefore}
-use Rattle.function_causes.specs.Functions.{isDefinition, isCall, isReturn}
+use Rattle.row_roles.specs.Roles.{isDefinition, linksParameter, isParameterBy, isParameter, roleSort}
+use Rattle.function_causes.specs.Functions.{isCall, isReturn}
 use Rattle.function_causes.specs.Causes.{returnsOutside, outOfOrder, wrongCall, functionRefusal}
 use Rattle.kernel_check.specs.Labels.{isLabel, repeatedLabel, owning, ownerAt, aroundAt, labelBehind, labelAhead, gotoWithoutLabel, labelFault}
 use Rattle.kernel_check.specs.Legal.{Legal}
 use Rattle.kernel_check.specs.Refusal.{refusal}
-use Rattle.kernel_statements.specs.Statements.{isAtom, isAtomMinus, isAtomOperation, isAtomElement, fitsVariable, isAssignment, isBlock, isKernelIf, isKernelWhile, isKernelExpression, isKernelStatement, notKernelForm}
+use Rattle.kernel_statements.specs.Statements.{isAtom, isAtomMinus, isAtomOperation, isAtomElement, fitsVariable, isAssignment, isBlock, isKernelIf, isKernelWhile, isKernelExpression, isKernelStatement, notKernelForm, isAtomCall, isKernelReturn, isKernelParameter, isOfFunction, atomArguments}
 use Rattle.brief_checks.specs.Brief.{targets, times, briefCauses, briefStructure, briefDepth, briefKernel}
 use Rattle.brief_checks.specs.BriefLaws.{same-kernel, map-same}
 
@@ -38,7 +40,7 @@ abbrev tested : Rule → Verdict
 tested rule = briefKernel (rule .header) (rule .rows)
 
 table-tested : map tested kernelTable ≡ map accepted kernelTable
-unfolding natural wordAt numberAt layoutOf sum storeSize headerStore allWithin headerFits countFits foreign fits leadsRight mislinked boundsOf numberFits outside kindOf kindIn kinds sortIn kindRow expressionFields statementFields markFields memberFields sortOf sortAt inLanguage isExpression isPlace isStatement isLink isRequired link target loneBlock notOnce linker received noteBy note at unless _next_ lowest some lowestRow someField targets times briefCauses briefStructure briefDepth briefKernel isLabel repeatedLabel owning ownerAt aroundAt labelBehind labelAhead gotoWithoutLabel labelFault isDeclaration declaredBefore isDefinition isCall isReturn returnsOutside outOfOrder wrongCall functionRefusal isAtom isAtomMinus isAtomOperation isAtomElement fitsVariable isAssignment isBlock isKernelIf isKernelWhile isKernelExpression isKernelStatement notKernelForm
+unfolding natural wordAt numberAt layoutOf sum storeSize headerStore allWithin headerFits countFits foreign fits leadsRight mislinked roleSort isParameter isParameterBy linksParameter boundsOf numberFits outside kindOf kindIn kinds sortIn kindRow expressionFields statementFields markFields memberFields sortOf sortAt inLanguage isExpression isPlace isStatement isLink isRequired link target loneBlock notOnce linker received noteBy note at unless _next_ lowest some lowestRow someField targets times briefCauses briefStructure briefDepth briefKernel isLabel repeatedLabel owning ownerAt aroundAt labelBehind labelAhead gotoWithoutLabel labelFault isDeclaration declaredBefore isDefinition isCall isReturn returnsOutside outOfOrder wrongCall functionRefusal isAtom isAtomMinus isAtomOperation isAtomElement isAtomCall isKernelReturn isKernelParameter isOfFunction fitsVariable isAssignment isBlock isKernelIf isKernelWhile isKernelExpression isKernelStatement notKernelForm atomArguments
 table-tested = refl
 
 pub kernel-rules-accepted : map checked kernelTable ≡ map accepted kernelTable

@@ -10,6 +10,7 @@ use Rattle.words.specs.declared.Verdict.the-variants.{Accepted}
 use Rattle.language.specs.Rule.{Rule}
 use Rattle.language.specs.Rules.{table}
 use Rattle.words.specs.Links.{fits, isExpression, isPlace, isStatement, isBlock, isArm, link, target, linker, received, noteBy, note}
+use Rattle.row_roles.specs.Roles.{linksParameter, isParameterBy, isParameter, roleSort}
 use Rattle.row_fields.specs.Fields.{foreign, leadsRight, mislinked, boundsOf, numberFits, outside}
 use Rattle.words.specs.Kinds.{sortOf, sortAt, inLanguage, isLink, isRequired, kinds, kindIn, kindOf, sortIn, kindRow, expressionFields, statementFields, markFields, memberFields}
 use Rattle.structure.specs.Links.{loneBlock, notOnce}
@@ -20,8 +21,10 @@ use Rattle.repeated_marks.specs.Marks.{sameMark, repeated}
 use Rattle.row_notes.specs.RowNotes.{handed, noteAt}
 use Rattle.statement_places.specs.Places.{outOfPlace, misplaced}
 use Rattle.words.specs.Declarations.{isDeclaration}
-use Rattle.declaration_causes.specs.Causes.{outsideBlock, namesItself, declaredBefore, oneTooMany, declarationRefusal}
-use Rattle.function_causes.specs.Functions.{isDefinition, isCall, isReturn}
+use Rattle.parameter_causes.specs.Parameters.{declaredAsParameter}
+use Rattle.declaration_causes.specs.Causes.{outsideBlock, namesItself, declaredBefore, declaredTwice, oneTooMany, declarationRefusal}
+use Rattle.function_causes.specs.Functions.{isCall, isReturn}
+use Rattle.row_roles.specs.Roles.{linksParameter, isParameterBy, isParameter, roleSort, isDefinition}
 use Rattle.function_causes.specs.Causes.{returnsOutside, outOfOrder, wrongCall, functionRefusal}
 use Rattle.source_check.specs.Refusal.{wronglyPlaced, refusal}
 use Rattle.source_check.specs.Legal.{Legal}
@@ -41,7 +44,7 @@ abbrev tested : Rule → Verdict
 tested rule = briefSource (rule .header) (rule .rows)
 
 table-tested : map tested table ≡ map accepted table
-unfolding sameWord natural wordAt numberAt layoutOf sum storeSize headerStore allWithin headerFits countFits foreign fits leadsRight mislinked boundsOf numberFits outside kindOf kindIn kinds sortIn kindRow expressionFields statementFields markFields memberFields sortOf sortAt inLanguage isExpression isPlace isStatement isBlock isArm isLink isRequired link target loneBlock notOnce linker received noteBy note at unless _next_ lowest some lowestRow someField targets times briefCauses briefStructure briefDepth briefSource sameMark itemOf earlierOf earlierAt someFrom someEarlier repeated handed noteAt outOfPlace misplaced isDeclaration outsideBlock namesItself declaredBefore oneTooMany declarationRefusal isDefinition isCall isReturn returnsOutside outOfOrder wrongCall functionRefusal wronglyPlaced
+unfolding sameWord natural wordAt numberAt layoutOf sum storeSize headerStore allWithin headerFits countFits foreign fits leadsRight mislinked roleSort isParameter isParameterBy linksParameter boundsOf numberFits outside kindOf kindIn kinds sortIn kindRow expressionFields statementFields markFields memberFields sortOf sortAt inLanguage isExpression isPlace isStatement isBlock isArm isLink isRequired link target loneBlock notOnce linker received noteBy note at unless _next_ lowest some lowestRow someField targets times briefCauses briefStructure briefDepth briefSource sameMark itemOf earlierOf earlierAt someFrom someEarlier repeated handed noteAt outOfPlace misplaced isDeclaration outsideBlock namesItself declaredBefore declaredTwice declaredAsParameter oneTooMany declarationRefusal isDefinition isCall isReturn returnsOutside outOfOrder wrongCall functionRefusal wronglyPlaced
 table-tested = refl
 
 pub rules-accepted : map checked table ≡ map accepted table

@@ -1,6 +1,6 @@
 -- Independence: a resolved source program runs alike from stores that agree on the first S words, whatever the D words behind them hold, in the two
 -- runs independently.
-use mathlib.Core.Path.{_≡_, refl, sym, _∙_}
+use mathlib.Core.Path.{_≡_, refl, sym, ap, _∙_}
 use mathlib.Core.List.{List, _++_}
 use Prim.Native.Nat.{_+_, _≤_, _<_}
 use native.Mathlib.Omega.{arith}
@@ -11,18 +11,21 @@ use Rattle.words.specs.Laws.{array-in-store}
 use Rattle.words.specs.Layout.{Layout, storeSize}
 use Rattle.computation.specs.Agreement.{Words}
 use Rattle.computation.specs.Run.{State, start, Result, Limit, run, final, endingOf}
-use Rattle.language.specs.Decode.{decode}
+use Rattle.language.specs.Decode.{blockItems, decode}
 use Rattle.language.specs.Meaning.{Signal, exec}
-use Rattle.language.specs.Functions.{contextOf}
+use Rattle.language.specs.Trees.{Statement, block, Items, none, define}
+use Rattle.language.specs.Functions.{Function, functionOf, functionCount, callBy, contextOf}
 use Rattle.language.specs.Program.{contents}
-use Rattle.renaming.specs.RenamingLaws.{itself}
-use Rattle.renaming.specs.Twin.{Twin, TwinResult, Equal, Renames}
+use Rattle.renaming.specs.RenamingLaws.{itself, statement-itself}
+use Rattle.renaming.specs.Twin.{Twin, TwinResult, Equal, Renames, Callings}
 use Rattle.renaming.specs.TwinLaws.{twin-start, twin-ending, twin-final}
 use Rattle.renaming.specs.Renamed.{independent-runs}
-use Rattle.renaming.specs.RenamedFunctions.{plain-calls}
+use Rattle.renaming.specs.Renaming.{renamedStatement}
+use Rattle.renaming.specs.RenamedFunctions.{renamedFunction, renamed-calls}
 use Rattle.names.specs.Names.{resolved}
 use Rattle.scoped_programs.specs.Sources.{SourceRows}
-use Rattle.scoped_programs.specs.Scoped.{plain-program, program-scoped}
+use Rattle.scoped_programs.specs.Scoped.{program-scoped}
+use Rattle.scoped_programs.specs.Functions.{function-scoped}
 
 module _ (L : Layout) (rows : List ℤ) where
   -- The words of the header's variables and arrays; and all words of the store.
@@ -52,16 +55,28 @@ module _ (L : Layout) (rows : List ℤ) where
       (λ i p. List·getD-append store second (pos 0) i (omega arith) ∙ sym (List·getD-append store first (pos 0) i (omega arith)))
       (λ i (p : Stored i). (rw (length-append store first) (omega arith), rw (length-append store second) (omega arith)))
 
+  abbrev program : Items
+  program = contents (resolved (storeSize L) rows)
+
   module _ (source : SourceRows L rows) where
     variables-fit : L .variables ≤ storeSize L
     unfolding storeSize
     variables-fit = omega arith
 
+    -- a function that is renamed to itself
+    function-itself : (function : Function) → function ≡ renamedFunction itself itself function
+    unfolding renamedStatement functionOf
+    function-itself function = sym (ap (λ (program : Statement). functionOf 0 (blockItems program)) (statement-itself (block (define 0 (function .parameters) (function .body) none))))
+
+    -- its calls go alike in both runs
+    calls-alike : Callings L (length (L .lengths)) Stored itself itself Outer (callBy (functionCount program) L program) (callBy (functionCount program) L program)
+    calls-alike = renamed-calls program program (λ f. function-itself (functionOf f program)) (function-scoped L rows source Stored (λ word w. w .most) Outer (λ word h. omega (arith, variables-fit))) (functionCount program)
+
     twin-runs : (limit : Limit) (σ τ : State) → Twin Stored itself Outer σ τ
         → TwinResult Stored itself Outer Outer Equal (run limit (exec (contextOf L (contents (resolved (storeSize L) rows))) (decode (resolved (storeSize L) rows))) σ) (run limit (exec (contextOf L (contents (resolved (storeSize L) rows))) (decode (resolved (storeSize L) rows))) τ)
+    unfolding contextOf
     twin-runs =
-        rw (plain-program L rows source)
-        (independent-runs plain-calls outer-renames (decode (resolved (storeSize L) rows))
+        (independent-runs calls-alike outer-renames (decode (resolved (storeSize L) rows))
         (program-scoped L rows source Stored (λ word w. w .most) Outer (λ word h. omega (arith, variables-fit))))
 
     -- The same ending; the same count, the same writes and the same first S words.

@@ -7,7 +7,7 @@ use lib.IntN.{ℤ}
 use Rattle.words.specs.Table.{numberAt}
 use Rattle.structure.specs.Structured.{Tree}
 use Rattle.list_items.specs.Items.{ListItem, first, next}
-use Rattle.accepted.specs.Places.{same-owner}
+use Rattle.called_programs.specs.Owners.{same-owner}
 
 module _ (rows : List ℤ) (t : Tree rows) where
   -- the lists that two rows are items of begin at rows of one kind, if the rows are the same

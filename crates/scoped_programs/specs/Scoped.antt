@@ -12,12 +12,12 @@ use borrow.Author.Tests.{eq-eqb, eqb-true}
 use Rattle.words.specs.Table.{rowCount, numberAt}
 use Rattle.words.specs.Declarations.{isDeclaration, declarationCount}
 use Rattle.words.specs.KindLaws.{place-cases}
-use Rattle.words.specs.Kinds.{kinds, kindIn, kindOf, kindAt, isStatementKind, isPlaceKind, statementRow, armRow, between, standsIn, sortIn, kindRow, expressionFields, statementFields, markFields, definitionFields, memberFields}
+use Rattle.words.specs.Kinds.{kinds, kindIn, kindOf, kindAt, isStatementKind, isPlaceKind, statementRow, armRow, between, standsIn, isLink, sortIn, kindRow, expressionFields, statementFields, markFields, definitionFields, memberFields}
 use Rattle.words.specs.Layout.{Layout, storeSize}
 use Rattle.words.specs.Links.{link}
 use Rattle.words.specs.declared.Form.the-variants.{Source}
 use Rattle.words.specs.declared.Kind.{Kind}
-use Rattle.words.specs.declared.Kind.the-variants.{OfExpression, OfStatement, OfMember}
+use Rattle.words.specs.declared.Kind.the-variants.{OfExpression, OfStatement, OfMember, Definition}
 use Rattle.words.specs.declared.ExpressionKind.the-variants.{Variable}
 use Rattle.words.specs.declared.StatementKind.the-variants.{Declare}
 use Rattle.words.specs.declared.MemberKind.{MemberKind}
@@ -26,28 +26,32 @@ use Rattle.words.specs.Laws.{by-cases}
 use Rattle.computation.specs.Agreement.{Words, _within_}
 use Rattle.language.specs.Trees.{Items}
 use Rattle.language.specs.Decode.{expressionAt, statementAt, decode, listAt, armListAt, partAt}
-use Rattle.language.specs.Functions.{contextOf, plain}
-use Rattle.language.specs.FunctionLaws.{context-plain}
-use Rattle.language.specs.PlainTables.{no-functions}
 use Rattle.language.specs.Program.{contents}
 use Rattle.language.specs.WellFormed.{NamedExpression, NamedPart}
 use Rattle.renaming.specs.Twin.{_with_}
 use Rattle.renaming.specs.Scoped.{declared, behind, Unmarked, Unreached, Scoped, ScopedArms, ScopedItems}
-use Rattle.row_fields.specs.Fields.{boundsIn}
+use Rattle.row_fields.specs.Fields.{sourceBounds, resolvedBounds}
 use Rattle.row_fields.specs.declared.Bounds.{Bounds}
 use Rattle.structure.specs.Structured.{Leads, Tree, Structured}
 use Rattle.structure.specs.StructuredLaws.{structured-tree}
+use Rattle.structure.specs.RoleLaws.{parameter-fits}
+use Rattle.row_roles.specs.Roles.{isDefinition, isParameter}
+use Rattle.function_causes.specs.FrontLaws.{block-undefined}
+use Rattle.called_programs.specs.Kinds.{kind-definition}
+use Rattle.called_programs.specs.CallsAlong.{link-same}
+use Rattle.called_programs.specs.Owners.{part-other, next-other}
 use Rattle.statement_places.specs.Places.{isMark}
 use Rattle.list_items.specs.Items.{ListItem, next}
 use Rattle.names.specs.Names.{isName, wordOf, resolved}
 use Rattle.names.specs.ResolvedLaws.{resolved-kind, resolved-link, resolved-count, resolved-leads, resolved-declaration}
 use Rattle.names.specs.ResolvedNames.{DeclaredWord, declaration-resolved, declaration-word}
 use Rattle.names.specs.ResolvedStructured.{resolved-structured}
-use Rattle.accepted.specs.Sorts.{between-true, statementNumber, number-is, in-language, no-function-number}
+use Rattle.accepted.specs.Sorts.{between-true, statementNumber, number-is, in-language}
 use Rattle.accepted.specs.Fields.{names-variable}
-use Rattle.accepted.specs.Expressions.{ExpressionRow, whole-rows}
+use Rattle.accepted.specs.Expressions.{ExpressionRow}
 use Rattle.accepted.specs.NamedBelow.{named-below, named-part-below}
-use Rattle.accepted.specs.Statements.{PartRow, StatementRow, empty-row, express-row, block-row, ifThen-row, ifElse-row, while-row, doWhile-row, for-row, switch-row, case-row, default-row, break-row, continue-row, goto-row, label-row, guardedIf-row, guardedDo-row, abort-row, declare-row, return-row, ArmsRow, no-arms, arm-row, ListRow, no-items, item, case-item, default-item, label-item, root-inside, program-list, program-contents, program-block}
+use Rattle.accepted.specs.DefinitionLists.{by-definitions}
+use Rattle.accepted.specs.Statements.{PartRow, StatementRow, empty-row, express-row, block-row, ifThen-row, ifElse-row, while-row, doWhile-row, for-row, switch-row, case-row, default-row, break-row, continue-row, goto-row, label-row, guardedIf-row, guardedDo-row, abort-row, declare-row, return-row, definition-row, ArmsRow, no-arms, arm-row, ListRow, no-items, item, case-item, default-item, label-item, definition-item, root-inside, program-list, program-contents, program-block}
 use Rattle.scoped_programs.specs.Sources.{SourceRows}
 use Rattle.scoped_programs.specs.Known.{Known}
 use Rattle.scoped_programs.specs.KnownLaws.{known-root, known-part, known-next, known-behind, name-known}
@@ -63,29 +67,46 @@ module _ (L : Layout) (rows : List ℤ) (source : SourceRows L rows) where
   abbrev table : List ℤ
   table = resolved S rows
 
-  abbrev bounds : Bounds
-  bounds = boundsIn L (S + declarationCount rows)
+  abbrev pub bounds : Bounds
+  bounds = resolvedBounds L (declarationCount rows)
 
-  s : Structured Source (boundsIn L S) rows
+  s : Structured Source (sourceBounds L) rows
   s = source .structured
 
-  t : Tree rows
-  t = structured-tree Source (boundsIn L S) rows s
+  pub t : Tree rows
+  t = structured-tree Source (sourceBounds L) rows s
 
-  own : Structured Source bounds table
+  pub own : Structured Source bounds table
   own = resolved-structured Source L rows s
 
   abbrev KnownAt : ℕ → ℕ → Type 0
   KnownAt row = Known (L .variables) S rows row
 
-  part-known : (row field : ℕ) → field < 5 → Leads table row field → KnownAt (link table row field) within KnownAt row
-  part-known row field h l = rw (resolved-link S rows row field (omega arith)) (known-part rows t (L .variables) S row field h (resolved-leads S rows (omega arith) .1 l))
+  pub root : isDefinition rows 0 ≡ false
+  root = block-undefined rows 0 (s .block)
 
-  -- no form has functions yet
-  pub plain-program : contextOf L (contents table) ≡ plain L
-  plain-program = context-plain L (contents table) (no-functions table (whole-rows Source bounds table own) (λ row n. no-function-number Source table row (own .known row n)))
+  -- A row that is no definition, below row 0, where P holds of what is known.
+  pub record Here (P : Words) (row : ℕ) : Type 0 where
+    pub below : 0 < row
+    pub plain : isDefinition rows row ≡ false
+    pub known : KnownAt row within P
+
+  part-here : (P : Words) (row field : ℕ) → field < 5 → Leads table row field → Here P row → Here P (link table row field)
+  part-here P row field h l here =
+      let own-leads = resolved-leads S rows {row = row} {field = field} (omega arith) .1 l in
+      let later = own-leads .later in
+      rw (resolved-link S rows row field (omega arith))
+      (record {
+        below = omega arith;
+        plain = part-other rows t root (source .called .in-order) row field h (λ z. let some = here .below in omega (arith, z .0)) own-leads;
+        known = λ word q. here .known word (known-part rows t (L .variables) S row field h (here .plain) own-leads word q);
+      })
 
   -- ---- kinds
+
+  same-kind : (row : ℕ) → kindAt table row ≡ kindAt rows row
+  unfolding kindAt
+  same-kind row = ap kindOf (resolved-kind S rows row)
 
   -- a row of another kind declares nothing
   other-kind : {row : ℕ} {kind : Kind} → row < rowCount table → kindAt table row ≡ kind → between statementRow armRow (sortIn kind 0) ≡ true → eqb (statementNumber kind) 58 ≡ false → isDeclaration rows row ≡ false
@@ -95,6 +116,26 @@ module _ (L : Layout) (rows : List ℤ) (source : SourceRows L rows) where
   declares : {row : ℕ} → row < rowCount table → kindAt table row ≡ OfStatement Declare → isDeclaration rows row ≡ true
   unfolding isDeclaration sortIn kindRow expressionFields statementFields markFields definitionFields memberFields statementNumber
   declares {row} n k = sym (resolved-declaration S rows row) ∙ rw (number-is table row k refl)
+
+  -- a declaration is no parameter, since it has an initial expression
+  declaration-apart : {row : ℕ} → row < rowCount table → kindAt table row ≡ OfStatement Declare → Leads table row 2 → isParameter rows row ≡ false
+  unfolding sortIn kindRow statementFields isLink
+  declaration-apart {row} n k l =
+      by-cases (isParameter rows row)
+      (λ p. absurd (
+      let inside : row < rowCount rows = rw (resolved-count S rows) at n in
+      let none = parameter-fits Source (sourceBounds L) rows s row inside p .no-initial in
+      let same = link-same rows t row inside (sym (same-kind row) ∙ k) 2 refl in
+      let later : row < link rows row 2 = resolved-leads S rows {row = row} {field = 2} (omega arith) .1 l .later in
+      omega arith))
+      (λ p. p)
+
+  same-definition : (row : ℕ) → isDefinition table row ≡ isDefinition rows row
+  unfolding isDefinition
+  same-definition row = rw (resolved-kind S rows row)
+
+  defines-one : (row : ℕ) → kindAt table row ≡ Definition → isDefinition rows row ≡ true
+  defines-one row k = sym (same-definition row) ∙ kind-definition table row k
 
   -- a variable's row
   module _ (row : ℕ) (k : kindAt rows row ≡ OfExpression Variable) where
@@ -112,10 +153,6 @@ module _ (L : Layout) (rows : List ℤ) (source : SourceRows L rows) where
     unfolding isDeclaration
     declares-none = rw variable-number
 
-  same-kind : (row : ℕ) → kindAt table row ≡ kindAt rows row
-  unfolding kindAt
-  same-kind row = ap kindOf (resolved-kind S rows row)
-
   -- a variable's row names a known word
   variable-known : (row : ℕ) → row < rowCount table → kindAt table row ≡ OfExpression Variable → KnownAt row (numberAt table row 1)
   unfolding sortIn kindRow expressionFields statementFields markFields definitionFields memberFields
@@ -123,8 +160,8 @@ module _ (L : Layout) (rows : List ℤ) (source : SourceRows L rows) where
       let here : kindAt rows row ≡ OfExpression Variable = sym (same-kind row) ∙ k in
       let inside : row < rowCount rows = rw (resolved-count S rows) at n in
       let below : numberAt rows row 1 < L .variables =
-      ⊎-elim (λ b. b) (λ b. absurd (omega (arith, b .0, b .1))) (names-variable Source (boundsIn L S) rows s row inside here 1 refl) in
-      name-known rows t (L .variables) S row inside (declares-none row here) (names-one row here) below
+      ⊎-elim (λ b. b) (λ b. absurd (omega (arith, b .0, b .1))) (names-variable Source (sourceBounds L) rows s row inside here 1 refl) in
+      name-known rows t (L .variables) S (s .block) row inside (declares-none row here) (names-one row here) below
 
   -- a member declares nothing, so that what stands beside an argument knows what it knows
   member-declares-none : (row : ℕ) {kind : MemberKind} → kindAt table row ≡ OfMember kind → isDeclaration rows row ≡ false
@@ -132,18 +169,30 @@ module _ (L : Layout) (rows : List ℤ) (source : SourceRows L rows) where
   member-declares-none row k =
       by-cases (isDeclaration rows row) (λ d. absurd (true≢false (ap isStatementKind (sym (ap kindOf (resolved-kind S rows row ∙ eqb-true _ _ d)) ∙ k)))) (λ d. d)
 
-  argument-known : (row : ℕ) → kindAt table row ≡ OfMember Argument → Leads table row 5 → KnownAt (link table row 5) within KnownAt row
-  argument-known row k l = rw (resolved-link S rows row 5 (omega arith)) (known-next rows t (L .variables) S row (member-declares-none row k) (resolved-leads S rows (omega arith) .1 l))
+  -- the next row of a list
+  next-here : (P : Words) (row : ℕ) → row < rowCount table → isDeclaration rows row ≡ false → Leads table row 5 → Here P row → Here P (link table row 5)
+  next-here P row n other l here =
+      let own-leads = resolved-leads S rows {row = row} {field = 5} (omega arith) .1 l in
+      let later = own-leads .later in
+      rw (resolved-link S rows row 5 (omega arith))
+      (record {
+        below = omega arith;
+        plain = next-other rows t root (source .called .in-order) row (rw (resolved-count S rows) at n) (here .plain);
+        known = λ word q. here .known word (known-next rows t (L .variables) S row other own-leads word q);
+      })
+
+  argument-here : (P : Words) (row : ℕ) → kindAt table row ≡ OfMember Argument → Leads table row 5 → Here P row → Here P (link table row 5)
+  argument-here P row k l here = next-here P row (let later = l .later in let inside = l .inside in omega arith) (member-declares-none row k) l here
 
   -- ---- from a row to the rows that it links
 
-  module _ (P : Words) {row : ℕ} (n : row < rowCount table) (h : KnownAt row within P) where
-    in-part : (field : ℕ) → field < 5 → Leads table row field → KnownAt (link table row field) within P
-    in-part field k l word q = h word (part-known row field k l word q)
+  module _ (P : Words) {row : ℕ} (n : row < rowCount table) (h : Here P row) where
+    in-part : (field : ℕ) → field < 5 → Leads table row field → Here P (link table row field)
+    in-part field k l = part-here P row field k l h
 
     -- where the link may be absent
     abbrev At : ℕ → Words → Type 0
-    At l Q = 0 < l → (l < rowCount table) × (KnownAt l within Q)
+    At l Q = 0 < l → (l < rowCount table) × Here Q l
 
     at-part : (field : ℕ) → between 1 4 field ≡ true → At (link table row field) P
     at-part field range p =
@@ -155,17 +204,24 @@ module _ (L : Layout) (rows : List ℤ) (source : SourceRows L rows) where
     leads-next p = own .forward row n 5 (omega arith) (omega arith) p
 
     at-next : isDeclaration rows row ≡ false → At (link table row 5) P
-    at-next other p =
-        let l = leads-next p in
-        (l .inside, λ word q. h word (known-next rows t (L .variables) S row other (resolved-leads S rows (omega arith) .1 l) word (rw (resolved-link S rows row 5 (omega arith)) at q)))
+    at-next other p = let l = leads-next p in (l .inside, next-here P row n other l h)
 
     at-behind : isDeclaration rows row ≡ true → At (link table row 5) (P with numberAt table row 1)
     at-behind d p =
         let l = leads-next p in
-        (l .inside, λ word q. go word (known-behind rows t (L .variables) S row (resolved-leads S rows (omega arith) .1 l) word (rw (resolved-link S rows row 5 (omega arith)) at q)))
+        let own-leads = resolved-leads S rows {row = row} {field = 5} (omega arith) .1 l in
+        let later = own-leads .later in (
+          l .inside,
+          rw (resolved-link S rows row 5 (omega arith))
+              (record {
+                below = omega arith;
+                plain = next-other rows t root (source .called .in-order) row (rw (resolved-count S rows) at n) (h .plain);
+                known = λ word q. go word (known-behind rows t (L .variables) S row own-leads word q);
+              }),
+        )
       where
         go : (word : ℕ) → (KnownAt row with wordOf S rows row) word → (P with numberAt table row 1) word
-        go word (inl q) = inl (h word q)
+        go word (inl q) = inl (h .known word q)
         go word (inr e) = inr (e ∙ sym (declaration-resolved S rows t row (rw (resolved-count S rows) at n) d))
 
   -- ---- no mark behind a declaration
@@ -191,23 +247,22 @@ module _ (L : Layout) (rows : List ℤ) (source : SourceRows L rows) where
   unmarked-list (case-item p k e x y) i = absurd (marked (i p .0) k refl refl (i p .1))
   unmarked-list (default-item p k e x y) i = absurd (marked (i p .0) k refl refl (i p .1))
   unmarked-list (label-item p k e x y) i = absurd (not-in-source (i p .0) k refl)
+  unmarked-list (definition-item p k q r b e x y z) i = rw e (unmarked-list z (next-in-block (i p .0) (i p .1)))
 
   -- ---- expressions
 
-  expression-scoped : (P : Words) {row : ℕ} → ExpressionRow table row → row < rowCount table → KnownAt row within P → NamedExpression P arrays (expressionAt table row)
-  expression-scoped P x n h =
-      named-below Source bounds table own P (λ row. KnownAt row within P) (λ row n k h. h _ (variable-known row n k)) (λ row field k l h word q. h word (part-known row field k l word q)) (λ row k l h word q. h word (argument-known row k l word q)) x n h
+  expression-scoped : (P : Words) {row : ℕ} → ExpressionRow table row → row < rowCount table → Here P row → NamedExpression P arrays (expressionAt table row)
+  expression-scoped P x n h = named-below Source bounds table own P (Here P) (λ row n k h. h .known _ (variable-known row n k)) (part-here P) (argument-here P) x n h
 
-  part-scoped : (P : Words) {l : ℕ} → PartRow table l → (0 < l → (l < rowCount table) × (KnownAt l within P)) → NamedPart P arrays (partAt table l)
-  part-scoped P x at =
-      named-part-below Source bounds table own P (λ row. KnownAt row within P) (λ row n k h. h _ (variable-known row n k)) (λ row field k l h word q. h word (part-known row field k l word q)) (λ row k l h word q. h word (argument-known row k l word q)) x at
+  part-scoped : (P : Words) {l : ℕ} → PartRow table l → (0 < l → (l < rowCount table) × Here P l) → NamedPart P arrays (partAt table l)
+  part-scoped P x at = named-part-below Source bounds table own P (Here P) (λ row n k h. h .known _ (variable-known row n k)) (part-here P) (argument-here P) x at
 
   -- ---- statements: All holds of the words of declarations
 
   module _ (All : Words) (all : DeclaredWord S rows within All) where
     -- the list behind an item
-    behind-item : {l : ℕ} → StatementRow table l → l < rowCount table → (P : Words) → KnownAt l within P → (rest : Items) → (isDeclaration rows l ≡ true → Unmarked rest)
-        → ((Q : Words) → (0 < link table l 5 → (link table l 5 < rowCount table) × (KnownAt (link table l 5) within Q)) → ScopedItems All arrays Q rest)
+    behind-item : {l : ℕ} → StatementRow table l → l < rowCount table → (P : Words) → Here P l → (rest : Items) → (isDeclaration rows l ≡ true → isParameter rows l ≡ false → Unmarked rest)
+        → ((Q : Words) → (0 < link table l 5 → (link table l 5 < rowCount table) × (Here Q (link table l 5))) → ScopedItems All arrays Q rest)
         → Unreached (declared (statementAt table l)) rest × ScopedItems All arrays (behind P (declared (statementAt table l))) rest
     unfolding declared behind Unreached sortIn kindRow expressionFields statementFields markFields definitionFields memberFields statementNumber
     behind-item (empty-row k e) n P h rest u c = rw e (tt, c P (at-next P n h (other-kind n k refl refl)))
@@ -228,13 +283,14 @@ module _ (L : Layout) (rows : List ℤ) (source : SourceRows L rows) where
     behind-item (guardedIf-row k e x) n P h rest u c = rw e (tt, c P (at-next P n h (other-kind n k refl refl)))
     behind-item (guardedDo-row k e x) n P h rest u c = rw e (tt, c P (at-next P n h (other-kind n k refl refl)))
     behind-item (abort-row k e) n P h rest u c = rw e (tt, c P (at-next P n h (other-kind n k refl refl)))
-    behind-item (declare-row k p e x) n P h rest u c = rw e (u (declares n k), c _ (at-behind P n h (declares n k)))
+    behind-item (declare-row k p e x) n P h rest u c = rw e (u (declares n k) (declaration-apart n k p), c _ (at-behind P n h (declares n k)))
     behind-item (return-row k e x) n P h rest u c = rw e (tt, c P (at-next P n h (other-kind n k refl refl)))
+    behind-item (definition-row k e) n P h rest u c = rw e (tt, c P (at-next P n h (other-kind n k refl refl)))
 
     mutual
       unfolding Scoped ScopedArms ScopedItems sortIn kindRow expressionFields statementFields markFields definitionFields memberFields statementNumber
 
-      scoped-statement : {row : ℕ} → StatementRow table row → row < rowCount table → (P : Words) → KnownAt row within P → Scoped All arrays P (statementAt table row)
+      scoped-statement : {row : ℕ} → StatementRow table row → row < rowCount table → (P : Words) → Here P row → Scoped All arrays P (statementAt table row)
       scoped-statement (empty-row k e) n P h = rw e tt
       scoped-statement (express-row k p e x) n P h = rw e (expression-scoped P x (p .inside) (in-part P n h 1 (omega arith) p))
       scoped-statement (block-row k e x) n P h = rw e (scoped-list x P (at-part P n h 1 refl))
@@ -261,28 +317,46 @@ module _ (L : Layout) (rows : List ℤ) (source : SourceRows L rows) where
       scoped-statement {row} (declare-row k p e x) n P h =
           rw e (all _ (declaration-word S rows t row (rw (resolved-count S rows) at n) (declares n k)), expression-scoped P x (p .inside) (in-part P n h 2 (omega arith) p))
       scoped-statement (return-row k e x) n P h = rw e (part-scoped P x (at-part P n h 1 refl))
+      scoped-statement (definition-row k e) n P h = rw e tt
 
-      scoped-arms : {l : ℕ} → ArmsRow table l → (P : Words) → (0 < l → (l < rowCount table) × (KnownAt l within P)) → ScopedArms All arrays P (armListAt table l)
+      scoped-arms : {l : ℕ} → ArmsRow table l → (P : Words) → (0 < l → (l < rowCount table) × (Here P l)) → ScopedArms All arrays P (armListAt table l)
       scoped-arms (no-arms z e) P at = rw e tt
       scoped-arms (arm-row p k q r e x y z) P at =
           rw e (expression-scoped P x (q .inside) (in-part P (at p .0) (at p .1) 1 (omega arith) q), scoped-statement y (r .inside) P (in-part P (at p .0) (at p .1) 2 (omega arith) r), scoped-arms z P (at-next P (at p .0) (at p .1) (other-kind (at p .0) k refl refl)))
 
-      scoped-list : {l : ℕ} → ListRow table l → (P : Words) → (0 < l → (l < rowCount table) × (KnownAt l within P)) → ScopedItems All arrays P (listAt table l)
+      pub scoped-list : {l : ℕ} → ListRow table l → (P : Words) → (0 < l → (l < rowCount table) × (Here P l)) → ScopedItems All arrays P (listAt table l)
       scoped-list (no-items z e) P at = rw e tt
       scoped-list {l} (item p e x y) P at =
           let n = at p .0 in
           let h = at p .1 in
-          let behind = behind-item x n P h (listAt table (link table l 5)) (λ d. unmarked-list y (next-in-block n (source .declarations l (rw (resolved-count S rows) at n) d))) (λ Q known. scoped-list y Q known) in
+          let behind = behind-item x n P h (listAt table (link table l 5)) (λ d a. unmarked-list y (next-in-block n (source .declarations l (rw (resolved-count S rows) at n) d a))) (λ Q known. scoped-list y Q known) in
           rw e (scoped-statement x n P h, behind .0, behind .1)
       scoped-list (case-item p k e x y) P at = rw e (scoped-list y P (at-next P (at p .0) (at p .1) (other-kind (at p .0) k refl refl)))
       scoped-list (default-item p k e x y) P at = rw e (scoped-list y P (at-next P (at p .0) (at p .1) (other-kind (at p .0) k refl refl)))
       scoped-list (label-item p k e x y) P at = rw e (scoped-list y P (at-next P (at p .0) (at p .1) (other-kind (at p .0) k refl refl)))
+      scoped-list {l} (definition-item p k q r b e x y z) P at = absurd (true≢false (sym (defines-one l k) ∙ at p .1 .plain))
+
+    -- the items of a program, where P holds of what is known
+    scoped-program : (P : Words) {l : ℕ} → ListRow table l → (0 < l → (l < rowCount table) × (KnownAt l within P)) → ScopedItems All arrays P (listAt table l)
+    unfolding ScopedItems sortIn kindRow expressionFields statementFields markFields definitionFields memberFields statementNumber
+    scoped-program P x at =
+        by-definitions Source bounds table own (λ (l : ℕ). (0 < l → (l < rowCount table) × (KnownAt l within P)) → ScopedItems All arrays P (listAt table l))
+        (λ l p k q r y e rest at. rw e (rest (λ s-next.
+        let leads = own .forward l (at p .0) 5 (omega arith) (omega arith) s-next in
+        (leads .inside, λ word w. at p .1 word (known-next rows t (L .variables) S l (other-kind (at p .0) k refl refl) (resolved-leads S rows (omega arith) .1 leads) word (rw (resolved-link S rows l 5 (omega arith)) at w))))))
+        (λ l x other at. scoped-list x P (λ p. (at p .0, record { below = p; plain = sym (same-definition l) ∙ other p; known = at p .1 })))
+        x (λ p. at p .0) at
 
     -- The program, where the header's variables are known.
     pub resolved-scoped : (P : Words) → (λ word. word < L .variables) within P → ScopedItems All arrays P (contents table)
     resolved-scoped P h =
-        let n = root-inside Source bounds table own in
-        rw (program-contents Source bounds table own) (scoped-list (program-list Source bounds table own) P (at-part P n (λ word q. h word (known-root rows t (L .variables) S word q)) 1 refl))
+        rw (program-contents Source bounds table own)
+        (scoped-program P (program-list Source bounds table own)
+        (λ p. let leads = own .forward 0 (root-inside Source bounds table own) 1 (omega arith) (omega arith) p in (
+          leads .inside,
+          λ word w. h word (known-root rows t (L .variables) S word
+              (known-part rows t (L .variables) S 0 1 (omega arith) root (resolved-leads S rows (omega arith) .1 leads) word (rw (resolved-link S rows 0 1 (omega arith)) at w))),
+        )))
 
     pub program-scoped : (P : Words) → (λ word. word < L .variables) within P → Scoped All arrays P (decode table)
     unfolding Scoped

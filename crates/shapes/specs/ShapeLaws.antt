@@ -20,10 +20,10 @@ use Rattle.words.specs.declared.MarkKind.the-variants.{Case, Default, Label}
 use Rattle.words.specs.declared.MemberKind.the-variants.{Arm, Argument}
 use Rattle.language.specs.Trees.{variable as variableTree, Statement, _then_}
 use Rattle.language.specs.Decode.{Forward, placeOf, expressionOf, argumentsOf, statementOf, itemsOf, armsOf, statementAt}
-use Rattle.language.specs.DecodeLaws.{expression-at, statement-at, at-constant, at-variable, at-element, at-minus, at-not, at-binary, at-and, at-or, at-comma, at-conditional, at-assign, at-compound, at-prefix, at-postfix, at-call, at-empty, at-express, at-block, at-ifThen, at-ifElse, at-while, at-doWhile, at-for, at-switch, at-break, at-continue, at-goto, at-guardedIf, at-guardedDo, at-abort, at-declare, at-return, at-item, at-case, at-default, at-label, at-definition, at-arm, at-argument, items-at, arms-at, arguments-at, later-list}
+use Rattle.language.specs.DecodeLaws.{expression-at, statement-at, at-no-expression, at-constant, at-variable, at-element, at-minus, at-not, at-binary, at-and, at-or, at-comma, at-conditional, at-assign, at-compound, at-prefix, at-postfix, at-call, at-empty, at-express, at-block, at-ifThen, at-ifElse, at-while, at-doWhile, at-for, at-switch, at-break, at-continue, at-goto, at-guardedIf, at-guardedDo, at-abort, at-declared, at-return, at-item, at-case, at-default, at-label, at-definition, at-arm, at-argument, items-at, arms-at, arguments-at, later-list}
 use Rattle.language.specs.Sound.{Link, OptionalLink, Sound}
-use Rattle.language.specs.SoundLaws.{field-of, link-of, optional-link-of, behind}
-use Rattle.shapes.specs.Shapes.{expressionAs, statementAs, markAs, definitionAs, memberAs, shapeAs, shapeAt, expressionIn, placeIn, statementIn, itemIn, armIn, argumentIn, Onward, OptionalOnward, operationTree, choiceTree, statementTree, PlaceWithin, ExpressionWithin, StatementWithin, ItemAt, ArmAt, ArgumentAt}
+use Rattle.language.specs.SoundLaws.{always, root-none, field-of, link-of, optional-link-of, behind}
+use Rattle.shapes.specs.Shapes.{expressionAs, statementAs, markAs, definitionAs, memberAs, shapeAs, shapeAt, expressionIn, placeIn, statementIn, itemIn, armIn, argumentIn, Onward, OptionalOnward, Initial, operationTree, choiceTree, statementTree, PlaceWithin, ExpressionWithin, StatementWithin, ItemAt, ArmAt, ArgumentAt}
 use Rattle.shapes.specs.declared.PlaceShape.{PlaceShape}
 use Rattle.shapes.specs.declared.OperationShape.{OperationShape}
 use Rattle.shapes.specs.declared.OperationShape.the-variants as operation
@@ -52,7 +52,7 @@ module _ {rows : List ℤ} {L : Layout} {words : ℕ} (sound : Sound rows L word
   -- ---- links, by the sort of the field
 
   module _ {kind : Kind} (k : kindAt rows row ≡ kind) where
-    required : (field : ℕ) → 1 ≤ field → field < 6 → isRequired (sortIn kind field) ≡ true → Onward rows row (f field)
+    required : (field : ℕ) → 1 ≤ field → field < 6 → always isRequired kind field ≡ true → Onward rows row (f field)
     required field p q r = onward field (link-of sound inside k field p q r)
 
     optional-link : (field : ℕ) → 1 ≤ field → field < 6 → isLink (sortIn kind field) ≡ true → OptionalOnward rows row (f field)
@@ -63,6 +63,13 @@ module _ {rows : List ℤ} {L : Layout} {words : ℕ} (sound : Sound rows L word
 
   next : OptionalOnward rows row (f 5)
   next p = onward 5 (behind sound inside p)
+
+  initial : (field : ℕ) → OptionalOnward rows row (f field) → Initial rows row (f field)
+  initial field o = go (f field) o
+    where
+      go : (link : ℕ) → OptionalOnward rows row link → Initial rows row link
+      go zero o = record { onward = o; inside = sound .some-rows; absent = λ z. at-no-expression rows whole 0 (root-none sound) }
+      go (suc link) o = record { onward = o; inside = o (omega arith) .inside; absent = λ z. absurd (omega arith) }
 
   -- ---- expressions: the numbers of variables are names, `arrays` bounds those of arrays
 
@@ -76,7 +83,7 @@ module _ {rows : List ℤ} {L : Layout} {words : ℕ} (sound : Sound rows L word
     expression-of Variable k = record { is = at-variable rows whole row k; onward = names k }
     expression-of Element k =
         let b = required k 2 (omega arith) (omega arith) refl in
-        record { is = at-element rows whole row k (b .later); onward = (omega (arith, field-of sound inside k 1 (omega arith) (omega arith) .names-array refl), b) }
+        record { is = at-element rows whole row k (b .later); onward = (omega (arith, field-of sound inside k 1 (omega arith) (omega arith) refl .names-array refl), b) }
     expression-of Minus k = let a = required k 1 (omega arith) (omega arith) refl in record { is = at-minus rows whole row k (a .later); onward = a }
     expression-of Not k = let a = required k 1 (omega arith) (omega arith) refl in record { is = at-not rows whole row k (a .later); onward = a }
     expression-of (Binary o) k =
@@ -174,7 +181,7 @@ module _ {rows : List ℤ} {L : Layout} {words : ℕ} (sound : Sound rows L word
     statement-of GuardedIf k = let a = optional-link k 1 (omega arith) (omega arith) refl in record { is = at-guardedIf rows whole row k (forward 1 a); onward = a }
     statement-of GuardedDo k = let a = optional-link k 1 (omega arith) (omega arith) refl in record { is = at-guardedDo rows whole row k (forward 1 a); onward = a }
     statement-of Abort k = record { is = at-abort rows whole row k; onward = tt }
-    statement-of Declare k = let b = required k 2 (omega arith) (omega arith) refl in record { is = at-declare rows whole row k (b .later); onward = (declares k, b) }
+    statement-of Declare k = let b = optional-link k 2 (omega arith) (omega arith) refl in record { is = at-declared rows whole row (root-none sound) k (forward 2 b); onward = (declares k, initial 2 b) }
     statement-of Return k = let a = optional-link k 1 (omega arith) (omega arith) refl in record { is = at-return rows whole row k (forward 1 a); onward = a }
 
     -- What a row is as a statement; empty where it is none.

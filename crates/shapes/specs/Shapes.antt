@@ -178,6 +178,12 @@ pub record Onward (rows : List ℤ) (row link : ℕ) : Type 0 where
 abbrev pub OptionalOnward : List ℤ → ℕ → ℕ → Type 0
 OptionalOnward rows row link = 0 < link → Onward rows row link
 
+-- The expression of a row of kind 58: a declaration has one, at a later row; a parameter has none, which counts as row 0, that of the constant 0.
+pub record Initial (rows : List ℤ) (row link : ℕ) : Type 0 where
+  pub onward : OptionalOnward rows row link
+  pub inside : link < rowCount rows
+  pub absent : link ≡ 0 → expressionAt rows link ≡ constant (pos 0)
+
 module _ (rows : List ℤ) where
   -- ---- the trees
 
@@ -291,7 +297,7 @@ module _ (rows : List ℤ) where
     StatementOnward name (GuardedIf arms) = OptionalOnward rows row arms
     StatementOnward name (GuardedDo arms) = OptionalOnward rows row arms
     StatementOnward name Abort = Unit {0}
-    StatementOnward name (Declare i e) = name i × Onward rows row e
+    StatementOnward name (Declare i e) = name i × Initial rows row e
     StatementOnward name (Return value) = OptionalOnward rows row value
 
     abbrev pub ArmOnward : ArmShape → Type 0

@@ -12,6 +12,7 @@ use Rattle.words.specs.declared.ExpressionKind.the-variants.{Variable}
 use Rattle.words.specs.declared.StatementKind.the-variants.{Declare}
 use Rattle.write_sets.specs.Named.{Named}
 use Rattle.language.specs.Sound.{Sound}
+use Rattle.shapes.specs.Functions.{SoundFunctions}
 use Rattle.shapes.specs.Shapes.{PlaceWithin, ExpressionWithin, StatementWithin}
 use Rattle.shapes.specs.declared.PlaceShape.{PlaceShape}
 use Rattle.shapes.specs.declared.ExpressionShape.{ExpressionShape}
@@ -38,6 +39,7 @@ pub record Source (rows : List ℤ) : Type 0 where
   pub store : ℕ
   pub names : NamesFrom store rows
   pub few-arrays : length (layout .lengths) ≤ mostArrays
+  pub functions : SoundFunctions rows
 
 -- A name of the rows: what holds of all of them holds of it. A row that is no place counts as the name 0.
 pub record Name (rows : List ℤ) (i : ℕ) : Type 0 where

@@ -25,7 +25,6 @@ use Rattle.structure.specs.StructuredLaws.{accepted-structured, structured-acce
 use Rattle.statement_places.specs.Places.{isMark}
 use Rattle.repeated_marks.specs.Marks.{repeated}
 use Rattle.declaration_causes.specs.Causes.{declarationRefusal}
-use Rattle.declaration_causes.specs.DeclarationLaws.{block-undeclared}
 use Rattle.declaration_causes.specs.AcceptsDeclared.{accepts-declared}
 use Rattle.function_causes.specs.FrontLaws.{block-undefined}
 use Rattle.function_causes.specs.AcceptsFunctions.{accepts-functions}
@@ -99,7 +98,7 @@ module _ (header rows : List ℤ) where
         placed = λ row n. none-wrong-placed rows t (block-undefined rows 0 (s .block)) row n (places row n);
         distinct = λ row n. once-distinct _ rows s row n (marks row n);
         shallow = none-deep-shallow rows t Source (at-accepts 9 _ (c9 .0));
-        well-declared = accepts-declared rows t (block-undeclared rows 0 (s .block)) .0 (c20 .0);
+        well-declared = accepts-declared rows t (s .block) .0 (c20 .0);
         well-called = accepts-functions rows t (block-undefined rows 0 (s .block)) .0 (c20 .1);
       }
 
@@ -111,7 +110,7 @@ module _ (header rows : List ℤ) where
       (accepts-next (at 7 _) _ (accepts-at 7 _ (all-lowestRow rows (wronglyPlaced rows) (λ row n. placed-none-wrong rows t (block-undefined rows 0 (l .structured .block)) row (l .placed row n))))
       (accepts-next (at 8 _) _ (accepts-at 8 _ (all-lowestRow rows (repeated rows) (λ row n. distinct-once _ rows (l .structured) row n (l .distinct row n))))
       (accepts-next (at 9 _) _ (accepts-at 9 _ (shallow-none-deep rows t Source (l .shallow)))
-      (accepts-next (declarationRefusal rows) _ (accepts-declared rows t (block-undeclared rows 0 (l .structured .block)) .1 (l .well-declared))
+      (accepts-next (declarationRefusal rows) _ (accepts-declared rows t (l .structured .block) .1 (l .well-declared))
       (accepts-functions rows t (block-undefined rows 0 (l .structured .block)) .1 (l .well-called))))))
 
   pub accepts-legal : refusal header rows ≡ Accepted ↔ Legal header rows

@@ -1,7 +1,7 @@
 -- Carried places: where another table holds the rows of a table, each at its place, with their kinds and links, what legality says of a
 -- row's place holds there. So of the resolved table, in which every row has its own place.
 use mathlib.Core.Path.{_≡_, sym, subst, _∙_}
-use mathlib.Core.Bool.{Bool}
+use mathlib.Core.Bool.{Bool, true}
 use mathlib.Core.List.{List}
 use Prim.Native.Nat.{ℕ, _<_}
 use native.Mathlib.Omega.{arith}
@@ -11,7 +11,7 @@ use Rattle.words.specs.Links.{link}
 use Rattle.structure.specs.Structured.{Leads}
 use Rattle.words.specs.Declarations.{isDeclaration}
 use Rattle.names.specs.Names.{resolved}
-use Rattle.names.specs.ResolvedLaws.{resolved-kind, resolved-link, resolved-count, resolved-leads}
+use Rattle.names.specs.ResolvedLaws.{resolved-kept, resolved-kind, resolved-link, resolved-count, resolved-leads}
 use Rattle.list_items.specs.Items.{ListItem, first, next}
 use Rattle.function_causes.specs.Functions.{isDefinition, isReturn}
 use Rattle.function_causes.specs.Demands.{Within, functionPart, functionAlong}
@@ -22,6 +22,7 @@ pub record Carries (other rows : List ℤ) (ρ : ℕ → ℕ) : Type 0 where
   pub kind : (row : ℕ) → row < rowCount rows → numberAt other (ρ row) 0 ≡ numberAt rows row 0
   pub leads : (row field : ℕ) → field < 6 → Leads rows row field → Leads other (ρ row) field
   pub to : (row field : ℕ) → field < 6 → Leads rows row field → link other (ρ row) field ≡ ρ (link rows row field)
+  pub initial : (row : ℕ) → row < rowCount rows → isDeclaration rows row ≡ true → numberAt rows row 2 ≡ 0 → numberAt other (ρ row) 2 ≡ 0
 
 module _ {other rows : List ℤ} {ρ : ℕ → ℕ} (c : Carries other rows ρ) where
   inside-carried : (kinds : ℕ → Bool) {row : ℕ} → Inside rows kinds row → Inside other kinds (ρ row)
@@ -53,11 +54,15 @@ module _ {other rows : List ℤ} {ρ : ℕ → ℕ} (c : Carries other rows ρ) 
     break-inside = λ k. inside-carried _ (p .break-inside (sym (c .kind row n) ∙ k));
     continue-inside = λ k. inside-carried _ (p .continue-inside (sym (c .kind row n) ∙ k));
     mark-inside = λ k. item-carried 47 2 (omega arith) (p .mark-inside (rw (c .kind row n) at k));
-    declaration-inside = λ d. item-carried 42 1 (omega arith) (p .declaration-inside (rw (c .kind row n) at d));
+    declaration-inside = λ d initial. item-carried 42 1 (omega arith) (p .declaration-inside (rw (c .kind row n) at d) (λ z. initial (c .initial row n (rw (c .kind row n) at d) z)));
     return-inside = λ r. let inside = p .return-inside (rw (c .kind row n) at r) in record { definition = ρ (inside .definition); within = within-carried (inside .within) };
   }
 
 -- ---- the resolved table
+
+resolved-second : (S : ℕ) (rows : List ℤ) (row : ℕ) → numberAt (resolved S rows) row 2 ≡ numberAt rows row 2
+unfolding numberAt
+resolved-second S rows row = rw (resolved-kept S rows row 2 (omega arith) (λ q. omega arith))
 
 module _ (S : ℕ) (rows : List ℤ) where
   resolved-carries : Carries (resolved S rows) rows (λ row. row)
@@ -65,6 +70,7 @@ module _ (S : ℕ) (rows : List ℤ) where
     kind = λ row n. resolved-kind S rows row;
     leads = λ row field f leads. resolved-leads S rows f .0 leads;
     to = λ row field f leads. resolved-link S rows row field f;
+    initial = λ row n d z. resolved-second S rows row ∙ z;
   }
 
   pub resolved-placed : ((row : ℕ) → row < rowCount rows → PlacedRow rows row) → (row : ℕ) → row < rowCount (resolved S rows) → PlacedRow (resolved S rows) row

@@ -5,16 +5,12 @@
 pub mod Refusal
 -- Legal: what document 01 demands of a source program, Change 11 of its declarations and Change 13 of its functions.
 pub mod Legal
--- Lower: the lower of the rows that two searches found.
-pub mod Lower
 -- ---- laws
 -- Laws of places: cause 7 is document 01's sentence on break, continue, case and default, Change 11's on declarations and Change 13's on
 -- returns.
 pub mod PlaceLaws
 -- Carried places: in another table that holds a table's rows with their kinds and links, as the resolved one does.
 pub mod Carried
--- Laws of the lower row: a search for either of two properties.
-pub mod LowerLaws
 -- Laws of declarations: a legal source program has at most 64.
 pub mod DeclarationLaws
 -- The theorem: the check accepts the legal source programs and no others.

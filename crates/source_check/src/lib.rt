@@ -1,5 +1,6 @@
 // The check of source programs: the causes that both forms share, then 7, 8 and 9, then those of declarations and of functions.
 use declaration_check::declaration_refusal;
+use declaration_check::lower::lower_of;
 use declaration_check::lowest_outside_block;
 use functions::functions_refusal;
 use functions::lowest_return_outside;
@@ -30,39 +31,12 @@ ghost use Rattle.declaration_causes.specs.Causes.{declarationRefusal};
 ghost use Rattle.function_causes.specs.Functions.{isDefinition};
 ghost use Rattle.function_causes.specs.Causes.{functionRefusal};
 ghost use Rattle.source_check.specs.Refusal.{wronglyPlaced, laterRefusal, refusal};
-ghost use Rattle.source_check.specs.Lower.{lower as lowerOf};
 ghost use Rattle.statement_places.specs.Passes.{AllNotes};
 ghost use Rattle.row_notes.specs.RowNotes.{noteAt};
 ghost use Rattle.statement_places.specs.Places.{inLoop, inLoopOrSwitch, switchItem};
 ghost use Rattle.structure.specs.Passes.{Notes};
 ghost use Rattle.words.specs.Declarations.{declarationCount};
 ghost use Rattle.words.specs.Search.{lowestRow};
-ghost use Rattle.words.specs.declared.Found.the-variants.{At};
-
-// The lower of a row and of one that a search found.
-fn lower_than(row: usize, other: Found) -> Found
-    ensures { λ r. ⌜ r ≡ lowerOf (At row) other ⌝ }
-{
-    match other {
-        Found::At(found) => {
-            if found < row {
-                return Found::At(found);
-            }
-            Found::At(row)
-        }
-        Found::Nothing => Found::At(row),
-    }
-}
-
-// The lower of the rows that two searches found.
-fn lower(one: Found, other: Found) -> Found
-    ensures { λ r. ⌜ r ≡ lowerOf one other ⌝ }
-{
-    match one {
-        Found::At(row) => lower_than(row, other),
-        Found::Nothing => other,
-    }
-}
 
 // Cause 7, in a tree of rows, with the notes of its rows and the number of its declarations.
 fn lowest_wrongly_placed(
@@ -79,7 +53,7 @@ fn lowest_wrongly_placed(
     let misplaced = lowest_misplaced(rows, loops, breakable, items);
     let outside = lowest_outside_block(kinds, rows, declared);
     let returned = lowest_return_outside(kinds, rows);
-    lower(misplaced, lower(outside, returned))
+    lower_of(misplaced, lower_of(outside, returned))
 }
 
 // Causes 18 to 20, then 23 and 24, in a tree of rows, with the number of its declarations.

@@ -1,40 +1,48 @@
 -- Asks: what the leaves ask of their caller, and what they find of atoms and places.
 use mathlib.Core.Path.{_≡_}
+use mathlib.Core.Bool.{Bool, false}
 use mathlib.Core.List.{List}
-use Prim.Native.Nat.{ℕ, _*_, _≤_, _<_}
+use Prim.Native.Nat.{ℕ, _*_, _-_, _≤_, _<_}
 use lib.IntN.{ℤ}
 use Rattle.words.specs.Table.{rowCount}
-use Rattle.language.specs.Trees.{variable, element}
+use Rattle.language.specs.Trees.{Expression, variable, element}
 use Rattle.language.specs.Writes.{writes, indexWrites}
 use Rattle.language.specs.Decode.{placeOf, expressionAt}
 use Rattle.translation.specs.Uses.{direct}
 use Rattle.translation.specs.declared.Use.{Use}
-use Rattle.translation.specs.Translate.{atomOf, atom, targetWord, kernelPlace}
-use Rattle.translation.specs.TranslateSize.{indexRows as indexRowsOf, storeRows, copied}
+use Rattle.translation.specs.Translate.{atomOf, atom, targetWord, kernelPlace, expressionLevels}
+use Rattle.translation.specs.TranslateSize.{indexRows as indexRowsOf, storeRows, copied, ownRows}
 use Rattle.translation.specs.HeldCode.{heldBy}
-use Rattle.measure_table.specs.Parts.{calledIn, UseFits}
+use Rattle.measure_table.specs.Parts.{calledIn, firstCopied, UseFits}
 use Rattle.measure_table.specs.Measures.{Measured}
+use Rattle.shapes.specs.Functions.{isCall}
 use Rattle.shapes.specs.Source.{mostWords, mostArrays}
 use Rattle.shapes.specs.Shapes.{placeTree as placeShapeTree}
 use Rattle.shapes.specs.declared.PlaceShape.{PlaceShape}
 use Rattle.shapes.specs.declared.PlaceShape.the-variants.{Variable as VariableShape, Element as ElementShape}
 use Rattle.leaves.specs.Room.{Room}
 use Rattle.leaves.specs.Atoms.{atomTree, placeTree, AtomFits, PlaceFits}
-use Rattle.leaves.specs.Straight.{lastSize}
 use Rattle.leaves.specs.declared.KernelAtom.{KernelAtom}
 use Rattle.leaves.specs.declared.KernelPlace.{KernelPlace}
 
--- The source is measured; the store has S words.
+-- The source is measured; the temporaries begin at store word S.
 pub record Writing (rows : List ℤ) (table : List ℕ) (S : ℕ) : Type 0 where
   pub measured : Measured rows table
-  pub small-store : S ≤ 8256
+  -- the words of the source, and the temporaries of what may call
+  pub small-store : S ≤ 10304
+  -- an expression has no more levels than rows, and each row is linked once
+  pub few-levels : (row : ℕ) → row < rowCount rows → (u : Use) → expressionLevels (calledIn rows) (expressionAt rows row) u ≤ 2048
 
--- What an expression does behind its first two operands.
-pub record LastAsks (rows : List ℤ) (row : ℕ) (u : Use) (level base words : ℕ) : Type 0 where
+-- The rows of what an expression that chooses and calls nothing does with its operands' values.
+abbrev pub straightSize : (ℕ → ℕ → Bool) → Expression → Use → ℕ
+straightSize called e u = ownRows called e u - 4 * firstCopied called e
+
+pub record StraightAsks (rows : List ℤ) (row : ℕ) (u : Use) (level base words : ℕ) : Type 0 where
   pub inside : row < rowCount rows
-  pub level-low : level ≤ row
+  pub no-call : isCall (expressionAt rows row) ≡ false
+  pub level-low : level ≤ 2048
   pub use-fits : UseFits u
-  pub room : Room (lastSize (calledIn rows) (expressionAt rows row) u) base words
+  pub room : Room (straightSize (calledIn rows) (expressionAt rows row) u) base words
 
 -- The word where an element's value or an operation's result goes.
 pub record TargetIs (S : ℕ) (u : Use) (t r : ℕ) : Type 0 where

@@ -2,36 +2,35 @@
 use mathlib.Core.Path.{_≡_, refl, sym, ap, subst, _∙_}
 use mathlib.Core.Bool.{Bool, true, false}
 use mathlib.Core.List.{List}
-use Prim.Native.Nat.{ℕ, _+_, _<_}
+use Prim.Native.Nat.{ℕ, zero, suc, _+_, _*_, _≤_, _<_}
 use native.Mathlib.Omega.{arith}
 use lib.IntN.{ℤ}
 use borrow.Author.Tests.{eq-eqb, ne-eqb}
 use Rattle.words.specs.Table.{rowCount}
 use Rattle.language.specs.Trees.{Expression, constant, assign, Place, variable, element, none}
-use Rattle.language.specs.Sizes.{expressionRows}
+use Rattle.language.specs.Sizes.{expressionRows, itemsRows}
 use Rattle.language.specs.Decode.{expressionAt}
 use Rattle.language.specs.Writes.{indexWrites}
 use Rattle.translation.specs.Uses.{direct}
 use Rattle.translation.specs.declared.Use.{Use}
 use Rattle.translation.specs.declared.Use.the-variants.{Dropped as dropped, Wanted as wanted, Stored as stored}
-use Rattle.translation.specs.Translate.{Atom as Held, held, atomOf, taken, temporary, atom, assigning, targetWord, kernelPlace}
+use Rattle.translation.specs.Translate.{Atom as Held, number, word, top, held, atomOf, taken, temporary, atom, assigning, targetWord, kernelPlace}
 use Rattle.translation.specs.TranslateSize.{updateRows, postfixRows, copied}
 use Rattle.translation.specs.HeldCode.{taken-held, held-variable as held-no-index, heldBy, held-by, holdBy}
 use Rattle.shapes.specs.Shapes.{choiceTree, expressionTree, PlaceOnward}
-use Rattle.shapes.specs.Source.{Source, Name, mostArrays, ExpressionAt, PlaceAt as ShapePlaceAt}
+use Rattle.shapes.specs.Source.{Name, mostArrays, ExpressionAt, PlaceAt as ShapePlaceAt}
 use Rattle.measure_table.specs.Parts.{calledIn, UseFits, Holding}
-use Rattle.measure_table.specs.PlainRows.{no-call}
 use Rattle.measure_table.specs.declared.Holder.the-variants.{Number as NumberHolder, Variable as VariableHolder, Temporary}
 use Rattle.shapes.specs.declared.PlaceShape.{PlaceShape}
 use Rattle.shapes.specs.declared.PlaceShape.the-variants.{Variable as VariableShape, Element as ElementShape}
 use Rattle.shapes.specs.declared.ChoiceShape.{ChoiceShape}
 use Rattle.shapes.specs.declared.ChoiceShape.the-variants.{And, Or, Conditional}
 use Rattle.shapes.specs.declared.ExpressionShape.{ExpressionShape}
-use Rattle.shapes.specs.declared.ExpressionShape.the-variants.{Choice, Call}
+use Rattle.shapes.specs.declared.ExpressionShape.the-variants.{Choice}
 use Rattle.leaves.specs.Room.{Room}
-use Rattle.leaves.specs.Straight.{straightCode, lastSize}
+use Rattle.leaves.specs.Straight.{straightCode}
 use Rattle.leaves.specs.Atoms.{atomTree}
-use Rattle.straight_writers.specs.Asks.{AtomAt, TargetIs, HeldAt, PlaceInside, HeldPlace, PlaceAt}
+use Rattle.straight_writers.specs.Asks.{straightSize, AtomAt, TargetIs, HeldAt, PlaceInside, HeldPlace, PlaceAt}
 use Rattle.leaves.specs.declared.KernelAtom.{KernelAtom}
 use Rattle.leaves.specs.declared.KernelAtom.the-variants.{Constant, Variable}
 use Rattle.leaves.specs.declared.KernelPlace.{KernelPlace}
@@ -82,6 +81,15 @@ hold-copied S t k e a = rw (eq-eqb k 1 e, a .is)
 
 pub hold-nothing : (S t k : ℕ) (h : Held) → (k ≡ 1 → ⊥) → none ≡ holdBy S t k h
 hold-nothing S t k h n = rw (ne-eqb k 1 n)
+
+-- its rows
+pub rows-hold : (S t k : ℕ) (h : Held) → k ≤ 1 → itemsRows (holdBy S t k h) ≡ 4 * k
+unfolding itemsRows expressionRows
+rows-hold S t zero h l = refl
+rows-hold S t (suc zero) (number v) l = refl
+rows-hold S t (suc zero) (word i) l = refl
+rows-hold S t (suc zero) top l = refl
+rows-hold S t (suc (suc k)) h l = absurd (omega arith)
 
 -- an atom is one row
 pub atom-rows : (x : KernelAtom) → expressionRows (atomTree x) ≡ 1
@@ -147,8 +155,8 @@ module _ (called : ℕ → ℕ → Bool) where
 
 -- ---- room, by the shape
 
-pub room-by-shape : {rows : List ℤ} {row base words : ℕ} {s : ExpressionShape} (u : Use) → ExpressionAt rows row s → Room (lastSize (calledIn rows) (expressionAt rows row) u) base words → Room (lastSize (calledIn rows) (expressionTree rows s) u) base words
-room-by-shape {rows} {row} {base} {words} u f r = subst (λ (e : Expression). Room (lastSize (calledIn rows) e u) base words) (f .is) r
+pub room-by-shape : {rows : List ℤ} {row base words : ℕ} {s : ExpressionShape} (u : Use) → ExpressionAt rows row s → Room (straightSize (calledIn rows) (expressionAt rows row) u) base words → Room (straightSize (calledIn rows) (expressionTree rows s) u) base words
+room-by-shape {rows} {row} {base} {words} u f r = subst (λ (e : Expression). Room (straightSize (calledIn rows) e u) base words) (f .is) r
 
 -- ---- a choice does nothing with values by itself
 
@@ -159,8 +167,3 @@ no-code S rows (Conditional c a b) u t = refl
 
 pub choice-none : {rows : List ℤ} {row : ℕ} {c : ChoiceShape} (S : ℕ) (u : Use) (t : ℕ) → ExpressionAt rows row (Choice c) → none ≡ straightCode (calledIn rows) S (expressionAt rows row) u t
 choice-none {rows} {row} {c} S u t f = sym (no-code S rows c u t) ∙ ap (λ (e : Expression). straightCode (calledIn rows) S e u t) (sym (f .is))
-
--- ---- a call: no form has functions yet
-
-pub call-none : {rows : List ℤ} {row f link : ℕ} (S : ℕ) (u : Use) (t : ℕ) → Source rows → row < rowCount rows → ExpressionAt rows row (Call f link) → none ≡ straightCode (calledIn rows) S (expressionAt rows row) u t
-call-none {rows} {row} S u t s inside f = absurd (no-call s row inside (f .is))

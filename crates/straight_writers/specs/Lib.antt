@@ -6,3 +6,5 @@ pub mod Asks
 -- ---- laws
 -- Laws of atoms and places.
 pub mod AtomLaws
+-- Laws of levels.
+pub mod LevelLaws

@@ -38,7 +38,7 @@ ghost use Rattle.words.specs.Over.{over};
 ghost use Rattle.leaves.specs.Room.{Room};
 ghost use Rattle.leaves.specs.Atoms.{atomTree, placeTree, AtomFits, PlaceFits};
 ghost use Rattle.leaves.specs.Straight.{straightCode, elementUpdate, keptStep};
-ghost use Rattle.straight_writers.specs.Asks.{Writing, LastAsks, ReadAsks, VariableAsks, ElementAsks, AssignmentAsks, OperationAsks, OperatorAsks};
+ghost use Rattle.straight_writers.specs.Asks.{Writing, StraightAsks, ReadAsks, VariableAsks, ElementAsks, AssignmentAsks, OperationAsks, OperatorAsks};
 
 // The copy of a value that waits, into the temporary of its level; nothing where it is not copied.
 pub fn put_hold(
@@ -377,7 +377,7 @@ fn put_operator(
     );
 }
 
-// What the expression at a row does with its operands' values.
+// What the expression at a row, which is no call, does with its operands' values.
 pub fn put_straight(
     rows: &[i32],
     table: &[usize],
@@ -389,7 +389,7 @@ pub fn put_straight(
     follows: bool,
     out: &mut [i32],
 )
-    requires { ⌜ Writing (now rows) (now table) store × LastAsks (now rows) row usage level base (length (now out)) ⌝ }
+    requires { ⌜ Writing (now rows) (now table) store × StraightAsks (now rows) row usage level base (length (now out)) ⌝ }
     ensures { λ _. ⌜ now (out .exit) ≡ over (emitItems follows (straightCode (calledIn (now (rows .entry))) store (expressionAt (now (rows .entry)) row) usage level) base) (now (out .entry)) ⌝ }
 {
     let number = target_word(store, level, usage);
@@ -441,7 +441,7 @@ pub fn put_straight(
             }
         },
         ExpressionShape::Choice(_) => {}
-        // no form has functions yet
+        // is no call
         ExpressionShape::Call(_, _) => {}
     }
 }

@@ -7,6 +7,7 @@ use native.Mathlib.Nat.{add-zero}
 use native.Mathlib.Omega.{arith}
 use native.Mathlib.Numerals.{add-one}
 use native.Mathlib.Decide.{ℕ-discrete}
+use lib.Arith.{lt-of-le-ne}
 use lib.Dec.{eqb}
 use lib.IntN.{ℤ}
 use lib.ListN.{length, getD, set, length-set}
@@ -21,7 +22,8 @@ use Rattle.words.specs.Links.{link, target}
 use Rattle.structure.specs.Links.{linksAmong, linkCount, notOnce}
 use Rattle.structure.specs.LinkLaws.{word-of, links-hit, links-miss}
 use Rattle.structure.specs.NoteLaws.{above-zero}
-use Rattle.structure.specs.Passes.{capped, raised, marked, markedLink, Unmarked, Marked}
+use Rattle.structure.specs.Passes.{capped, raised, marked, markedLink, Unmarked, Marked, Cleared}
+use Rattle.row_roles.specs.Passes.{Blank}
 
 -- ---- what `mark` does
 
@@ -51,12 +53,27 @@ capped-one zero = refl
 capped-one (suc zero) = refl
 capped-one (suc (suc n)) = sym (ne-eqb (suc (suc n)) 1 (λ e. omega arith))
 
-pub marked-start : (form : Form) (rows : List ℤ) (marks : List ℕ) → countFits form (length rows) ≡ true → Unmarked form marks → Marked rows 0 marks
-unfolding linksAmong capped
-marked-start form rows marks fits u =
+pub blank-start : (form : Form) (rows : List ℤ) (marks : List ℕ) → countFits form (length rows) ≡ true → Unmarked form marks → Blank rows marks
+blank-start form rows marks fits u =
     let few = countFits-facts form (length rows) fits .most in
     let enough = u .room in
-    record { room = omega arith; counts = λ row p n. u .none row (omega arith) }
+    record { room = omega arith; none = λ row n. u .none row (omega arith) }
+
+pub marked-start : (rows : List ℤ) (before after : List ℕ) → rowCount rows ≤ length before → Cleared (rowCount rows) before after → Marked rows 0 after
+unfolding linksAmong capped
+marked-start rows before after room c = record { room = rw (c .same) room; counts = λ row p n. c .none row n }
+
+-- ---- marks taken away
+
+pub cleared-none : (marks : List ℕ) → Cleared 0 marks marks
+cleared-none marks = record { same = refl; none = λ row n. absurd (omega arith) }
+
+pub cleared-more : {count : ℕ} {before marks : List ℕ} → count < length before → Cleared count before marks → Cleared (count + 1) before (set marks count 0)
+cleared-more {count} {before} {marks} h c = record { same = length-set marks count 0 ∙ c .same; none = λ row n. at row n (ℕ-discrete row count) }
+  where
+    at : (row : ℕ) → row < count + 1 → Dec (row ≡ count) → getD (set marks count 0) row 0 ≡ 0
+    at row n (yes q) = let same = c .same in rw q (getD-set-same marks count 0 0 (omega arith))
+    at row n (no q) = getD-set-other marks count row 0 0 q ∙ c .none row (lt-of-le-ne (omega arith) q)
 
 pub length-marked : (marks : List ℕ) (row : ℕ) → length (marked marks row) ≡ length marks
 unfolding marked

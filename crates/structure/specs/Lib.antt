@@ -26,3 +26,5 @@ pub mod RefusalLaws
 pub mod CauseLaws
 -- Laws of structure: the causes 1 to 6 accept exactly the structured tables, whose rows make a tree.
 pub mod StructuredLaws
+-- Laws of roles: the parameters of a structured table, along its links.
+pub mod RoleLaws

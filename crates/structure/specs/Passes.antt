@@ -80,6 +80,11 @@ pub record Marked (rows : List ℤ) (words : ℕ) (marks : List ℕ) : Type 0 wh
   pub room : rowCount rows ≤ length marks
   pub counts : (row : ℕ) → 0 < row → row < rowCount rows → getD marks row 0 ≡ capped (linksAmong rows words row)
 
+-- The marks of the first `count` rows are taken away.
+pub record Cleared (count : ℕ) (before after : List ℕ) : Type 0 where
+  pub same : length after ≡ length before
+  pub none : (row : ℕ) → row < count → getD after row 0 ≡ 0
+
 -- ---- notes that go along the links
 
 -- What a word writes: where it links a row, that row's note.

@@ -10,6 +10,7 @@ use Rattle.words.specs.Layout.{countFits, depthLimit}
 use Rattle.words.specs.declared.Form.{Form}
 use Rattle.words.specs.Kinds.{unused, sortAt, inLanguage, isRequired}
 use Rattle.words.specs.Links.{link, fits}
+use Rattle.row_roles.specs.Roles.{roleSort}
 use Rattle.row_fields.specs.Fields.{numberFits}
 use Rattle.structure.specs.Links.{linkCount}
 use Rattle.row_fields.specs.declared.Bounds.{Bounds}
@@ -30,10 +31,11 @@ pub record Structured (form : Form) (bounds : Bounds) (rows : List ℤ) : Type 0
   -- Every kind is in the language. "Unused fields are 0."
   pub known : (row : ℕ) → row < rowCount rows → inLanguage form (numberAt rows row 0) ≡ true
   pub unused-zero : EachField rows (λ row field. sortAt rows row field ≡ unused → numberAt rows row field ≡ 0)
-  -- "A link is a row number greater than the row's own; 0 means absent." It leads to a row of the fitting sort.
-  pub present : EachField rows (λ row field. isRequired (sortAt rows row field) ≡ true → 0 < link rows row field)
+  -- "A link is a row number greater than the row's own; 0 means absent." It leads to a row of the sort that fits the field, by the row's
+  -- role: a parameter has no b, and its next is a parameter.
+  pub present : EachField rows (λ row field. isRequired (roleSort rows row field) ≡ true → 0 < link rows row field)
   pub forward : EachField rows (λ row field. 0 < link rows row field → Leads rows row field)
-  pub fitting : EachField rows (λ row field. 0 < link rows row field → fits rows (sortAt rows row field) (link rows row field) ≡ true)
+  pub fitting : EachField rows (λ row field. 0 < link rows row field → fits rows (roleSort rows row field) (link rows row field) ≡ true)
   -- "Row 0 is a block with next 0, and every other row is linked exactly once."
   pub block : numberAt rows 0 0 ≡ 42
   pub lone : numberAt rows 0 5 ≡ 0

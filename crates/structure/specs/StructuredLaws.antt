@@ -18,6 +18,8 @@ use Rattle.words.specs.declared.Verdict.the-variants.{Accepted}
 use Rattle.words.specs.Kinds.{unused, variable, array, label, declaredNumber, sortOf, sortAt, between, inLanguage, isLink, isRequired}
 use Rattle.words.specs.KindLaws.{required-link}
 use Rattle.words.specs.Links.{link, fits}
+use Rattle.row_roles.specs.Roles.{roleSort}
+use Rattle.row_roles.specs.RoleLaws.{role-links}
 use Rattle.words.specs.Search.{lowestRow, someField}
 use Rattle.words.specs.SearchLaws.{lowestRow-all, all-lowestRow, someField-all, all-someField}
 use Rattle.row_fields.specs.Fields.{foreign, leadsRight, mislinked, boundsOf, numberFits, outside}
@@ -78,19 +80,20 @@ module _ (rows : List ℤ) (row field : ℕ) where
   pub record Fitting : Type 0 where
     pub is : link rows row field ≡ numberAt rows row field
     pub leads : Leads rows row field
-    pub fit : fits rows (sortAt rows row field) (link rows row field) ≡ true
+    pub fit : fits rows (roleSort rows row field) (link rows row field) ≡ true
 
-  link-there : 0 < link rows row field → (isLink (sortAt rows row field) ≡ true) × (link rows row field ≡ numberAt rows row field)
+  link-there : 0 < link rows row field → (isLink (roleSort rows row field) ≡ true) × (link rows row field ≡ numberAt rows row field)
   unfolding link
   link-there h = go (isLink (sortAt rows row field)) refl h
     where
-      go : (b : Bool) → isLink (sortAt rows row field) ≡ b → 0 < pick b (numberAt rows row field) 0 → (isLink (sortAt rows row field) ≡ true) × (pick (isLink (sortAt rows row field)) (numberAt rows row field) 0 ≡ numberAt rows row field)
-      go true e h = (e, rw e)
+      go : (b : Bool) → isLink (sortAt rows row field) ≡ b → 0 < pick b (numberAt rows row field) 0 → (isLink (roleSort rows row field) ≡ true) × (pick (isLink (sortAt rows row field)) (numberAt rows row field) 0 ≡ numberAt rows row field)
+      go true e h = (role-links rows row field ∙ e, rw e)
       go false e h = absurd (omega arith)
 
-  is-link : isLink (sortAt rows row field) ≡ true → link rows row field ≡ numberAt rows row field
+  -- a field of a link's sort, in its role, links the row that its number names
+  is-link : isLink (roleSort rows row field) ≡ true → link rows row field ≡ numberAt rows row field
   unfolding link
-  is-link e = rw e
+  is-link e = rw (← role-links rows row field, e)
 
   right-link : mislinked rows row field ≡ false → 0 < link rows row field → Fitting
   unfolding mislinked leadsRight
@@ -103,23 +106,23 @@ module _ (rows : List ℤ) (row field : ℕ) where
       let inside = both (ltb (numberAt rows row field) (rowCount rows)) _ (later .1) in
       record { is = is; leads = record { later = rw is (ltb-true _ _ (later .0)); inside = rw is (ltb-true _ _ (inside .0)) }; fit = rw is (inside .1) }
 
-  right-present : mislinked rows row field ≡ false → isRequired (sortAt rows row field) ≡ true → 0 < link rows row field
+  right-present : mislinked rows row field ≡ false → isRequired (roleSort rows row field) ≡ true → 0 < link rows row field
   unfolding mislinked
   right-present e r =
-      let l = required-link (sortAt rows row field) r in
+      let l = required-link (roleSort rows row field) r in
       rw (is-link l) (above-zero (numberAt rows row field) (λ q. true≢false (sym r ∙ (rw (l, eq-eqb _ _ q) at e))))
 
-  link-right : (isRequired (sortAt rows row field) ≡ true → 0 < link rows row field) → (0 < link rows row field → Leads rows row field)
-      → (0 < link rows row field → fits rows (sortAt rows row field) (link rows row field) ≡ true) → mislinked rows row field ≡ false
+  link-right : (isRequired (roleSort rows row field) ≡ true → 0 < link rows row field) → (0 < link rows row field → Leads rows row field)
+      → (0 < link rows row field → fits rows (roleSort rows row field) (link rows row field) ≡ true) → mislinked rows row field ≡ false
   unfolding mislinked leadsRight
-  link-right present forward fitting = go (isLink (sortAt rows row field)) refl (ℕ-discrete (numberAt rows row field) 0)
+  link-right present forward fitting = go (isLink (roleSort rows row field)) refl (ℕ-discrete (numberAt rows row field) 0)
     where
-      needed : (b : Bool) → isRequired (sortAt rows row field) ≡ b → isLink (sortAt rows row field) ≡ true → numberAt rows row field ≡ 0 → isRequired (sortAt rows row field) ≡ false
+      needed : (b : Bool) → isRequired (roleSort rows row field) ≡ b → isLink (roleSort rows row field) ≡ true → numberAt rows row field ≡ 0 → isRequired (roleSort rows row field) ≡ false
       needed true r l q = absurd (let p = present r in let s = is-link l in omega arith)
       needed false r l q = r
 
-      go : (b : Bool) → isLink (sortAt rows row field) ≡ b → Dec (numberAt rows row field ≡ 0) → mislinked rows row field ≡ false
-      go true l (yes q) = rw (l, eq-eqb _ _ q) (needed (isRequired (sortAt rows row field)) refl l q)
+      go : (b : Bool) → isLink (roleSort rows row field) ≡ b → Dec (numberAt rows row field ≡ 0) → mislinked rows row field ≡ false
+      go true l (yes q) = rw (l, eq-eqb _ _ q) (needed (isRequired (roleSort rows row field)) refl l q)
       go true l (no q) =
           let is = is-link l in
           let there : 0 < link rows row field = rw is (above-zero _ q) in
@@ -131,7 +134,7 @@ module _ (rows : List ℤ) (row field : ℕ) where
 
 kind-linked : (rows : List ℤ) (row : ℕ) → mislinked rows row 0 ≡ false
 unfolding mislinked sortAt
-kind-linked rows row = rw (kind-no-link (numberAt rows row 0))
+kind-linked rows row = rw (role-links rows row 0, kind-no-link (numberAt rows row 0))
 
 no-number-fits : (bounds : Bounds) (sort number : ℕ) → between variable declaredNumber sort ≡ false → numberFits bounds sort number ≡ true
 unfolding numberFits

@@ -1,6 +1,7 @@
 // The lowest row that breaks a cause, and the causes 1 to 6 in order.
 use super::links::is_not_once;
 use super::links::mark_links;
+use super::links::unmark;
 use grammar::KindTable;
 use grammar::kinds::kind_table;
 use row_fields::Bounds;
@@ -8,6 +9,7 @@ use row_fields::fields::bounds_of;
 use row_fields::fields::is_foreign;
 use row_fields::fields::is_mislinked;
 use row_fields::fields::is_outside;
+use row_roles::mark_parameters;
 use words::Form;
 use words::Found;
 use words::Refusal;
@@ -20,6 +22,7 @@ ghost use lib.ListN.{length, getD};
 ghost use Rattle.words.specs.Table.{rowCount};
 ghost use Rattle.grammar.specs.Grammar.{grammar};
 ghost use Rattle.words.specs.Search.{lowestRow};
+ghost use Rattle.row_roles.specs.Passes.{Blank, Parameters};
 ghost use Rattle.structure.specs.Links.{linkCount, notOnce};
 ghost use Rattle.structure.specs.Refusal.{at as atCause, rowCauses, structuralRefusal};
 ghost use Rattle.structure.specs.Passes.{fieldCause, rowCause, lowered, lowestCause, laterCauses, Unmarked, Marked};
@@ -30,16 +33,17 @@ fn field_cause(
     form: Form,
     bounds: Bounds,
     rows: &[i32],
+    parameters: &[u8],
     row: usize,
     field: usize,
 ) -> u32
-    requires { ⌜ (6 * row + 5 < length (now rows)) × (field < 6) × (now kinds ≡ grammar) ⌝ }
+    requires { ⌜ (6 * row + 5 < length (now rows)) × (field < 6) × Parameters (now rows) (now parameters) × (now kinds ≡ grammar) ⌝ }
     ensures { λ r. ⌜ r ≡ fieldCause form bounds (now (rows .entry)) row field ⌝ }
 {
     if is_foreign(kinds, form, rows, row, field) {
         return 3;
     }
-    if is_mislinked(kinds, rows, row, field) {
+    if is_mislinked(kinds, rows, parameters, row, field) {
         return 4;
     }
     if is_outside(kinds, bounds, rows, row, field) {
@@ -58,14 +62,24 @@ fn lesser(one: u32, other: u32) -> u32
 }
 
 // The least of the three causes that a field of the row breaks.
-fn row_cause(kinds: &KindTable, form: Form, bounds: Bounds, rows: &[i32], row: usize) -> u32
-    requires { ⌜ (6 * row + 5 < length (now rows)) × (now kinds ≡ grammar) ⌝ }
+fn row_cause(
+    kinds: &KindTable,
+    form: Form,
+    bounds: Bounds,
+    rows: &[i32],
+    parameters: &[u8],
+    row: usize,
+) -> u32
+    requires { ⌜ (6 * row + 5 < length (now rows)) × Parameters (now rows) (now parameters) × (now kinds ≡ grammar) ⌝ }
     ensures { λ r. ⌜ r ≡ rowCause form bounds (now (rows .entry)) row ⌝ }
 {
     let mut cause: u32 = 7;
     let mut field: usize = 0;
     while field < 6 {
-        cause = lesser(cause, field_cause(kinds, form, bounds, rows, row, field));
+        cause = lesser(
+            cause,
+            field_cause(kinds, form, bounds, rows, parameters, row, field),
+        );
         field += 1;
     }
     cause
@@ -85,9 +99,15 @@ fn lower(found: Refusal, cause: u32, row: usize) -> Refusal
 }
 
 // The least of the three causes that a row breaks, at the lowest row that breaks it: causes 3 and 4 come before all that follows, and
-// where neither is broken, the lowest row that breaks 6 is known.
-fn lowest_cause(kinds: &KindTable, form: Form, bounds: Bounds, rows: &[i32]) -> Refusal
-    requires { ⌜ now kinds ≡ grammar ⌝ }
+// where neither is broken, the lowest row that breaks 6 is known. `parameters` marks the parameters.
+fn lowest_marked_cause(
+    kinds: &KindTable,
+    form: Form,
+    bounds: Bounds,
+    rows: &[i32],
+    parameters: &[u8],
+) -> Refusal
+    requires { ⌜ Parameters (now rows) (now parameters) × (now kinds ≡ grammar) ⌝ }
     ensures { λ r. ⌜ r ≡ lowestCause (rowCause form bounds (now (rows .entry))) (rowCount (now (rows .entry))) ⌝ }
 {
     let count = rows.len() / 6;
@@ -97,10 +117,29 @@ fn lowest_cause(kinds: &KindTable, form: Form, bounds: Bounds, rows: &[i32]) -> 
     };
     let mut row: usize = 0;
     while row < count {
-        found = lower(found, row_cause(kinds, form, bounds, rows, row), row);
+        found = lower(
+            found,
+            row_cause(kinds, form, bounds, rows, parameters, row),
+            row,
+        );
         row += 1;
     }
     found
+}
+
+// The same: the parameters are marked first.
+fn lowest_cause(
+    kinds: &KindTable,
+    form: Form,
+    bounds: Bounds,
+    rows: &[i32],
+    marks: &mut [u8],
+) -> Refusal
+    requires { ⌜ Blank (now rows) (now marks) × (now kinds ≡ grammar) ⌝ }
+    ensures { λ r. ⌜ r ≡ lowestCause (rowCause form bounds (now (rows .entry))) (rowCount (now (rows .entry))) ⌝ }
+{
+    mark_parameters(rows, marks);
+    lowest_marked_cause(kinds, form, bounds, rows, marks)
 }
 
 // The mark of a row; 0 where there is none.
@@ -168,7 +207,7 @@ fn later_causes(kinds: &KindTable, rows: &[i32], marks: &mut [u8], found: Refusa
     Verdict::Accepted
 }
 
-// Causes 3 to 6.
+// Causes 3 to 6. The marks are those of the parameters first, then those of the links.
 fn row_causes(
     kinds: &KindTable,
     form: Form,
@@ -176,19 +215,20 @@ fn row_causes(
     rows: &[i32],
     marks: &mut [u8],
 ) -> Verdict
-    requires { ⌜ (6 * (length (now rows) / 6) ≡ length (now rows)) × Marked (now rows) 0 (now marks) × (now kinds ≡ grammar) ⌝ }
+    requires { ⌜ (6 * (length (now rows) / 6) ≡ length (now rows)) × Blank (now rows) (now marks) × (now kinds ≡ grammar) ⌝ }
     ensures { λ r. ⌜ r ≡ rowCauses form bounds (now (rows .entry)) ⌝ }
 {
-    let found = lowest_cause(kinds, form, bounds, rows);
+    let found = lowest_cause(kinds, form, bounds, rows, marks);
     if found.number < 5 {
         return Verdict::Refused(found);
     }
+    unmark(rows.len() / 6, marks);
     later_causes(kinds, rows, marks, found)
 }
 
 // The same, with the table of kinds: it is built here, once, and lent on.
 fn table_causes(form: Form, bounds: Bounds, rows: &[i32], marks: &mut [u8]) -> Verdict
-    requires { ⌜ (6 * (length (now rows) / 6) ≡ length (now rows)) × Marked (now rows) 0 (now marks) ⌝ }
+    requires { ⌜ (6 * (length (now rows) / 6) ≡ length (now rows)) × Blank (now rows) (now marks) ⌝ }
     ensures { λ r. ⌜ r ≡ rowCauses form bounds (now (rows .entry)) ⌝ }
 {
     let kinds = kind_table();

@@ -3,11 +3,11 @@ use grammar::KindTable;
 use grammar::link;
 use words::table::number_at;
 ghost use mathlib.Core.Path.{_≡_};
-ghost use Prim.Native.Nat.{_+_, _*_, _/_, _<_};
+ghost use Prim.Native.Nat.{_+_, _*_, _/_, _<_, _≤_};
 ghost use lib.ListN.{length};
 ghost use Rattle.grammar.specs.Grammar.{grammar};
 ghost use Rattle.structure.specs.Links.{notOnce, loneBlock};
-ghost use Rattle.structure.specs.Passes.{marked, markedLink, Marked};
+ghost use Rattle.structure.specs.Passes.{marked, markedLink, Marked, Cleared};
 
 // Marks one more link to a row: 0, 1, or 2 for more.
 fn mark(marks: &mut [u8], row: usize)
@@ -50,6 +50,16 @@ pub fn mark_links(kinds: &KindTable, rows: &[i32], marks: &mut [u8])
     let count = rows.len() / 6;
     for row in 0..count {
         mark_row(kinds, rows, marks, row);
+    }
+}
+
+// Takes the marks of so many rows away.
+pub fn unmark(count: usize, marks: &mut [u8])
+    requires { ⌜ count ≤ length (now marks) ⌝ }
+    ensures { λ _. ⌜ Cleared count (now (marks .entry)) (now (marks .exit)) ⌝ }
+{
+    for row in 0..count {
+        marks[row] = 0;
     }
 }
 

@@ -198,7 +198,7 @@ module _ (called : ℕ → ℕ → Bool) where
   mutual
     unfolding expressionLevels expressionRows
 
-    levels-most : (e : Expression) (u : Use) → expressionLevels called e u ≤ expressionRows e
+    pub levels-most : (e : Expression) (u : Use) → expressionLevels called e u ≤ expressionRows e
     levels-most (constant v) u = omega arith
     levels-most (read p) u = omega (arith, index-levels-most p, place-some p, read-most p u)
     levels-most (minus e) u = omega (arith, levels-most e wanted, result-most u)

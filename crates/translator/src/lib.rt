@@ -1,15 +1,14 @@
 // The translator: writes the kernel header and the kernel rows of a source program that the check accepts.
 use header::write_header;
-use measure_table::STATEMENT_LEVELS;
-use measure_table::STATEMENT_ROWS;
 use measures::pass::measure;
+use measures::program::measured_program;
 use program_rows::resolve_accepted;
+use program_writers::program::write_program;
 use words::Form;
 use words::Refusal;
 use words::Verdict;
 use words::declarations::declaration_count;
 use words::layout::store_size;
-use writers::program::write_program;
 ghost use mathlib.Core.Path.{_≡_};
 ghost use Rattle.words.specs.declared.Form.the-variants.{Source};
 ghost use Rattle.words.specs.declared.Verdict.the-variants.{Accepted};
@@ -39,6 +38,7 @@ fn write_measured(
     requires { ⌜ (sourceRefusal (now header) (now rows) ≡ Accepted) × (now resolved ≡ resolvedRows Source (now header) (now rows)) × Measured (now resolved) (now table) ⌝ }
     ensures { λ r. ⌜ answerAndTables r (now («kernel_header» .exit)) (now («kernel_rows» .exit)) ≡ translateAfter Accepted (now (header .entry)) (now (rows .entry)) (now («kernel_header» .entry)) (now («kernel_rows» .entry)) ⌝ }
 {
+    let program = measured_program(resolved, table);
     let header_words = header.len() + 2;
     if header_words > kernel_header.len() {
         return TranslateAnswer::Refused(Refusal {
@@ -46,7 +46,7 @@ fn write_measured(
             place: 0,
         });
     }
-    let row_words = 6 * table[STATEMENT_ROWS];
+    let row_words = 6 * (1 + program.rows);
     if row_words > kernel_rows.len() {
         return TranslateAnswer::Refused(Refusal {
             number: 10,
@@ -54,9 +54,16 @@ fn write_measured(
         });
     }
     let declared = declaration_count(rows);
-    write_header(header, declared, table[STATEMENT_LEVELS], kernel_header);
+    write_header(header, declared, program.levels, kernel_header);
     let first = store_size(Form::Source, header) + declared;
-    write_program(resolved, table, first, kernel_rows);
+    write_program(
+        resolved,
+        table,
+        first,
+        program.rows,
+        program.levels,
+        kernel_rows,
+    );
     TranslateAnswer::Translated(header_words, row_words)
 }
 
@@ -72,7 +79,7 @@ fn translate_table(
     ensures { λ r. ⌜ answerAndTables r (now («kernel_header» .exit)) (now («kernel_rows» .exit)) ≡ translateAfter Accepted (now (header .entry)) (now (rows .entry)) (now («kernel_header» .entry)) (now («kernel_rows» .entry)) ⌝ }
 {
     let store = store_size(Form::Source, header);
-    let mut table = [0usize; 36864];
+    let mut table = [0usize; 38912];
     measure(store, resolved, &mut table);
     write_measured(header, rows, resolved, &table, kernel_header, kernel_rows)
 }

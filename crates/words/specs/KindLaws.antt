@@ -1,18 +1,16 @@
 -- Laws of the table of kinds: what holds of every kind is tested over the table.
 use mathlib.Core.Path.{_≡_, refl, sym, ap, _∙_}
-use mathlib.Core.Bool.{Bool, true, false, not, _&&_, _||_}
+use mathlib.Core.Bool.{Bool, true, false, _&&_, _||_}
 use mathlib.Core.List.{List, [], _∷_}
 use Prim.Native.Nat.{ℕ, zero, suc, _+_, _-_, _≤_}
 use native.Mathlib.Omega.{arith}
 use lib.Dec.{eqb}
 use lib.IntN.{ℤ}
-use borrow.Author.Tests.{eqb-true, eqb-false, leb-true, not-true}
+use borrow.Author.Tests.{eqb-true, eqb-false, leb-true}
 use Rattle.words.specs.Word.{pick}
 use Rattle.words.specs.Table.{numberAt}
-use Rattle.words.specs.Kinds.{kinds, kindIn, kindOf, kindAt, operators, operatorOf, isExpressionKind, isStatementKind, between, expression, place, branch, bodyBlock, armRow, argumentRow, isLink, isRequired, standsIn, inLanguage, kindRow, expressionFields, statementFields, markFields, definitionFields, memberFields, sortIn, isFunctionNumber, isPlaceKind}
+use Rattle.words.specs.Kinds.{kinds, kindIn, kindOf, kindAt, operators, operatorOf, isExpressionKind, isStatementKind, between, expression, place, branch, bodyBlock, armRow, argumentRow, isLink, isRequired, kindRow, expressionFields, statementFields, markFields, definitionFields, memberFields, sortIn, isFunctionNumber, isPlaceKind}
 use Rattle.words.specs.Laws.{both, by-cases}
-use Rattle.words.specs.declared.Form.{Form}
-use Rattle.words.specs.declared.Form.the-variants.{Source, Kernel}
 use Rattle.words.specs.declared.Operator.{Operator}
 use Rattle.words.specs.declared.Kind.{Kind}
 use Rattle.words.specs.declared.Kind.the-variants.{OfExpression, OfStatement, OfMark, OfMember, Definition, Other}
@@ -182,22 +180,7 @@ passed from (suc more) number known rest =
     let later = passed (suc from) more number (known × (number ≡ from → ⊥)) rest in
     (later .0 .0, λ h. let beyond : suc from ≤ number = omega (arith, later .0 .1) in omega (arith, later .1 beyond))
 
--- No form has the kinds of functions yet.
-pub function-foreign : (form : Form) (number : ℕ) → isFunctionNumber number ≡ true → inLanguage form number ≡ false
-unfolding inLanguage isFunctionNumber everyLine kinds kindRow expressionFields statementFields markFields definitionFields memberFields
-function-foreign form number e = not-true _ (rw e at (every-number (foreignIn form) (each-form form) (λ n. none form n) number))
-  where
-    foreignIn : Form → ℕ → Kind → Bool
-    foreignIn form number kind = pick (isFunctionNumber number) (not (standsIn (kindRow kind .forms) form)) true
-
-    each-form : (form : Form) → everyLine (foreignIn form) kinds ≡ true
-    each-form Source = refl
-    each-form Kernel = refl
-
-    none : (form : Form) (number : ℕ) → foreignIn form number Other ≡ true
-    none form number = by-cases (isFunctionNumber number) (λ e. rw e) (λ e. rw e)
-
--- A definition's number is one of them, and so is a call's.
+-- A definition's number is one of the kinds of functions, and so is a call's.
 abbrev isCall : ExpressionKind → Bool
 isCall Constant = false
 isCall Variable = false

@@ -262,7 +262,7 @@ placing a b forms = record { what = placeRow; a = a; b = b; c = unused; forms = 
 abbrev pub stating : ℕ → ℕ → ℕ → ℕ → Forms → StatementRow
 stating a b c d forms = record { a = a; b = b; c = c; d = d; forms = forms }
 
--- Kernel: "Kinds not named in this paragraph are not in the kernel language." No form has the kinds of functions yet: 31, 32, 59 and 60.
+-- Kernel: "Kinds not named in this paragraph are not in the kernel language." Functions, kinds 31, 32, 59 and 60, stand in both forms.
 unfoldable pub expressionFields : ExpressionKind → ExpressionRow
 expressionFields Constant = computing value unused unused inBoth  -- 1 constant: a value
 expressionFields Variable = placing variable unused inBoth  -- 2 variable: a number
@@ -278,7 +278,7 @@ expressionFields Assign = computing place expression unused inBoth  -- 21 assign
 expressionFields (Compound operator) = computing place expression unused inSource  -- 22 to 26: a place, b value
 expressionFields (Prefix operator) = computing place unused unused inSource  -- 27 ++e, 28 −−e: a place
 expressionFields (Postfix operator) = computing place unused unused inSource  -- 29 e++, 30 e−−: a place
-expressionFields Call = computing functionNumber optionalArgument unused inNeither  -- 31 call: a number, b first argument or 0
+expressionFields Call = computing functionNumber optionalArgument unused inBoth  -- 31 call: a number, b first argument or 0
 
 -- "52 goto, 53 label (kernel only)". "Kind 54 (guarded if) and 55 (guarded do), each with a the first arm or 0"; "the kernel's new kind 57 (abort, no
 -- fields)". "Kind 58: a variable number below V, b initial expression". "Kind 60 returns a, or 0 where a is 0".
@@ -297,8 +297,8 @@ statementFields Goto = stating label unused unused unused inKernel  -- 52 goto: 
 statementFields GuardedIf = stating optionalArm unused unused unused inSource  -- 54 guarded if: a first arm or 0
 statementFields GuardedDo = stating optionalArm unused unused unused inSource  -- 55 guarded do: a first arm or 0
 statementFields Abort = stating unused unused unused unused inKernel  -- 57 abort: none
-statementFields Declare = stating declaredNumber expression unused unused inSource  -- 58 declaration: a number, b initial expression
-statementFields Return = stating optionalExpression unused unused unused inNeither  -- 60 return: a, or 0
+statementFields Declare = stating declaredNumber expression unused unused inBoth  -- 58 declaration: a number, b initial expression
+statementFields Return = stating optionalExpression unused unused unused inBoth  -- 60 return: a, or 0
 
 unfoldable pub markFields : MarkKind → StatementRow
 markFields Case = stating value unused unused unused inSource  -- 48 case: a value
@@ -307,17 +307,17 @@ markFields Label = stating label unused unused unused inKernel  -- 53 label: a l
 
 -- "Kind 59 defines a function: a its number, b first parameter or 0 (kind 58, else 4 ..), c a block."
 unfoldable pub definitionFields : StatementRow
-definitionFields = stating functionNumber optionalParameter bodyBlock unused inNeither  -- 59 definition: a number, b first parameter or 0, c block
+definitionFields = stating functionNumber optionalParameter bodyBlock unused inBoth  -- 59 definition: a number, b first parameter or 0, c block
 
 -- "Kind 56 (arm): a guard, b block, next the next arm." "Kind 32 is an argument with a an expression and next".
 unfoldable pub memberFields : MemberKind → KindRow
 memberFields Arm = record { what = armRow; a = expression; b = bodyBlock; c = unused; d = unused; next = optionalArm; forms = inSource }  -- 56 arm: a guard, b block, next arm or 0
-memberFields Argument = record { what = argumentRow; a = expression; b = unused; c = unused; d = unused; next = optionalArgument; forms = inNeither }  -- 32 argument: a expression, next argument or 0
+memberFields Argument = record { what = argumentRow; a = expression; b = unused; c = unused; d = unused; next = optionalArgument; forms = inBoth }  -- 32 argument: a expression, next argument or 0
 
--- Kind 58 has two roles: a row that a definition's b links, or a parameter's next, is a parameter, and has these fields in place of a
+-- Kind 58 has two roles, and stands in the kernel as a parameter alone (a declaration there is no statement of kernel form): a row that a definition's b links, or a parameter's next, is a parameter, and has these fields in place of a
 -- declaration's: "its b 0, else 4 with its own row".
 unfoldable pub parameterFields : KindRow
-parameterFields = record { what = statementRow; a = declaredNumber; b = absentLink; c = unused; d = unused; next = optionalParameter; forms = inNeither }
+parameterFields = record { what = statementRow; a = declaredNumber; b = absentLink; c = unused; d = unused; next = optionalParameter; forms = inBoth }
 
 abbrev pub itemRow : StatementRow → KindRow
 itemRow r = record { what = statementRow; a = r .a; b = r .b; c = r .c; d = r .d; next = optionalItem; forms = r .forms }

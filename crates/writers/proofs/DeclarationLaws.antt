@@ -4,7 +4,7 @@ use mathlib.Core.Bool.{Bool, true, false, false≢true}
 use mathlib.Core.List.{List}
 use Prim.Native.Nat.{ℕ, zero, suc, _+_, _≤_, _<_}
 use native.Mathlib.Omega.{arith}
-use lib.IntN.{ℤ}
+use lib.IntN.{ℤ, pos}
 use Rattle.words.specs.Word.{pick}
 use Rattle.words.specs.Over.{over}
 use Rattle.words.specs.Laws.{by-cases}
@@ -59,18 +59,28 @@ module _ (called : ℕ → ℕ → Bool) (S i : ℕ) (e : Expression) where
   last-rows =
       omega (arith, rows-statement called S (declare i e) (exits 0 0) 0, rows-append (expressionCode called S e (stored i) 0) (storeCode S (variable i) (direct e) (atom S 0 (atomOf called e))), rows-expression called S e (stored i) 0)
 
+-- An absent expression takes nothing, as a constant does.
+pub initial-size : (rows : List ℤ) (i value : ℕ) → (value ≡ 0 → expressionAt rows value ≡ constant (pos 0)) → operandSize (calledIn rows) (partAt rows value) (stored i) ≡ expressionSize (calledIn rows) (expressionAt rows value) (stored i)
+unfolding expressionSize
+initial-size rows i zero absent = rw (absent refl)
+initial-size rows i (suc value) absent = refl
+
+initial-code : (rows : List ℤ) (i value : ℕ) → (value ≡ 0 → expressionAt rows value ≡ constant (pos 0)) → (S : ℕ) → operandCode (calledIn rows) S (partAt rows value) (stored i) 0 ≡ expressionCode (calledIn rows) S (expressionAt rows value) (stored i) 0
+unfolding expressionCode
+initial-code rows i zero absent S = rw (absent refl)
+initial-code rows i (suc value) absent S = refl
+
 -- The value, and what stands behind it.
-pub declared-done : (S : ℕ) (rows : List ℤ) (i value base : ℕ) (follows : Bool) (l : List ℤ) (u : Use) {n last : ℕ} {then : Bool} {l1 l2 : List ℤ} → 0 < value
+pub declared-done : (S : ℕ) (rows : List ℤ) (i value base : ℕ) (follows : Bool) (l : List ℤ) (u : Use) {n last : ℕ} {then : Bool} {l1 l2 : List ℤ} → (value ≡ 0 → expressionAt rows value ≡ constant (pos 0))
     → n ≡ operandSize (calledIn rows) (partAt rows value) (stored i) → last ≡ pick (direct (expressionAt rows value)) 0 4 → then ≡ moreRows follows last
     → l1 ≡ over (emitItems then (operandCode (calledIn rows) S (partAt rows value) (stored i) 0) base) l
     → l2 ≡ over (emitItems follows (straightCode (calledIn rows) S (assign (variable i) (expressionAt rows value)) u 0) (base + n)) (part n l1)
     → back-in n l1 l2 ≡ over (emitItems follows (declaredCode (calledIn rows) S i (expressionAt rows value)) base) l
-declared-done S rows i zero base follows l u some en el et t1 t2 = absurd (omega arith)
-declared-done S rows i (suc value) base follows l u {n} {last} {then} {l1} {l2} some en el et t1 t2 =
-    let e = expressionAt rows (suc value) in
+declared-done S rows i value base follows l u {n} {last} {then} {l1} {l2} absent en el et t1 t2 =
+    let e = expressionAt rows value in
     let E = expressionCode (calledIn rows) S e (stored i) 0 in
     let C = storeCode S (variable i) (direct e) (atom S 0 (atomOf (calledIn rows) e)) in
     let size : itemsRows C ≡ last = last-rows (calledIn rows) S i e ∙ sym el in
-    let w1 : Wrote then E base n l l1 = record { table = t1; size = rows-expression (calledIn rows) S e (stored i) 0 ∙ sym en } in
+    let w1 : Wrote then E base n l l1 = record { table = t1 ∙ ap (λ (xs : Items). over (emitItems then xs base) l) (initial-code rows i value absent S); size = rows-expression (calledIn rows) S e (stored i) 0 ∙ sym (initial-size rows i value absent) ∙ sym en } in
     let w2 : Wrote follows C (base + n) last (part n l1) l2 = record { table = t2 ∙ ap (λ (xs : Items). over (emitItems follows xs (base + n)) (part n l1)) (last-is (calledIn rows) S i e u); size = size } in
     wrote-behind (n + last) refl (et ∙ more-rows follows C last size) refl w1 w2 .table

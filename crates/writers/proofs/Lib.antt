@@ -15,5 +15,5 @@ pub mod StatementLaws
 pub mod DeclarationLaws
 -- Returns: the code of a return, one part behind another.
 pub mod ReturnLaws
--- Programs: the block at row 0, and the labels of its code.
-pub mod ProgramLaws
+-- Laws of labels: every label has a row.
+pub mod LabelLaws

@@ -11,7 +11,7 @@ use Rattle.translation.specs.Translate.{labels, armsLabels, itemsLabels, labelO
 use Rattle.translation.specs.TranslateSize.{statementSize, armsSize, itemsSize, cases}
 use Rattle.shapes.specs.Shapes.{OptionalOnward}
 use Rattle.measure_table.specs.Parts.{calledIn}
-use Rattle.measure_table.specs.Measures.{width, pastLabels, defaultPlace, statementRowsSlot, statementLabelsSlot, listRowsSlot, listCasesSlot, listDefaultSlot, armsRowsSlot, armsLabelsSlot, slot, slotAt, SlotAsks, Measured, MeasuredFrom}
+use Rattle.measure_table.specs.Measures.{sums, pastLabels, defaultPlace, statementRowsSlot, statementLabelsSlot, listRowsSlot, listCasesSlot, listDefaultSlot, armsRowsSlot, armsLabelsSlot, slot, slotAt, SlotAsks, Measured, MeasuredFrom}
 use Rattle.measure_table.specs.MeasureLaws.{limited-small, list-rows, list-cases, list-default, arms-rows, arms-labels, slot-asks}
 
 -- ---- the label of a list's default, from its place
@@ -65,7 +65,7 @@ module _ (rows : List ℤ) (table : List ℕ) (measured : Measured rows table) w
   as-link link inside h = record { later = h; inside = inside }
 
   -- What the function that reads a word of a link's row asks.
-  pub word-asks : (link k : ℕ) → link < rowCount rows → k < width → SlotAsks table link k
+  pub word-asks : (link k : ℕ) → link < rowCount rows → k < sums → SlotAsks table link k
   word-asks link k inside h = slot-asks later-measured (as-link link inside) k h
 
   pub statement-rows : (row : ℕ) → row < rowCount rows → statementSize (calledIn rows) (statementAt rows row) ≤ 40980 → slot table row statementRowsSlot ≡ statementSize (calledIn rows) (statementAt rows row)

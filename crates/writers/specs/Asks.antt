@@ -1,10 +1,11 @@
 -- Asks: what the writers of statements ask of their caller.
+use mathlib.Core.Path.{_≡_}
 use mathlib.Core.List.{List}
 use Prim.Native.Nat.{ℕ, zero, suc, _+_, _*_, _≤_, _<_, max}
-use lib.IntN.{ℤ}
+use lib.IntN.{ℤ, pos}
 use Rattle.words.specs.Table.{rowCount}
 use Rattle.language.specs.Decode.{expressionAt, statementAt, itemsAt, armsAt, listAt, armListAt, partAt}
-use Rattle.language.specs.Trees.{variable}
+use Rattle.language.specs.Trees.{constant, variable}
 use Rattle.translation.specs.Uses.{direct}
 use Rattle.translation.specs.declared.Use.the-variants.{Dropped as dropped, Wanted as wanted, Stored as stored}
 use Rattle.translation.specs.Translate.{roundsLabels, labels, armsLabels, itemsLabels}
@@ -119,10 +120,10 @@ pub record ExpressAsks (rows : List ℤ) (row base words : ℕ) : Type 0 where
   pub inside : row < rowCount rows
   pub room : Room (max 1 (expressionSize (calledIn rows) (expressionAt rows row) dropped)) base words
 
--- A declaration: the word of its object, and its value.
+-- A declaration: the word of its object, and its value; an absent one is 0.
 pub record DeclareAsks (rows : List ℤ) (number value base words : ℕ) : Type 0 where
   pub low : number < mostWords
-  pub some : 0 < value
+  pub absent : value ≡ 0 → expressionAt rows value ≡ constant (pos 0)
   pub inside : value < rowCount rows
   pub room : Room (operandSize (calledIn rows) (partAt rows value) (stored number) + storeRows (variable number) (direct (expressionAt rows value))) base words
 

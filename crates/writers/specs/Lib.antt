@@ -7,10 +7,3 @@ pub mod Code
 pub mod Items
 -- Asks: what the writers of statements ask of their caller.
 pub mod Asks
--- Program: what the writer of a program asks and writes.
-pub mod Program
--- ---- laws
--- A program without functions: its code, its rows and its levels are those of its list.
-pub mod PlainProgram
--- Laws of a whole program: its kernel rows and temporaries are measured at row 0.
-pub mod WholeProgram

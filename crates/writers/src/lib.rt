@@ -3,7 +3,6 @@
 pub mod declarations; // declarations.rt: the writer of declarations
 pub mod lists; // lists.rt: what statements, items, lists and arms take, by the table of measures
 pub mod loops; // loops.rt: the parts of a loop
-pub mod program; // program.rt: the writer of a program
 pub mod returns; // returns.rt: the writer of returns
 pub mod statements; // statements.rt: the writers of statements, blocks and lists, which call each other
 pub mod switches; // switches.rt: the tests of a switch

@@ -675,7 +675,7 @@ pub fn write_block(
 }
 
 // The code of the list at a link. Its labels begin at `label`.
-fn write_list(
+pub fn write_list(
     rows: &[i32],
     table: &[usize],
     store: usize,

@@ -1,7 +1,7 @@
 -- `flatten` hands the check's refusal on, or the answer for an accepted program.
 use mathlib.Core.Path.{sym, _∙_}
 use borrow.Author.Needs.{needs}
-use Rattle.kernel_check.specs.Accepts.{accepted-legal}
+use Rattle.plain_check.specs.Accepts.{accepted-plain}
 use Rattle.flattener.specs.FlatteningLaws.{refused-first, accepted-next, written-form}
 use Rattle.flattener.proofs.flatten.Statement.{statement}
 use Rattle.flattener.proofs.flatten.Tie as tie
@@ -15,7 +15,7 @@ enum-told c = search needs
 flatten-accepted-requires : tie.Need-flatten-accepted-requires
 flatten-accepted-requires c κs =
     let s = c .before .before .before .before .args in
-    record { header = s .header .now; legal = accepted-legal (s .header .now) (s .rows .now) (sym (c .before .before .before .check .ensures) ∙ c .before .enum-told .given .1) }
+    record { header = s .header .now; plain = accepted-plain (s .header .now) (s .rows .now) (sym (c .before .before .before .check .ensures) ∙ c .before .enum-told .given .1) }
 
 enum-known-verdict : tie.Need-enum-known-verdict
 enum-known-verdict c = search needs

@@ -30,7 +30,14 @@ is-atom-element-requires c κs = search needs
 
 returns-4 : tie.Need-returns-4
 unfolding fitsVariable
-returns-4 c = rw (← c .before .before .before .before .before .before .is-atom .ensures, c .before .before .before .before .before .if1 .left, ← c .before .before .before .before .is-atom-minus .ensures, c .before .before .before .if2 .left, ← c .before .before .is-atom-operation .ensures, c .before .if3 .left) (c .is-atom-element .ensures)
+returns-4 c = rw (← c .before .before .before .before .before .before .before .is-atom .ensures, c .before .before .before .before .before .before .if1 .left, ← c .before .before .before .before .before .is-atom-minus .ensures, c .before .before .before .before .if2 .left, ← c .before .before .before .is-atom-operation .ensures, c .before .before .if3 .left, ← c .before .is-atom-element .ensures, c .if4 .taken)
+
+is-atom-call-requires : tie.Need-is-atom-call-requires
+is-atom-call-requires c κs = search needs
+
+returns-5 : tie.Need-returns-5
+unfolding fitsVariable
+returns-5 c = rw (← c .before .before .before .before .before .before .before .before .is-atom .ensures, c .before .before .before .before .before .before .before .if1 .left, ← c .before .before .before .before .before .before .is-atom-minus .ensures, c .before .before .before .before .before .if2 .left, ← c .before .before .before .before .is-atom-operation .ensures, c .before .before .before .if3 .left, ← c .before .before .is-atom-element .ensures, c .before .if4 .left) (c .is-atom-call .ensures)
 
 pub fits-variable-spec : {M : Type 1} → statement M
 fits-variable-spec =
@@ -43,4 +50,6 @@ fits-variable-spec =
     is-atom-operation-requires
     returns-3
     is-atom-element-requires
-    returns-4)
+    returns-4
+    is-atom-call-requires
+    returns-5)

@@ -47,7 +47,14 @@ is-kernel-expression-requires c κs = search needs
 
 returns-8 : tie.Need-returns-8
 unfolding isKernelStatement
-returns-8 c = rw (← c .before .before .before .before .before .before .before .before .before .before .number-or-zero .ensures, ne-eqb _ _ (c .before .before .before .before .before .before .before .before .before .if1 .left), ne-eqb _ _ (c .before .before .before .before .before .before .before .before .if2 .left), ← c .before .before .before .before .before .before .before .is-kernel-if .ensures, c .before .before .before .before .before .before .if3 .left, ← c .before .before .before .before .before .is-kernel-while .ensures, c .before .before .before .before .if4 .left, ne-eqb _ _ (c .before .before .before .if5 .left), ne-eqb _ _ (c .before .before .if6 .left), ne-eqb _ _ (c .before .if7 .left)) (c .is-kernel-expression .ensures)
+returns-8 c = rw (← c .before .before .before .before .before .before .before .before .before .before .before .number-or-zero .ensures, ne-eqb _ _ (c .before .before .before .before .before .before .before .before .before .before .if1 .left), ne-eqb _ _ (c .before .before .before .before .before .before .before .before .before .if2 .left), ← c .before .before .before .before .before .before .before .before .is-kernel-if .ensures, c .before .before .before .before .before .before .before .if3 .left, ← c .before .before .before .before .before .before .is-kernel-while .ensures, c .before .before .before .before .before .if4 .left, ne-eqb _ _ (c .before .before .before .before .if5 .left), ne-eqb _ _ (c .before .before .before .if6 .left), ne-eqb _ _ (c .before .before .if7 .left), ← c .before .is-kernel-expression .ensures, c .if8 .taken)
+
+is-of-function-requires : tie.Need-is-of-function-requires
+is-of-function-requires c κs = search needs
+
+returns-9 : tie.Need-returns-9
+unfolding isKernelStatement
+returns-9 c = rw (← c .before .before .before .before .before .before .before .before .before .before .before .before .number-or-zero .ensures, ne-eqb _ _ (c .before .before .before .before .before .before .before .before .before .before .before .if1 .left), ne-eqb _ _ (c .before .before .before .before .before .before .before .before .before .before .if2 .left), ← c .before .before .before .before .before .before .before .before .before .is-kernel-if .ensures, c .before .before .before .before .before .before .before .before .if3 .left, ← c .before .before .before .before .before .before .before .is-kernel-while .ensures, c .before .before .before .before .before .before .if4 .left, ne-eqb _ _ (c .before .before .before .before .before .if5 .left), ne-eqb _ _ (c .before .before .before .before .if6 .left), ne-eqb _ _ (c .before .before .before .if7 .left), ← c .before .before .is-kernel-expression .ensures, c .before .if8 .left) (c .is-of-function .ensures)
 
 pub is-kernel-statement-spec : {M : Type 1} → statement M
 is-kernel-statement-spec =
@@ -64,4 +71,6 @@ is-kernel-statement-spec =
     returns-6
     returns-7
     is-kernel-expression-requires
-    returns-8)
+    returns-8
+    is-of-function-requires
+    returns-9)

@@ -9,11 +9,11 @@ use Rattle.page_scan.proofs.scan.Statement.{statement}
 use Rattle.page_scan.proofs.scan.Tie as tie
 
 abbrev Inv-loop : tie.InvT-loop
-Inv-loop names page count around₀ depth₀ rows₀ k₀ around depth rows k =
-    Scanning names page count around depth rows k × (length around ≡ 81958)
+Inv-loop names page count around₀ among₀ depth₀ rows₀ k₀ around among depth rows k =
+    Scanning names page count around among depth rows k × (length around ≡ 81958)
 
 abbrev μ-loop : tie.MeasureT-loop
-μ-loop names page count around₀ depth₀ rows₀ k₀ around depth rows k =
+μ-loop names page count around₀ among₀ depth₀ rows₀ k₀ around among depth rows k =
     count - k
 
 line-count-requires : tie.Need-line-count-requires Inv-loop μ-loop
@@ -23,6 +23,10 @@ line-count-requires c κs =
 loop-holds : tie.Need-loop-holds Inv-loop μ-loop
 loop-holds c =
     (scanning-start _ _ _ _ (c .line-count .ensures), search needs)
+
+add-number : tie.Need-add-number Inv-loop μ-loop
+add-number c =
+    omega (arith, c .loop-test .taken, c .before .loop .inv .0 .few)
 
 mul-at : tie.Need-mul-at Inv-loop μ-loop
 mul-at c =
@@ -64,10 +68,6 @@ enum-told : tie.Need-enum-told Inv-loop μ-loop
 enum-told c =
     search needs
 
-add-t22 : tie.Need-add-t22 Inv-loop μ-loop
-add-t22 c =
-    omega (arith, c .before .before .before .before .loop-test .taken, c .before .before .before .before .before .loop .inv .0 .few)
-
 returns : tie.Need-returns Inv-loop μ-loop
 returns c =
     wrong-line (c .before .before .before .before .before .loop .inv .0) (c .before .before .before .before .loop-test .taken) (c .before .before .line-in .result) (c .before .before .line-in .ensures) (c .enum-told .given .1)
@@ -84,10 +84,6 @@ enum-told-2 : tie.Need-enum-told-2 Inv-loop μ-loop
 enum-told-2 c =
     search needs
 
-add-t24 : tie.Need-add-t24 Inv-loop μ-loop
-add-t24 c =
-    omega (arith, c .before .before .before .before .before .before .before .before .before .loop-test .taken, c .before .before .before .before .before .before .before .before .before .before .loop .inv .0 .few)
-
 returns-2 : tie.Need-returns-2 Inv-loop μ-loop
 returns-2 c =
     wrong-block (c .before .before .before .before .before .before .before .before .before .before .loop .inv .0) (c .before .before .before .before .before .before .before .before .before .loop-test .taken) (c .before .before .before .before .before .before .before .line-in .result) (c .before .before .before .before .before .before .before .line-in .ensures) (c .before .before .before .before .before .read .given .0 .0) (c .before .before .before .before .before .read .given .1) (rw (c .enum-told2 .given .1) at (c .before .before .pass-line .ensures .0))
@@ -100,17 +96,13 @@ add-rows : tie.Need-add-rows Inv-loop μ-loop
 add-rows c =
     omega (arith, c .rows-of .ensures .1, c .before .before .before .before .before .before .before .before .before .before .before .before .loop .inv .0 .low, c .before .before .before .before .before .before .before .before .before .before .before .before .loop .inv .0 .inside, c .before .before .before .before .before .before .before .before .before .before .before .before .loop .inv .0 .few)
 
-add-k : tie.Need-add-k Inv-loop μ-loop
-add-k c =
-    omega (arith, c .before .before .before .before .before .before .before .before .before .before .before .loop-test .taken)
-
 loop-less : tie.Need-loop-less Inv-loop μ-loop
 loop-less c =
     omega (arith, c .before .before .before .before .before .before .before .before .before .before .before .loop-test .taken)
 
 loop-again : tie.Need-loop-again Inv-loop μ-loop
 loop-again c =
-    (scanning-next (c .before .before .before .before .before .before .before .before .before .before .before .before .loop .inv .0) (c .before .before .before .before .before .before .before .before .before .before .before .loop-test .taken) (c .before .before .before .before .before .before .before .before .before .line-in .result) (c .before .before .before .before .before .before .before .before .before .line-in .ensures) (c .before .before .before .before .before .before .before .read .given .0 .0) (c .before .before .before .before .before .before .before .read .given .1) _ _ _ (rw (c .before .before .next .given .1) at (c .before .before .before .before .pass-line .ensures .0)) (rw (c .before .before .next .given .1) at (c .before .before .before .before .pass-line .ensures .1 .0)) (c .rows-of .ensures .0) (c .rows-of .ensures .1), c .before .before .before .before .pass-line .ensures .1 .1)
+    (scanning-next (c .before .before .before .before .before .before .before .before .before .before .before .before .loop .inv .0) (c .before .before .before .before .before .before .before .before .before .before .before .loop-test .taken) (c .before .before .before .before .before .before .before .before .before .line-in .result) (c .before .before .before .before .before .before .before .before .before .line-in .ensures) (c .before .before .before .before .before .before .before .read .given .0 .0) (c .before .before .before .before .before .before .before .read .given .1) _ _ _ _ (rw (c .before .before .next .given .1) at (c .before .before .before .before .pass-line .ensures .0)) (rw (c .before .before .next .given .1) at (c .before .before .before .before .pass-line .ensures .1 .0)) (c .rows-of .ensures .0) (c .rows-of .ensures .1), c .before .before .before .before .pass-line .ensures .1 .1)
 
 mul-end : tie.Need-mul-end Inv-loop μ-loop
 mul-end c =
@@ -136,6 +128,7 @@ scan-spec =
     μ-loop
     line-count-requires
     loop-holds
+    add-number
     mul-at
     add-end
     cast-line-in
@@ -146,16 +139,13 @@ scan-spec =
     line-in-requires
     enum-known-read
     enum-told
-    add-t22
     returns
     pass-line-requires
     enum-known-next
     enum-told-2
-    add-t24
     returns-2
     rows-of-requires
     add-rows
-    add-k
     loop-less
     loop-again
     mul-end

@@ -47,6 +47,24 @@ between-requires-2 c κs = search needs
 hand-earlier-requires : tie.Need-hand-earlier-requires
 hand-earlier-requires c κs = search needs
 
+enum-known-which-5 : tie.Need-enum-known-which-5
+enum-known-which-5 c = search needs
+
+number-at-requires-4 : tie.Need-number-at-requires-4
+number-at-requires-4 c κs = search needs
+
+behind-requires : tie.Need-behind-requires
+behind-requires c κs = search needs
+
+enum-known-which-6 : tie.Need-enum-known-which-6
+enum-known-which-6 c = search needs
+
+number-at-requires-5 : tie.Need-number-at-requires-5
+number-at-requires-5 c κs = search needs
+
+body-requires : tie.Need-body-requires
+body-requires c κs = search needs
+
 returns : tie.Need-returns
 unfolding handed
 returns c =
@@ -67,6 +85,16 @@ unfolding handed earlierOf
 returns-4 c =
     rw (c .before .before .before .before .which4 .given .1, ← c .before .before .number-at3 .ensures, ← c .before .between2 .ensures) (c .hand-earlier .ensures)
 
+returns-5 : tie.Need-returns-5
+unfolding handed
+returns-5 c =
+    rw (c .before .before .before .which5 .given .1, ← c .before .number-at4 .ensures) (c .behind .ensures)
+
+returns-6 : tie.Need-returns-6
+unfolding handed
+returns-6 c =
+    rw (c .before .before .before .which6 .given .1, ← c .before .number-at5 .ensures) (c .body .ensures)
+
 pub hand-spec : {M : Type 1} → statement M
 hand-spec =
     tie.close
@@ -85,7 +113,15 @@ hand-spec =
     number-at-requires-3
     between-requires-2
     hand-earlier-requires
+    enum-known-which-5
+    number-at-requires-4
+    behind-requires
+    enum-known-which-6
+    number-at-requires-5
+    body-requires
     returns
     returns-2
     returns-3
-    returns-4)
+    returns-4
+    returns-5
+    returns-6)

@@ -10,8 +10,8 @@ use Rattle.statement_places.specs.Places.{misplaced}
 use Rattle.declaration_causes.specs.Causes.{outsideBlock}
 use Rattle.function_causes.specs.Causes.{returnsOutside}
 use Rattle.source_check.specs.Refusal.{wronglyPlaced}
-use Rattle.source_check.specs.Lower.{lower}
-use Rattle.source_check.specs.LowerLaws.{lowestRow-either}
+use Rattle.declaration_check.specs.Lower.{lower}
+use Rattle.declaration_check.specs.LowerLaws.{lowestRow-either}
 use borrow.Author.Needs.{needs}
 use Rattle.source_check.proofs.lowest_wrongly_placed.Statement.{statement}
 use Rattle.source_check.proofs.lowest_wrongly_placed.Tie as tie
@@ -31,16 +31,16 @@ lowest-outside-block-requires c κs = search needs
 lowest-return-outside-requires : tie.Need-lowest-return-outside-requires
 lowest-return-outside-requires c κs = search needs
 
-lower-requires : tie.Need-lower-requires
-lower-requires c κs = search needs
+lower-of-requires : tie.Need-lower-of-requires
+lower-of-requires c κs = search needs
 
-lower-requires-2 : tie.Need-lower-requires-2
-lower-requires-2 c κs = search needs
+lower-of-requires-2 : tie.Need-lower-of-requires-2
+lower-of-requires-2 c κs = search needs
 
 returns : tie.Need-returns
 returns c =
     lower-found _ _ _ _ _ _ (c .before .before .before .before .lowest-misplaced .ensures) (c .before .before .before .lowest-outside-block .ensures)
-    (c .before .before .lowest-return-outside .ensures) (c .before .lower .ensures) (c .lower2 .ensures)
+    (c .before .before .lowest-return-outside .ensures) (c .before .lower-of .ensures) (c .lower-of2 .ensures)
 
 pub lowest-wrongly-placed-spec : {M : Type 1} → statement M
 lowest-wrongly-placed-spec =
@@ -49,6 +49,6 @@ lowest-wrongly-placed-spec =
     lowest-misplaced-requires
     lowest-outside-block-requires
     lowest-return-outside-requires
-    lower-requires
-    lower-requires-2
+    lower-of-requires
+    lower-of-requires-2
     returns)

@@ -1,9 +1,12 @@
 -- `declaration_breaks` makes the cause's own test, with what it looks up.
+use mathlib.Core.Path.{_∙_}
 use Prim.Native.Nat.{_<_}
 use native.Mathlib.Omega.{arith}
+use Rattle.parameter_causes.specs.Parameters.{declaredAsParameter}
 use Rattle.declaration_causes.specs.Causes.{outsideBlock, namesItself, declaredBefore, oneTooMany}
 use Rattle.declaration_check.specs.Passes.{breaks, lookedUp}
 use Rattle.structure.specs.LinkLaws.{part-inside}
+use Rattle.declaration_check.specs.BodyNotes.{body-inside}
 use borrow.Author.Needs.{needs}
 use Rattle.declaration_check.proofs.breaks.declaration_breaks.Statement.{statement}
 use Rattle.declaration_check.proofs.breaks.declaration_breaks.Tie as tie
@@ -11,11 +14,13 @@ use Rattle.declaration_check.proofs.breaks.declaration_breaks.Tie as ti
 enum-told : tie.Need-enum-told
 enum-told c = search needs
 
-mul-result : tie.Need-mul-result
-mul-result c = search needs
-
-shared-slice-read-result : tie.Need-shared-slice-read-result
-shared-slice-read-result c = search needs
+outside-block-requires : tie.Need-outside-block-requires
+outside-block-requires c κs =
+    let s = c .before .before .before in
+    let n = s .pre .1 in
+    let whole = s .pre .0 .whole in
+    let room = s .pre .3 .room in
+    (omega arith, omega arith)
 
 enum-told-2 : tie.Need-enum-told-2
 enum-told-2 c = search needs
@@ -52,12 +57,31 @@ shared-slice-read-wide c = search needs
 wide-requires : tie.Need-wide-requires
 wide-requires c κs = search needs
 
+as-parameter-requires : tie.Need-as-parameter-requires
+unfolding lookedUp
+as-parameter-requires c κs =
+    let start = c .before .before .before .before .before in
+    let is = c .wide .ensures ∙ (rw (c .before .before .enum-told4 .given .1) at (start .pre .3 .is (start .args .row) (start .pre .1))) in
+    (start .pre .0, omega (arith, is, body-inside (start .args .rows .now) (start .pre .0) (start .args .row) (start .pre .1)), start .pre .1, start .pre .4)
+
+enum-told-5 : tie.Need-enum-told-5
+enum-told-5 c = search needs
+
+mul-wide-2 : tie.Need-mul-wide-2
+mul-wide-2 c = search needs
+
+shared-slice-read-wide-2 : tie.Need-shared-slice-read-wide-2
+shared-slice-read-wide-2 c = search needs
+
+wide-requires-2 : tie.Need-wide-requires-2
+wide-requires-2 c κs = search needs
+
 returns : tie.Need-returns
 unfolding breaks outsideBlock lookedUp
 returns c =
     let start = c .before .before .before .before in
     let is = rw (c .before .enum-told .given .1) at (start .pre .3 .is _ (start .pre .1)) in
-    rw (c .before .enum-told .given .1, start .pre .2, ← is)
+    rw (c .before .enum-told .given .1, start .pre .2, ← is) (c .outside-block .ensures)
 
 returns-2 : tie.Need-returns-2
 unfolding breaks namesItself
@@ -72,19 +96,25 @@ returns-3 c =
     rw (c .before .enum-told3 .given .1, start .pre .2) (c .number-before .ensures)
 
 returns-4 : tie.Need-returns-4
-unfolding breaks oneTooMany lookedUp
+unfolding breaks declaredAsParameter lookedUp
 returns-4 c =
+    let start = c .before .before .before .before .before .before in
+    let is = c .before .wide .ensures ∙ (rw (c .before .before .before .enum-told4 .given .1) at (start .pre .3 .is (start .args .row) (start .pre .1))) in
+    rw (c .before .before .before .enum-told4 .given .1, start .pre .2, ← is) (c .as-parameter .ensures)
+
+returns-5 : tie.Need-returns-5
+unfolding breaks oneTooMany lookedUp
+returns-5 c =
     let start = c .before .before .before .before .before in
-    let is = rw (c .before .before .enum-told4 .given .1) at (start .pre .3 .is _ (start .pre .1)) in
-    rw (c .before .before .enum-told4 .given .1, start .pre .2, ← is, c .wide .ensures)
+    let is = rw (c .before .before .enum-told5 .given .1) at (start .pre .3 .is _ (start .pre .1)) in
+    rw (c .before .before .enum-told5 .given .1, start .pre .2, ← is, c .wide2 .ensures)
 
 pub declaration-breaks-spec : {M : Type 1} → statement M
 declaration-breaks-spec =
     tie.close
     (tie.spec
     enum-told
-    mul-result
-    shared-slice-read-result
+    outside-block-requires
     enum-told-2
     number-at-requires
     link-requires
@@ -95,7 +125,13 @@ declaration-breaks-spec =
     mul-wide
     shared-slice-read-wide
     wide-requires
+    as-parameter-requires
+    enum-told-5
+    mul-wide-2
+    shared-slice-read-wide-2
+    wide-requires-2
     returns
     returns-2
     returns-3
-    returns-4)
+    returns-4
+    returns-5)

@@ -1,49 +1,17 @@
--- Whether a value is copied, by what holds it.
-use mathlib.Core.Path.{_∙_}
-use Rattle.expression_measures.proofs.HolderLaws.{held-as}
-use Rattle.row_writes.proofs.WriteLaws.{copied-number, copied-variable, copied-temporary}
-use borrow.Author.Needs.{needs}
+-- The same while the expression at a link is worked out.
+use native.Mathlib.Omega.{arith}
+use Rattle.row_writes.proofs.WriteLaws.{part-set}
 use Rattle.expression_measures.proofs.copies.copied_over.Statement.{statement}
 use Rattle.expression_measures.proofs.copies.copied_over.Tie as tie
-use Rattle.expression_measures.proofs.copies.written.Reads as written-reads
-use Rattle.expression_measures.proofs.holders.holder_at.Reads as holder-at-reads
 
-holder-at-requires : tie.Need-holder-at-requires
-holder-at-requires c κs = search needs
+set-at-requires : tie.Need-set-at-requires
+set-at-requires c κs = λ h. omega (arith, c .before .before .pre .0 .0 .room, c .before .before .pre .0 .2)
 
-enum-told : tie.Need-enum-told
-enum-told c = search needs
-
-enum-known-holder : tie.Need-enum-known-holder
-enum-known-holder c = search needs
-
-written-requires : tie.Need-written-requires
-written-requires c κs = search needs
-
-enum-told-2 : tie.Need-enum-told-2
-enum-told-2 c = search needs
+copied-against-requires : tie.Need-copied-against-requires
+copied-against-requires c κs = (c .before .before .before .pre .0 .0 .source, c .before .before .before .pre .0 .0 .names, c .before .before .before .pre .0 .1, c .before .before .before .pre .1 .0, c .before .before .before .pre .1 .1)
 
 returns : tie.Need-returns
-returns c =
-    copied-number _ (held-as (c .before .before .holder-at .ensures) (c .enum-told .given .1) .is)
-
-returns-2 : tie.Need-returns-2
-returns-2 c =
-    let a = held-as (c .before .before .before .before .holder-at .ensures) (c .before .before .holder .given .1) in copied-variable (c .before .before .before .before .before .before .before .pre .0 .0) (c .before .before .before .before .before .before .before .pre .0 .2) (a .fits) (a .is) (c .written .ensures)
-
-returns-3 : tie.Need-returns-3
-returns-3 c =
-    copied-temporary _ (held-as (c .before .before .holder-at .ensures) (c .enum-told2 .given .1) .is)
+returns c = c .copied-against .ensures .is _ (part-set (c .before .before .before .before .args .meanwhile) (c .before .before .before .before .pre .0 .0) (c .before .before .before .before .pre .0 .2) (c .before .set-at .ensures))
 
 pub copied-over-spec : {M : Type 1} → statement M
-copied-over-spec =
-    tie.close
-    (tie.spec
-    holder-at-requires
-    enum-told
-    enum-known-holder
-    written-requires
-    enum-told-2
-    returns
-    returns-2
-    returns-3)
+copied-over-spec = tie.close (tie.spec set-at-requires copied-against-requires returns)

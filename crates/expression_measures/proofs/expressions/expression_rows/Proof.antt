@@ -4,7 +4,6 @@ use native.Mathlib.Omega.{arith}
 use Rattle.language.specs.Decode.{expressionAt}
 use Rattle.measure_table.specs.Parts.{calledIn}
 use Rattle.measure_table.specs.Measures.{rowsSlot}
-use Rattle.measure_table.specs.PlainRows.{is-no-call}
 use Rattle.measure_table.specs.MeasureLaws.{slot-asks}
 use Rattle.expression_measures.proofs.ExpressionLaws.{rows-of, own-most, own-rows-by}
 use borrow.Author.Needs.{needs}
@@ -55,14 +54,14 @@ rows-by-requires c κs = search needs
 
 add-limited-4 : tie.Need-add-limited-4
 add-limited-4 c =
-    omega (arith, c .before .before .before .before .before .measure-at .ensures .small, c .before .before .before .measure-at2 .ensures .small, c .before .before .measure-at3 .ensures .small, c .before .measure-at4 .ensures .small, c .rows-by .ensures, own-rows-by (c .before .before .before .before .before .before .before .before .before .pre .2) (c .before .before .before .before .before .before .before .before .before .args .usage), own-most (calledIn (c .before .before .before .before .before .before .before .before .before .args .rows .now)) (expressionAt (c .before .before .before .before .before .before .before .before .before .args .rows .now) (c .before .before .before .before .before .before .before .before .before .args .row)) (c .before .before .before .before .before .before .before .before .before .args .usage) (is-no-call (c .before .before .before .before .before .before .before .before .before .pre .0 .source) _ (c .before .before .before .before .before .before .before .before .before .pre .1)))
+    omega (arith, c .before .before .before .before .before .measure-at .ensures .small, c .before .before .before .measure-at2 .ensures .small, c .before .before .measure-at3 .ensures .small, c .before .measure-at4 .ensures .small, c .rows-by .ensures, own-rows-by (c .before .before .before .before .before .before .before .before .before .pre .2) (c .before .before .before .before .before .before .before .before .before .args .usage), own-most (calledIn (c .before .before .before .before .before .before .before .before .before .args .rows .now)) (expressionAt (c .before .before .before .before .before .before .before .before .before .args .rows .now) (c .before .before .before .before .before .before .before .before .before .args .row)) (c .before .before .before .before .before .before .before .before .before .args .usage) (c .before .before .before .before .before .before .before .before .before .pre .3))
 
 limited-requires : tie.Need-limited-requires
 limited-requires c κs = search needs
 
 returns : tie.Need-returns
 returns c =
-    c .limited .ensures ∙ rows-of _ _ _ (c .before .before .before .before .before .before .before .before .before .before .pre .0) _ (c .before .before .before .before .before .before .before .before .before .before .pre .2) (c .before .before .before .before .before .before .before .before .before .before .args .usage) _ _ _ _ _ _ _ (c .before .before .before .before .before .before .before .before .before .before .pre .1) (c .before .before .before .before .before .before .before .before .second-use .ensures) (c .before .before .before .before .before .before .before .rows-for .ensures) (c .before .before .before .before .before .rows-for2 .ensures) (c .before .before .before .before .before .before .measure-at .ensures .is) (c .before .before .before .before .measure-at2 .ensures .is) (c .before .before .before .measure-at3 .ensures .is) (c .before .before .measure-at4 .ensures .is) (c .before .rows-by .ensures)
+    c .limited .ensures ∙ rows-of _ _ _ (c .before .before .before .before .before .before .before .before .before .before .pre .0) _ (c .before .before .before .before .before .before .before .before .before .before .pre .2) (c .before .before .before .before .before .before .before .before .before .before .args .usage) _ _ _ _ _ _ _ (c .before .before .before .before .before .before .before .before .before .before .pre .3) (c .before .before .before .before .before .before .before .before .second-use .ensures) (c .before .before .before .before .before .before .before .rows-for .ensures) (c .before .before .before .before .before .rows-for2 .ensures) (c .before .before .before .before .before .before .measure-at .ensures .is) (c .before .before .before .before .measure-at2 .ensures .is) (c .before .before .before .measure-at3 .ensures .is) (c .before .before .measure-at4 .ensures .is) (c .before .rows-by .ensures)
 
 pub expression-rows-spec : {M : Type 1} → statement M
 expression-rows-spec =

@@ -3,7 +3,8 @@ use mathlib.Core.Path.{refl, ap}
 use native.Mathlib.Omega.{arith}
 use Rattle.shapes.specs.ShapeLaws.{expressed}
 use Rattle.shapes.specs.declared.ExpressionShape.the-variants as expression
-use Rattle.expression_writers.proofs.Choices.{RowAsked, level-small, straight, straight-operation, straight-call, and-choice, or-choice, conditional-choice}
+use Rattle.expression_measures.proofs.PassedLaws.{called-otherwise}
+use Rattle.expression_writers.proofs.Choices.{RowAsked, straight, straight-operation, and-choice, or-choice, conditional-choice}
 use borrow.Author.Needs.{needs}
 use Rattle.expression_writers.proofs.branches.choice_at.Statement.{statement}
 use Rattle.expression_writers.proofs.branches.choice_at.Tie as tie
@@ -39,13 +40,13 @@ atom-at-requires : tie.Need-atom-at-requires
 atom-at-requires c κs =
     let asked = at-start (c .before .before .before .before .before .before .before .before) in
     let shape = expressed (expressed (c .before .before .before .before .before .before .expression-at .ensures) (c .before .before .before .before .shape .given .1)) (ap expression.Choice (c .before .choice .given .1)) in
-    (asked .writing, shape .onward .0 .inside, omega (arith, level-small asked))
+    (asked .writing, shape .onward .0 .inside, omega (arith, asked .level-low))
 
 atom-at-requires-2 : tie.Need-atom-at-requires-2
 atom-at-requires-2 c κs =
     let asked = at-start (c .before .before .before .before .before .before .before .before .before) in
     let shape = expressed (expressed (c .before .before .before .before .before .before .before .expression-at .ensures) (c .before .before .before .before .before .shape .given .1)) (ap expression.Choice (c .before .before .choice .given .1)) in
-    (asked .writing, shape .onward .1 .inside, omega (arith, level-small asked))
+    (asked .writing, shape .onward .1 .inside, omega (arith, asked .level-low))
 
 number-branch-requires : tie.Need-number-branch-requires
 number-branch-requires c κs = search needs
@@ -57,13 +58,13 @@ atom-at-requires-3 : tie.Need-atom-at-requires-3
 atom-at-requires-3 c κs =
     let asked = at-start (c .before .before .before .before .before .before .before .before) in
     let shape = expressed (expressed (c .before .before .before .before .before .before .expression-at .ensures) (c .before .before .before .before .shape .given .1)) (ap expression.Choice (c .before .choice2 .given .1)) in
-    (asked .writing, shape .onward .0 .inside, omega (arith, level-small asked))
+    (asked .writing, shape .onward .0 .inside, omega (arith, asked .level-low))
 
 atom-at-requires-4 : tie.Need-atom-at-requires-4
 atom-at-requires-4 c κs =
     let asked = at-start (c .before .before .before .before .before .before .before .before .before) in
     let shape = expressed (expressed (c .before .before .before .before .before .before .before .expression-at .ensures) (c .before .before .before .before .before .shape .given .1)) (ap expression.Choice (c .before .before .choice2 .given .1)) in
-    (asked .writing, shape .onward .1 .inside, omega (arith, level-small asked))
+    (asked .writing, shape .onward .1 .inside, omega (arith, asked .level-low))
 
 number-branch-requires-2 : tie.Need-number-branch-requires-2
 number-branch-requires-2 c κs = search needs
@@ -75,7 +76,7 @@ atom-at-requires-5 : tie.Need-atom-at-requires-5
 atom-at-requires-5 c κs =
     let asked = at-start (c .before .before .before .before .before .before .before .before) in
     let shape = expressed (expressed (c .before .before .before .before .before .before .expression-at .ensures) (c .before .before .before .before .shape .given .1)) (ap expression.Choice (c .before .choice3 .given .1)) in
-    (asked .writing, shape .onward .0 .inside, omega (arith, level-small asked))
+    (asked .writing, shape .onward .0 .inside, omega (arith, asked .level-low))
 
 end-at-requires : tie.Need-end-at-requires
 end-at-requires c κs =
@@ -87,7 +88,7 @@ atom-at-requires-6 : tie.Need-atom-at-requires-6
 atom-at-requires-6 c κs =
     let asked = at-start (c .before .before .before .before .before .before .before .before .before .before) in
     let shape = expressed (expressed (c .before .before .before .before .before .before .before .before .expression-at .ensures) (c .before .before .before .before .before .before .shape .given .1)) (ap expression.Choice (c .before .before .before .choice3 .given .1)) in
-    (asked .writing, shape .onward .1 .inside, omega (arith, level-small asked))
+    (asked .writing, shape .onward .1 .inside, omega (arith, asked .level-low))
 
 end-at-requires-2 : tie.Need-end-at-requires-2
 end-at-requires-2 c κs =
@@ -99,7 +100,7 @@ atom-at-requires-7 : tie.Need-atom-at-requires-7
 atom-at-requires-7 c κs =
     let asked = at-start (c .before .before .before .before .before .before .before .before .before .before .before .before) in
     let shape = expressed (expressed (c .before .before .before .before .before .before .before .before .before .before .expression-at .ensures) (c .before .before .before .before .before .before .before .before .shape .given .1)) (ap expression.Choice (c .before .before .before .before .before .choice3 .given .1)) in
-    (asked .writing, shape .onward .2 .inside, omega (arith, level-small asked))
+    (asked .writing, shape .onward .2 .inside, omega (arith, asked .level-low))
 
 enum-told-4 : tie.Need-enum-told-4
 enum-told-4 c = search needs
@@ -132,9 +133,7 @@ returns-6 c =
     conditional-choice _ _ _ _ asked shape (c .before .before .before .before .atom-at5 .ensures) (c .before .before .before .end-at .ensures) (c .before .before .atom-at6 .ensures) (c .before .end-at2 .ensures) (c .atom-at7 .ensures)
 
 returns-7 : tie.Need-returns-7
-returns-7 c =
-    let asked = at-start (c .before .before .before .before) in
-    straight-call _ _ _ _ (asked .writing .measured .source) (asked .inside) (expressed (c .before .before .expression-at .ensures) (c .enum-told4 .given .1))
+returns-7 c = absurd (called-otherwise (expressed (c .before .before .expression-at .ensures) (c .enum-told4 .given .1)) (c .before .before .before .before .pre .3))
 
 pub choice-at-spec : {M : Type 1} → statement M
 choice-at-spec =

@@ -32,17 +32,17 @@ wide-requires c κs = search needs
 
 place-parts-requires : tie.Need-place-parts-requires
 place-parts-requires c κs =
-    let t = number-statement (c .before .before .before .before .before .before .before .before .pre .0 .header) _ (c .before .before .before .before .before .before .before .before .pre .0 .legal) (c .before .before .before .before .before .before .before .before .args .row) (c .before .before .before .before .before .before .before .before .pre .4) (omega arith) in
+    let t = number-statement (c .before .before .before .before .before .before .before .before .pre .0 .header) _ (c .before .before .before .before .before .before .before .before .pre .0 .plain) (c .before .before .before .before .before .before .before .before .args .row) (c .before .before .before .before .before .before .before .before .pre .4) (omega arith) in
     (c .before .before .before .before .before .before .before .before .pre .0, c .before .before .before .before .before .before .before .before .pre .1, c .before .before .before .before .before .before .before .before .pre .2 .room, c .before .before .before .before .before .before .before .before .pre .4, t, c .before .wide .ensures ∙ placed-here (c .before .before .before .before .before .before .before .before .pre .0) (c .before .before .before .before .before .before .before .before .pre .4) (c .before .before .before .before .before .before .before .before .pre .2) t)
 
 place-next-requires : tie.Need-place-next-requires
 place-next-requires c κs =
-    let t = number-statement (c .before .before .before .before .before .before .before .before .before .before .before .before .pre .0 .header) _ (c .before .before .before .before .before .before .before .before .before .before .before .before .pre .0 .legal) (c .before .before .before .before .before .before .before .before .before .before .before .before .args .row) (c .before .before .before .before .before .before .before .before .before .before .before .before .pre .4) (omega arith) in
+    let t = number-statement (c .before .before .before .before .before .before .before .before .before .before .before .before .pre .0 .header) _ (c .before .before .before .before .before .before .before .before .before .before .before .before .pre .0 .plain) (c .before .before .before .before .before .before .before .before .before .before .before .before .args .row) (c .before .before .before .before .before .before .before .before .before .before .before .before .pre .4) (omega arith) in
     (c .before .before .before .before .before .before .before .before .before .before .before .before .pre .0, c .before .before .before .before .before .before .before .before .before .before .before .before .pre .1, omega (arith, c .before .before .before .place-parts .ensures .keeps .same-length, c .before .before .before .before .before .before .before .before .before .before .before .before .pre .2 .room), c .before .before .before .before .before .before .before .before .before .before .before .before .pre .4, t, c .before .before .before .before .before .wide .ensures ∙ placed-here (c .before .before .before .before .before .before .before .before .before .before .before .before .pre .0) (c .before .before .before .before .before .before .before .before .before .before .before .before .pre .4) (c .before .before .before .before .before .before .before .before .before .before .before .before .pre .2) t)
 
 place-label-requires : tie.Need-place-label-requires
 place-label-requires c κs =
-    let t = number-statement (c .before .before .before .before .before .before .before .before .before .before .before .before .before .before .before .before .pre .0 .header) _ (c .before .before .before .before .before .before .before .before .before .before .before .before .before .before .before .before .pre .0 .legal) (c .before .before .before .before .before .before .before .before .before .before .before .before .before .before .before .before .args .row) (c .before .before .before .before .before .before .before .before .before .before .before .before .before .before .before .before .pre .4) (omega arith) in
+    let t = number-statement (c .before .before .before .before .before .before .before .before .before .before .before .before .before .before .before .before .pre .0 .header) _ (c .before .before .before .before .before .before .before .before .before .before .before .before .before .before .before .before .pre .0 .plain) (c .before .before .before .before .before .before .before .before .before .before .before .before .before .before .before .before .args .row) (c .before .before .before .before .before .before .before .before .before .before .before .before .before .before .before .before .pre .4) (omega arith) in
     (c .before .before .before .before .before .before .before .before .before .before .before .before .before .before .before .before .pre .0, c .before .before .before .before .before .before .before .before .before .before .before .before .before .before .before .before .pre .3, c .before .before .before .before .before .before .before .before .before .before .before .before .before .before .before .before .pre .4, t, c .before .before .before .before .before .before .before .before .before .wide .ensures ∙ placed-here (c .before .before .before .before .before .before .before .before .before .before .before .before .before .before .before .before .pre .0) (c .before .before .before .before .before .before .before .before .before .before .before .before .before .before .before .before .pre .4) (c .before .before .before .before .before .before .before .before .before .before .before .before .before .before .before .before .pre .2) t)
 
 same-length : tie.Need-same-length

@@ -24,21 +24,21 @@ number-at-requires-2 c κs = search needs
 
 slot-at-requires : tie.Need-slot-at-requires
 slot-at-requires c κs =
-    let t = number-statement (c .before .before .before .before .before .pre .0 .header) _ (c .before .before .before .before .before .pre .0 .legal) (c .before .before .before .before .before .args .row) (c .before .before .before .before .before .pre .2) (omega arith) in
+    let t = number-statement (c .before .before .before .before .before .pre .0 .header) _ (c .before .before .before .before .before .pre .0 .plain) (c .before .before .before .before .before .args .row) (c .before .before .before .before .before .pre .2) (omega arith) in
     omega (arith, next-room (c .before .before .before .before .before .pre .0) (c .before .before .before .before .before .pre .2) (c .before .before .before .before .before .pre .1 .room) t, c .number-at2 .ensures)
 
 statement-lines-requires : tie.Need-statement-lines-requires
 statement-lines-requires c κs =
-    (c .before .before .before .before .before .before .before .pre .0, c .before .before .before .before .before .before .before .pre .1, c .before .before .before .before .before .before .before .pre .2, number-statement (c .before .before .before .before .before .before .before .pre .0 .header) _ (c .before .before .before .before .before .before .before .pre .0 .legal) (c .before .before .before .before .before .before .before .args .row) (c .before .before .before .before .before .before .before .pre .2) (omega arith))
+    (c .before .before .before .before .before .before .before .pre .0, c .before .before .before .before .before .before .before .pre .1, c .before .before .before .before .before .before .before .pre .2, number-statement (c .before .before .before .before .before .before .before .pre .0 .header) _ (c .before .before .before .before .before .before .before .pre .0 .plain) (c .before .before .before .before .before .before .before .args .row) (c .before .before .before .before .before .before .before .pre .2) (omega arith))
 
 add-narrow : tie.Need-add-narrow
 add-narrow c =
-    let t = number-statement (c .before .before .before .before .before .before .before .before .pre .0 .header) _ (c .before .before .before .before .before .before .before .before .pre .0 .legal) (c .before .before .before .before .before .before .before .before .args .row) (c .before .before .before .before .before .before .before .before .pre .2) (omega arith) in
+    let t = number-statement (c .before .before .before .before .before .before .before .before .pre .0 .header) _ (c .before .before .before .before .before .before .before .before .pre .0 .plain) (c .before .before .before .before .before .before .before .before .args .row) (c .before .before .before .before .before .before .before .before .pre .2) (omega arith) in
     omega (arith, row-sum (c .before .before .before .before .before .before .before .before .pre .0) (c .before .before .before .before .before .before .before .before .pre .2) (c .before .before .before .before .before .before .before .before .pre .1) t _ _ _ (c .statement-lines .ensures) (c .before .before .slot-at .ensures .0) (c .before .before .before .number-at2 .ensures), size-few (c .before .before .before .before .before .before .before .before .pre .0) (c .before .before .before .before .before .before .before .before .pre .2) t)
 
 narrow-requires : tie.Need-narrow-requires
 narrow-requires c κs =
-    let t = number-statement (c .before .before .before .before .before .before .before .before .pre .0 .header) _ (c .before .before .before .before .before .before .before .before .pre .0 .legal) (c .before .before .before .before .before .before .before .before .args .row) (c .before .before .before .before .before .before .before .before .pre .2) (omega arith) in
+    let t = number-statement (c .before .before .before .before .before .before .before .before .pre .0 .header) _ (c .before .before .before .before .before .before .before .before .pre .0 .plain) (c .before .before .before .before .before .before .before .before .args .row) (c .before .before .before .before .before .before .before .before .pre .2) (omega arith) in
     omega (arith, row-sum (c .before .before .before .before .before .before .before .before .pre .0) (c .before .before .before .before .before .before .before .before .pre .2) (c .before .before .before .before .before .before .before .before .pre .1) t _ _ _ (c .statement-lines .ensures) (c .before .before .slot-at .ensures .0) (c .before .before .before .number-at2 .ensures), size-few (c .before .before .before .before .before .before .before .before .pre .0) (c .before .before .before .before .before .before .before .before .pre .2) t)
 
 mul-sizes : tie.Need-mul-sizes

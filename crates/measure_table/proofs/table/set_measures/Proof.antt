@@ -1,7 +1,7 @@
 -- The stores of a row's measures.
 use native.Mathlib.Omega.{arith}
 use lib.ListN.{length-set}
-use Rattle.measure_table.proofs.Stores.{eighteen-stores}
+use Rattle.measure_table.proofs.Stores.{nineteen-stores}
 use borrow.Author.Needs.{needs}
 use Rattle.measure_table.proofs.table.set_measures.Statement.{statement}
 use Rattle.measure_table.proofs.table.set_measures.Tie as tie
@@ -171,11 +171,20 @@ mul-table-18 c = search needs
 slice-write-table-18 : tie.Need-slice-write-table-18
 slice-write-table-18 c = simp length-set (omega arith)
 
+add-table-19 : tie.Need-add-table-19
+add-table-19 c = search needs
+
+mul-table-19 : tie.Need-mul-table-19
+mul-table-19 c = search needs
+
+slice-write-table-19 : tie.Need-slice-write-table-19
+slice-write-table-19 c = simp length-set (omega arith)
+
 same-length : tie.Need-same-length
 same-length c = simp length-set
 
 returns : tie.Need-returns
-returns c = eighteen-stores _ _ _ _ _ _ _ _ _ _ _ _ _ _ _ _ _ _ _ _ (c .pre)
+returns c = nineteen-stores _ _ _ _ _ _ _ _ _ _ _ _ _ _ _ _ _ _ _ _ _ (c .pre)
 
 pub set-measures-spec : {M : Type 1} → statement M
 set-measures-spec =
@@ -236,5 +245,8 @@ set-measures-spec =
     add-table-18
     mul-table-18
     slice-write-table-18
+    add-table-19
+    mul-table-19
+    slice-write-table-19
     same-length
     returns)

@@ -124,7 +124,7 @@ store-rows-requires : tie.Need-store-rows-requires
 store-rows-requires c κs = (c .before .before .before .before .before .pre .0 .source, (stated (c .before .before .before .statement-at .ensures) (c .before .shape10 .given .1)) .onward .1 .inside)
 
 declare-measures-requires : tie.Need-declare-measures-requires
-declare-measures-requires c κs = (slot-asks (c .before .before .before .before .before .before .pre .0) (optional ((stated (c .before .before .before .before .statement-at .ensures) (c .before .before .shape10 .given .1)) .onward .1)), store-small (direct (expressionAt (c .before .before .before .before .before .before .args .rows .now) (c .before .before .shape10 .given .0 .1 .0))) (c .store-rows .ensures))
+declare-measures-requires c κs = (slot-asks (c .before .before .before .before .before .before .pre .0) ((stated (c .before .before .before .before .statement-at .ensures) (c .before .before .shape10 .given .1)) .onward .1 .onward), store-small (direct (expressionAt (c .before .before .before .before .before .before .args .rows .now) (c .before .before .shape10 .given .0 .1 .0))) (c .store-rows .ensures))
 
 enum-known-shape-11 : tie.Need-enum-known-shape-11
 enum-known-shape-11 c = search needs

@@ -4,12 +4,12 @@ use mathlib.Core.Path.{_≡_, subst}
 use mathlib.Core.List.{List}
 use Prim.Native.Nat.{ℕ}
 use Rattle.words.specs.Table.{rowCount}
-use Rattle.language.specs.Decode.{expressionAt}
+use Rattle.language.specs.Decode.{expressionAt, placeOf}
 use Rattle.page.specs.Page.{lineWords, parted}
 use Rattle.page_line.specs.declared.LineAt.{LineAt}
 use Rattle.page_line.specs.Contents.{lineTree, LineInside}
 use Rattle.page_line.specs.LaidLaws.{laid-as, laid-of}
-use Rattle.page_line.specs.ContentLaws.{goto-bytes, while-bytes, if-bytes}
+use Rattle.page_line.specs.ContentLaws.{goto-bytes, while-bytes, if-bytes, call-bytes, argument-bytes, last-argument-bytes, function-bytes, parameters-bytes, parameter-bytes, last-parameter-bytes}
 use borrow.Author.Needs.{needs}
 use Rattle.page_line.proofs.contents.lay_content.Statement.{statement}
 use Rattle.page_line.proofs.contents.lay_content.Tie as tie
@@ -107,6 +107,80 @@ unfolding parted
 lay-byte-requires-3 c κs =
     omega (arith, rw (c .before .enum-told5 .given .1) at (c .before .before .before .before .pre .1))
 
+enum-known-line-6 : tie.Need-enum-known-line-6
+enum-known-line-6 c = search needs
+
+lay-given-requires : tie.Need-lay-given-requires
+lay-given-requires c κs =
+    ((c .before .before .before .before .before .pre .0 .0, inside (c .before .before .before .before .before) (c .before .before .line6 .given .1)), rw (c .before .before .line6 .given .1) at (c .before .before .before .before .before .pre .1))
+
+enum-known-line-7 : tie.Need-enum-known-line-7
+enum-known-line-7 c = search needs
+
+lay-call-requires : tie.Need-lay-call-requires
+lay-call-requires c κs =
+    ((c .before .before .before .before .before .pre .0 .0, inside (c .before .before .before .before .before) (c .before .before .line7 .given .1)), rw (c .before .before .line7 .given .1, ← call-bytes (c .before .before .before .before .before .args .sizes) (placeOf (expressionAt (c .before .before .before .before .before .args .rows .now) (c .before .before .line7 .given .0 .0))) (c .before .before .line7 .given .0 .1 .0)) at (c .before .before .before .before .before .pre .1))
+
+enum-known-line-8 : tie.Need-enum-known-line-8
+enum-known-line-8 c = search needs
+
+slice-aggregate-lay-argument : tie.Need-slice-aggregate-lay-argument
+slice-aggregate-lay-argument c = search needs
+
+lay-argument-requires : tie.Need-lay-argument-requires
+lay-argument-requires c κs =
+    ((c .before .before .before .before .before .before .pre .0 .0, inside (c .before .before .before .before .before .before) (c .before .before .before .line8 .given .1)), rw (c .before .before .before .line8 .given .1, ← argument-bytes (c .before .before .before .before .before .before .args .sizes) (expressionAt (c .before .before .before .before .before .before .args .rows .now) (c .before .before .before .line8 .given .0 .0))) at (c .before .before .before .before .before .before .pre .1))
+
+enum-known-line-9 : tie.Need-enum-known-line-9
+enum-known-line-9 c = search needs
+
+slice-aggregate-lay-argument-2 : tie.Need-slice-aggregate-lay-argument-2
+slice-aggregate-lay-argument-2 c = search needs
+
+lay-argument-requires-2 : tie.Need-lay-argument-requires-2
+lay-argument-requires-2 c κs =
+    ((c .before .before .before .before .before .before .pre .0 .0, inside (c .before .before .before .before .before .before) (c .before .before .before .line9 .given .1)), rw (c .before .before .before .line9 .given .1, ← last-argument-bytes (c .before .before .before .before .before .before .args .sizes) (expressionAt (c .before .before .before .before .before .before .args .rows .now) (c .before .before .before .line9 .given .0 .0))) at (c .before .before .before .before .before .before .pre .1))
+
+enum-known-line-10 : tie.Need-enum-known-line-10
+enum-known-line-10 c = search needs
+
+slice-aggregate-lay-function : tie.Need-slice-aggregate-lay-function
+slice-aggregate-lay-function c = search needs
+
+lay-function-requires : tie.Need-lay-function-requires
+lay-function-requires c κs =
+    rw (c .before .before .before .line10 .given .1, ← function-bytes (c .before .before .before .before .before .before .args .sizes) (c .before .before .before .line10 .given .0 .0)) at (c .before .before .before .before .before .before .pre .1)
+
+enum-known-line-11 : tie.Need-enum-known-line-11
+enum-known-line-11 c = search needs
+
+slice-aggregate-lay-function-2 : tie.Need-slice-aggregate-lay-function-2
+slice-aggregate-lay-function-2 c = search needs
+
+lay-function-requires-2 : tie.Need-lay-function-requires-2
+lay-function-requires-2 c κs =
+    rw (c .before .before .before .line11 .given .1, ← parameters-bytes (c .before .before .before .before .before .before .args .sizes) (c .before .before .before .line11 .given .0 .0)) at (c .before .before .before .before .before .before .pre .1)
+
+enum-known-line-12 : tie.Need-enum-known-line-12
+enum-known-line-12 c = search needs
+
+slice-aggregate-lay-parameter : tie.Need-slice-aggregate-lay-parameter
+slice-aggregate-lay-parameter c = search needs
+
+lay-parameter-requires : tie.Need-lay-parameter-requires
+lay-parameter-requires c κs =
+    rw (c .before .before .before .line12 .given .1, ← parameter-bytes (c .before .before .before .before .before .before .args .sizes) (c .before .before .before .line12 .given .0 .0)) at (c .before .before .before .before .before .before .pre .1)
+
+enum-known-line-13 : tie.Need-enum-known-line-13
+enum-known-line-13 c = search needs
+
+slice-aggregate-lay-parameter-2 : tie.Need-slice-aggregate-lay-parameter-2
+slice-aggregate-lay-parameter-2 c = search needs
+
+lay-parameter-requires-2 : tie.Need-lay-parameter-requires-2
+lay-parameter-requires-2 c κs =
+    rw (c .before .before .before .line13 .given .1, ← last-parameter-bytes (c .before .before .before .before .before .before .args .sizes) (c .before .before .before .line13 .given .0 .0)) at (c .before .before .before .before .before .before .pre .1)
+
 same-length : tie.Need-same-length
 same-length c = search needs
 
@@ -182,6 +256,62 @@ unfolding parted
 returns-10 c =
     laid-of (bytes (c .before .before .before .before .before .before .before)) (c .before .before .before .before .enum-told5 .given .1) (c .before .before .lay-byte3 .ensures)
 
+same-length-11 : tie.Need-same-length-11
+same-length-11 c = search needs
+
+returns-11 : tie.Need-returns-11
+returns-11 c =
+    laid-of (bytes (c .before .before .before .before .before .before .before .before)) (c .before .before .before .before .before .line6 .given .1) (c .before .before .lay-given .ensures)
+
+same-length-12 : tie.Need-same-length-12
+same-length-12 c = search needs
+
+returns-12 : tie.Need-returns-12
+returns-12 c =
+    laid-of (bytes (c .before .before .before .before .before .before .before .before)) (c .before .before .before .before .before .line7 .given .1) (laid-as (call-bytes (c .before .before .before .before .before .before .before .before .args .sizes) (placeOf (expressionAt (c .before .before .before .before .before .before .before .before .args .rows .now) (c .before .before .before .before .before .line7 .given .0 .0))) (c .before .before .before .before .before .line7 .given .0 .1 .0)) (c .before .before .lay-call .ensures))
+
+same-length-13 : tie.Need-same-length-13
+same-length-13 c = search needs
+
+returns-13 : tie.Need-returns-13
+returns-13 c =
+    laid-of (bytes (c .before .before .before .before .before .before .before .before .before)) (c .before .before .before .before .before .before .line8 .given .1) (laid-as (argument-bytes (c .before .before .before .before .before .before .before .before .before .args .sizes) (expressionAt (c .before .before .before .before .before .before .before .before .before .args .rows .now) (c .before .before .before .before .before .before .line8 .given .0 .0))) (c .before .before .lay-argument .ensures))
+
+same-length-14 : tie.Need-same-length-14
+same-length-14 c = search needs
+
+returns-14 : tie.Need-returns-14
+returns-14 c =
+    laid-of (bytes (c .before .before .before .before .before .before .before .before .before)) (c .before .before .before .before .before .before .line9 .given .1) (laid-as (last-argument-bytes (c .before .before .before .before .before .before .before .before .before .args .sizes) (expressionAt (c .before .before .before .before .before .before .before .before .before .args .rows .now) (c .before .before .before .before .before .before .line9 .given .0 .0))) (c .before .before .lay-argument2 .ensures))
+
+same-length-15 : tie.Need-same-length-15
+same-length-15 c = search needs
+
+returns-15 : tie.Need-returns-15
+returns-15 c =
+    laid-of (bytes (c .before .before .before .before .before .before .before .before .before)) (c .before .before .before .before .before .before .line10 .given .1) (laid-as (function-bytes (c .before .before .before .before .before .before .before .before .before .args .sizes) (c .before .before .before .before .before .before .line10 .given .0 .0)) (c .before .before .lay-function .ensures))
+
+same-length-16 : tie.Need-same-length-16
+same-length-16 c = search needs
+
+returns-16 : tie.Need-returns-16
+returns-16 c =
+    laid-of (bytes (c .before .before .before .before .before .before .before .before .before)) (c .before .before .before .before .before .before .line11 .given .1) (laid-as (parameters-bytes (c .before .before .before .before .before .before .before .before .before .args .sizes) (c .before .before .before .before .before .before .line11 .given .0 .0)) (c .before .before .lay-function2 .ensures))
+
+same-length-17 : tie.Need-same-length-17
+same-length-17 c = search needs
+
+returns-17 : tie.Need-returns-17
+returns-17 c =
+    laid-of (bytes (c .before .before .before .before .before .before .before .before .before)) (c .before .before .before .before .before .before .line12 .given .1) (laid-as (parameter-bytes (c .before .before .before .before .before .before .before .before .before .args .sizes) (c .before .before .before .before .before .before .line12 .given .0 .0)) (c .before .before .lay-parameter .ensures))
+
+same-length-18 : tie.Need-same-length-18
+same-length-18 c = search needs
+
+returns-18 : tie.Need-returns-18
+returns-18 c =
+    laid-of (bytes (c .before .before .before .before .before .before .before .before .before)) (c .before .before .before .before .before .before .line13 .given .1) (laid-as (last-parameter-bytes (c .before .before .before .before .before .before .before .before .before .args .sizes) (c .before .before .before .before .before .before .line13 .given .0 .0)) (c .before .before .lay-parameter2 .ensures))
+
 pub lay-content-spec : {M : Type 1} → statement M
 lay-content-spec =
     tie.close
@@ -210,6 +340,28 @@ lay-content-spec =
     lay-bytes-requires-2
     enum-told-5
     lay-byte-requires-3
+    enum-known-line-6
+    lay-given-requires
+    enum-known-line-7
+    lay-call-requires
+    enum-known-line-8
+    slice-aggregate-lay-argument
+    lay-argument-requires
+    enum-known-line-9
+    slice-aggregate-lay-argument-2
+    lay-argument-requires-2
+    enum-known-line-10
+    slice-aggregate-lay-function
+    lay-function-requires
+    enum-known-line-11
+    slice-aggregate-lay-function-2
+    lay-function-requires-2
+    enum-known-line-12
+    slice-aggregate-lay-parameter
+    lay-parameter-requires
+    enum-known-line-13
+    slice-aggregate-lay-parameter-2
+    lay-parameter-requires-2
     same-length
     returns
     same-length-2
@@ -229,4 +381,20 @@ lay-content-spec =
     same-length-9
     returns-9
     same-length-10
-    returns-10)
+    returns-10
+    same-length-11
+    returns-11
+    same-length-12
+    returns-12
+    same-length-13
+    returns-13
+    same-length-14
+    returns-14
+    same-length-15
+    returns-15
+    same-length-16
+    returns-16
+    same-length-17
+    returns-17
+    same-length-18
+    returns-18)

@@ -28,7 +28,7 @@ enum-known-shape c = search needs
 
 lay-operated-requires : tie.Need-lay-operated-requires
 lay-operated-requires c κs =
-    let f = read-as (c .before .before .before .before .expression-at .ensures) (c .before .before .shape .given .1) in
+    let f = read-as (c .before .before .before .before .expression-at .ensures .0) (c .before .before .shape .given .1) in
     ((c .before .before .before .before .before .before .pre .0 .0, f .inside), rw (f .is) at (c .before .before .before .before .before .before .pre .1))
 
 enum-told-3 : tie.Need-enum-told-3
@@ -40,13 +40,13 @@ enum-told-4 c = search needs
 returns : tie.Need-returns
 unfolding parted
 returns c =
-    let f = read-as (c .before .before .expression-at .ensures) (c .enum-told .given .1) in
+    let f = read-as (c .before .before .expression-at .ensures .0) (c .enum-told .given .1) in
     laid-nothing _ _ _ (ap (bytes (c .before .before .before .before)) (f .is)) (c .before .before .before .before .pre .1)
 
 returns-2 : tie.Need-returns-2
 unfolding parted
 returns-2 c =
-    let f = read-as (c .before .before .expression-at .ensures) (c .enum-told2 .given .1) in
+    let f = read-as (c .before .before .expression-at .ensures .0) (c .enum-told2 .given .1) in
     laid-nothing _ _ _ (ap (bytes (c .before .before .before .before)) (f .is)) (c .before .before .before .before .pre .1)
 
 same-length : tie.Need-same-length
@@ -54,18 +54,18 @@ same-length c = search needs
 
 returns-3 : tie.Need-returns-3
 returns-3 c =
-    let f = read-as (c .before .before .before .before .before .before .before .expression-at .ensures) (c .before .before .before .before .before .shape .given .1) in
+    let f = read-as (c .before .before .before .before .before .before .before .expression-at .ensures .0) (c .before .before .before .before .before .shape .given .1) in
     laid-of (bytes (c .before .before .before .before .before .before .before .before .before)) (f .is) (c .before .before .lay-operated .ensures)
 
 returns-4 : tie.Need-returns-4
 returns-4 c =
-    let f = read-as (c .before .before .expression-at .ensures) (c .enum-told3 .given .1) in
+    let f = read-as (c .before .before .expression-at .ensures .0) (c .enum-told3 .given .1) in
     laid-nothing _ _ _ (ap (bytes (c .before .before .before .before)) (f .is) ∙ no-assignment-chosen (c .before .before .before .before .args .sizes) (c .before .before .before .before .args .rows .now) (c .enum-told3 .given .0 .0)) (c .before .before .before .before .pre .1)
 
 returns-5 : tie.Need-returns-5
 unfolding parted
 returns-5 c =
-    let f = read-as (c .before .before .expression-at .ensures) (c .enum-told4 .given .1) in
+    let f = read-as (c .before .before .expression-at .ensures .0) (c .enum-told4 .given .1) in
     laid-nothing _ _ _ (ap (bytes (c .before .before .before .before)) (f .is)) (c .before .before .before .before .pre .1)
 
 pub lay-assignment-spec : {M : Type 1} → statement M

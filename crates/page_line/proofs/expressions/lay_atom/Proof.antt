@@ -23,7 +23,7 @@ enum-known-shape c = search needs
 
 lay-constant-requires : tie.Need-lay-constant-requires
 lay-constant-requires c κs =
-    let f = read-as (c .before .before .before .before .expression-at .ensures) (c .before .before .shape .given .1) in
+    let f = read-as (c .before .before .before .before .expression-at .ensures .0) (c .before .before .shape .given .1) in
     rw (back (c .before .before .shape .given .0 .0) (c .before .known-told .given .0 .1)) (rw (f .is) at (c .before .before .before .before .before .before .pre .1))
 
 enum-known-shape-2 : tie.Need-enum-known-shape-2
@@ -34,7 +34,7 @@ enum-known-place c = search needs
 
 lay-name-requires : tie.Need-lay-name-requires
 lay-name-requires c κs =
-    let f = read-as (c .before .before .before .before .before .before .before .expression-at .ensures) (c .before .before .before .before .before .shape2 .given .1 ∙ ap Read (c .before .before .place .given .1)) in
+    let f = read-as (c .before .before .before .before .before .before .before .expression-at .ensures .0) (c .before .before .before .before .before .shape2 .given .1 ∙ ap Read (c .before .before .place .given .1)) in
     rw (f .is) at (c .before .before .before .before .before .before .before .before .before .pre .1)
 
 enum-told : tie.Need-enum-told
@@ -54,7 +54,7 @@ same-length c = search needs
 
 returns : tie.Need-returns
 returns c =
-    let f = read-as (c .before .before .before .before .before .before .before .expression-at .ensures) (c .before .before .before .before .before .shape .given .1) in
+    let f = read-as (c .before .before .before .before .before .before .before .expression-at .ensures .0) (c .before .before .before .before .before .shape .given .1) in
     laid-of (atomWord (c .before .before .before .before .before .before .before .before .before .args .sizes)) (f .is) (laid-of numberBytes (sym (back (c .before .before .before .before .before .shape .given .0 .0) (c .before .before .before .before .known-told .given .0 .1))) (c .before .before .lay-constant .ensures))
 
 same-length-2 : tie.Need-same-length-2
@@ -62,27 +62,27 @@ same-length-2 c = search needs
 
 returns-2 : tie.Need-returns-2
 returns-2 c =
-    let f = read-as (c .before .before .before .before .before .before .before .before .before .before .expression-at .ensures) (c .before .before .before .before .before .before .before .before .shape2 .given .1 ∙ ap Read (c .before .before .before .before .before .place .given .1)) in
+    let f = read-as (c .before .before .before .before .before .before .before .before .before .before .expression-at .ensures .0) (c .before .before .before .before .before .before .before .before .shape2 .given .1 ∙ ap Read (c .before .before .before .before .before .place .given .1)) in
     laid-of (atomWord (c .before .before .before .before .before .before .before .before .before .before .before .before .args .sizes)) (f .is) (c .before .before .lay-name .ensures)
 
 returns-3 : tie.Need-returns-3
 returns-3 c =
-    let f = read-as (c .before .before .before .before .before .expression-at .ensures) (c .before .before .before .shape2 .given .1 ∙ ap Read (c .enum-told .given .1)) in
+    let f = read-as (c .before .before .before .before .before .expression-at .ensures .0) (c .before .before .before .shape2 .given .1 ∙ ap Read (c .enum-told .given .1)) in
     laid-nothing _ _ _ (ap (atomWord (c .before .before .before .before .before .before .before .args .sizes)) (f .is)) (c .before .before .before .before .before .before .before .pre .1)
 
 returns-4 : tie.Need-returns-4
 returns-4 c =
-    let f = read-as (c .before .before .expression-at .ensures) (c .enum-told2 .given .1) in
+    let f = read-as (c .before .before .expression-at .ensures .0) (c .enum-told2 .given .1) in
     laid-nothing _ _ _ (ap (atomWord (c .before .before .before .before .args .sizes)) (f .is) ∙ no-atom (c .before .before .before .before .args .sizes) (c .before .before .before .before .args .rows .now) (c .enum-told2 .given .0 .0)) (c .before .before .before .before .pre .1)
 
 returns-5 : tie.Need-returns-5
 returns-5 c =
-    let f = read-as (c .before .before .expression-at .ensures) (c .enum-told3 .given .1) in
+    let f = read-as (c .before .before .expression-at .ensures .0) (c .enum-told3 .given .1) in
     laid-nothing _ _ _ (ap (atomWord (c .before .before .before .before .args .sizes)) (f .is) ∙ no-atom-chosen (c .before .before .before .before .args .sizes) (c .before .before .before .before .args .rows .now) (c .enum-told3 .given .0 .0)) (c .before .before .before .before .pre .1)
 
 returns-6 : tie.Need-returns-6
 returns-6 c =
-    let f = read-as (c .before .before .expression-at .ensures) (c .enum-told4 .given .1) in
+    let f = read-as (c .before .before .expression-at .ensures .0) (c .enum-told4 .given .1) in
     laid-nothing _ _ _ (ap (atomWord (c .before .before .before .before .args .sizes)) (f .is)) (c .before .before .before .before .pre .1)
 
 pub lay-atom-spec : {M : Type 1} → statement M

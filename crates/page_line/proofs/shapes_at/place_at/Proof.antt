@@ -12,7 +12,7 @@ place-of-requires c κs = search needs
 
 returns : tie.Need-returns
 returns c =
-    place-read (c .before .expression-at .ensures) (c .place-of .ensures)
+    place-read (c .before .expression-at .ensures .0) (c .place-of .ensures)
 
 pub place-at-spec : {M : Type 1} → statement M
 place-at-spec = tie.close (tie.spec expression-at-requires place-of-requires returns)

@@ -7,8 +7,8 @@ use native.Mathlib.Omega.{arith}
 use borrow.Author.Needs.{needs}
 use lib.ListN.{length, length-append}
 use Rattle.words.specs.Table.{rowCount}
-use Rattle.language.specs.Decode.{statementAt, listAt}
-use Rattle.page.specs.Lines.{Indented, indented, closes, branchLines, itemsLines}
+use Rattle.language.specs.Decode.{expressionAt, argumentListAt, parameterListAt, statementAt, listAt}
+use Rattle.page.specs.Lines.{Indented, indented, closes, argumentLines, definitionLines, branchLines, itemsLines}
 use Rattle.page_line.specs.declared.LineAt.the-variants.{Turns, Closes}
 use Rattle.page_line.specs.Contents.{lineTree}
 use Rattle.page_line.specs.Printed.{Printed}
@@ -17,10 +17,11 @@ use Rattle.page_line.specs.ReadsLaws.{row-words}
 use Rattle.page_printer.specs.declared.Outline.{Outline}
 use Rattle.page_printer.specs.Outlines.{outlineAt, enclosed, outlined}
 use Rattle.page_printer.specs.Ready.{Ready}
-use Rattle.page_printer.specs.ReadyLaws.{ready-first, ready-behind, ready-deeper, ready-line}
+use Rattle.page_printer.specs.Levels.{definition-count}
+use Rattle.page_printer.specs.ReadyLaws.{ready-first, ready-behind, ready-deeper, ready-inner, ready-line}
 use Rattle.page_printer.specs.OutlineLaws.{block-inside, next-later}
 use Rattle.page_printer.specs.CountLaws.{ahead, ahead-falls, told-inside}
-use Rattle.page_printer.specs.Walks.{Walked, walked-start, walked-length, walked-ready, walked-few, walked-next, walked-end, printed-of, ready-of, block-list-lines}
+use Rattle.page_printer.specs.Walks.{Walked, walked-start, walked-length, walked-ready, walked-few, walked-next, walked-end, printed-of, ready-of, printed-as, block-list-lines}
 use Prim.Native.Nat.{ℕ, _<_}
 use borrow.Fn.Kinds.{In}
 use borrow.Fn.PlainCycle.{Measures, is, falls, and}
@@ -34,6 +35,8 @@ use Rattle.page_printer.proofs.lists.print_list.Reads as print-list
 use Rattle.page_printer.proofs.lists.print_list.Kinds as print-list-kinds
 use Rattle.page_printer.proofs.lists.+print_enclosed+print_item+print_list.Lts-print_list as print-list-lts
 use Rattle.page_line.proofs.whole.print_line.Reads as print-line-reads
+use Rattle.page_printer.proofs.functions.print_arguments.Reads as print-arguments-reads
+use Rattle.page_printer.proofs.functions.print_definition.Reads as print-definition-reads
 use Rattle.page_printer.proofs.items.block_list.Reads as block-list-reads
 use Rattle.page_printer.proofs.items.outline_at.Reads as outline-at-reads
 use Rattle.words.proofs.table.number_at.Reads as number-at-reads
@@ -88,7 +91,7 @@ abbrev print-enclosed-claims : ℕ → print-enclosed-lts.Claims
 print-enclosed-claims t = (print-line-reads.Asked, print-line-reads.Learnt, block-list-reads.Asked, block-list-reads.Learnt, print-list-below t, print-list.Post)
 
 abbrev print-item-claims : ℕ → print-item-lts.Claims
-print-item-claims t = (outline-at-reads.Asked, outline-at-reads.Learnt, print-line-reads.Asked, print-line-reads.Learnt, print-enclosed-below t, print-enclosed.Post)
+print-item-claims t = (outline-at-reads.Asked, outline-at-reads.Learnt, print-line-reads.Asked, print-line-reads.Learnt, print-enclosed-below t, print-enclosed.Post, print-arguments-reads.Asked, print-arguments-reads.Learnt, print-definition-reads.Asked, print-definition-reads.Learnt, block-list-reads.Asked, block-list-reads.Learnt, print-list-below t, print-list.Post)
 
 abbrev print-list-claims : ℕ → print-list-lts.Claims
 print-list-claims t = (print-item-below t, print-item.Post, number-at-reads.Asked, number-at-reads.Learnt)
@@ -127,7 +130,7 @@ print-enclosed-returns t c =
 
 print-item-outline-at-requires : (t : ℕ) → print-item-lts.Need-outline-at-requires (print-item-claims t) (print-item-at t) print-item.Post
 print-item-outline-at-requires t c κs =
-    row-words (c .before .pre .1 .0 .readable) (c .before .pre .1 .1)
+    (c .before .pre .1 .0 .readable, c .before .pre .1 .1)
 
 print-item-enum-known-outline : (t : ℕ) → print-item-lts.Need-enum-known-outline (print-item-claims t) (print-item-at t) print-item.Post
 print-item-enum-known-outline t c =
@@ -203,6 +206,81 @@ print-item-print-line-requires-3 t c κs =
     let last = indented (s .args .level) closes ∷ [] in
     ready-line Closes (ready-behind second last (ready-behind first (second ++ last) ready (c .before .before .before .before .before .before .before .print-enclosed2 .ensures)) (c .before .before .before .print-enclosed3 .ensures)) tt
 
+print-item-enum-known-outline-4 : (t : ℕ) → print-item-lts.Need-enum-known-outline-4 (print-item-claims t) (print-item-at t) print-item.Post
+print-item-enum-known-outline-4 t c =
+    search needs
+
+print-item-print-line-requires-4 : (t : ℕ) → print-item-lts.Need-print-line-requires-4 (print-item-claims t) (print-item-at t) print-item.Post
+print-item-print-line-requires-4 t c κs =
+    let s = (c .before .before .before .before .before .before) in
+    let line = c .before .before .outline4 .given .0 .0 in
+    let e = sym (c .before .before .before .before .outline-at .ensures) ∙ c .before .before .outline4 .given .1 in
+    let ready = ready-of (s .args .level) (s .args .row) e (s .pre .1 .0) in
+    let rest = argumentLines (s .args .level) (expressionAt (s .args .rows .now) (c .before .before .outline4 .given .0 .1 .0)) (argumentListAt (s .args .rows .now) (c .before .before .outline4 .given .0 .1 .1 .0)) in
+    ready-line line (ready-first (indented (s .args .level) (lineTree (s .args .rows .now) line) ∷ []) rest ready) (told-inside (s .pre .1 .0 .readable) (s .pre .1 .1) e .0)
+
+print-item-print-arguments-requires : (t : ℕ) → print-item-lts.Need-print-arguments-requires (print-item-claims t) (print-item-at t) print-item.Post
+print-item-print-arguments-requires t c κs =
+    let s = (c .before .before .before .before .before .before .before .before .before .before) in
+    let line = c .before .before .before .before .before .before .outline4 .given .0 .0 in
+    let e = sym (c .before .before .before .before .before .before .before .before .outline-at .ensures) ∙ c .before .before .before .before .before .before .outline4 .given .1 in
+    let ready = ready-of (s .args .level) (s .args .row) e (s .pre .1 .0) in
+    let rest = argumentLines (s .args .level) (expressionAt (s .args .rows .now) (c .before .before .before .before .before .before .outline4 .given .0 .1 .0)) (argumentListAt (s .args .rows .now) (c .before .before .before .before .before .before .outline4 .given .0 .1 .1 .0)) in
+    let inside = told-inside (s .pre .1 .0 .readable) (s .pre .1 .1) e in
+    (ready-behind (indented (s .args .level) (lineTree (s .args .rows .now) line) ∷ []) rest ready (c .before .before .before .print-line4 .ensures), inside .1, inside .2)
+
+print-item-enum-known-outline-5 : (t : ℕ) → print-item-lts.Need-enum-known-outline-5 (print-item-claims t) (print-item-at t) print-item.Post
+print-item-enum-known-outline-5 t c =
+    search needs
+
+print-item-print-definition-requires : (t : ℕ) → print-item-lts.Need-print-definition-requires (print-item-claims t) (print-item-at t) print-item.Post
+print-item-print-definition-requires t c κs =
+    let s = (c .before .before .before .before .before .before) in
+    let e = sym (c .before .before .before .before .outline-at .ensures) ∙ c .before .before .outline5 .given .1 in
+    let ready = ready-of (s .args .level) (s .args .row) e (s .pre .1 .0) in
+    let body = c .before .before .outline5 .given .0 .1 .1 .0 in
+    let first = definitionLines (s .args .level) (c .before .before .outline5 .given .0 .0) (parameterListAt (s .args .rows .now) (c .before .before .outline5 .given .0 .1 .0)) in
+    let inner = branchLines (s .args .level + 1) (statementAt (s .args .rows .now) body) in
+    let last = indented (s .args .level) closes ∷ [] in
+    let inside = told-inside (s .pre .1 .0 .readable) (s .pre .1 .1) e in
+    (ready-first first (inner ++ last) ready, inside .0)
+
+print-item-block-list-requires : (t : ℕ) → print-item-lts.Need-block-list-requires (print-item-claims t) (print-item-at t) print-item.Post
+print-item-block-list-requires t c κs =
+    let s = (c .before .before .before .before .before .before .before .before .before) in
+    let e = sym (c .before .before .before .before .before .before .before .outline-at .ensures) ∙ c .before .before .before .before .before .outline5 .given .1 in
+    row-words (s .pre .1 .0 .readable) (told-inside (s .pre .1 .0 .readable) (s .pre .1 .1) e .1)
+
+print-item-add-print-list : (t : ℕ) → print-item-lts.Need-add-print-list (print-item-claims t) (print-item-at t) print-item.Post
+print-item-add-print-list t c =
+    omega (arith, c .before .before .before .before .before .before .before .before .before .before .pre .1 .0 .shallow)
+
+print-item-print-list-requires : (t : ℕ) → print-item-lts.Need-print-list-requires (print-item-claims t) (print-item-at t) print-item.Post
+print-item-print-list-requires t c κs =
+    let s = (c .before .before .before .before .before .before .before .before .before .before .before) in
+    let e = sym (c .before .before .before .before .before .before .before .before .before .outline-at .ensures) ∙ c .before .before .before .before .before .before .before .outline5 .given .1 in
+    let ready = ready-of (s .args .level) (s .args .row) e (s .pre .1 .0) in
+    let body = c .before .before .before .before .before .before .before .outline5 .given .0 .1 .1 .0 in
+    let first = definitionLines (s .args .level) (c .before .before .before .before .before .before .before .outline5 .given .0 .0) (parameterListAt (s .args .rows .now) (c .before .before .before .before .before .before .before .outline5 .given .0 .1 .0)) in
+    let inner = branchLines (s .args .level + 1) (statementAt (s .args .rows .now) body) in
+    let last = indented (s .args .level) closes ∷ [] in
+    let inside = told-inside (s .pre .1 .0 .readable) (s .pre .1 .1) e in
+    let lines = block-list-lines (s .pre .1 .0 .readable) (s .args .level + 1) body (c .before .block-list .result) (inside .1) (c .before .block-list .ensures) in
+    (omega (arith, s .pre .0, ap (λ (o : Outline). length (outlined (s .args .rows .now) (s .args .level) o)) e, length-append first (inner ++ last), length-append inner last, definition-count (s .args .level) (c .before .before .before .before .before .before .before .outline5 .given .0 .0) (parameterListAt (s .args .rows .now) (c .before .before .before .before .before .before .before .outline5 .given .0 .1 .0)), ap length lines), (rw lines at (ready-inner first inner last ready (omega (arith, definition-count (s .args .level) (c .before .before .before .before .before .before .before .outline5 .given .0 .0) (parameterListAt (s .args .rows .now) (c .before .before .before .before .before .before .before .outline5 .given .0 .1 .0)))) (c .before .before .before .before .print-definition .ensures)), rw (c .before .block-list .ensures) (block-inside (s .pre .1 .0 .readable) (inside .1))))
+
+print-item-print-line-requires-5 : (t : ℕ) → print-item-lts.Need-print-line-requires-5 (print-item-claims t) (print-item-at t) print-item.Post
+print-item-print-line-requires-5 t c κs =
+    let s = (c .before .before .before .before .before .before .before .before .before .before .before .before .before .before .before) in
+    let e = sym (c .before .before .before .before .before .before .before .before .before .before .before .before .before .outline-at .ensures) ∙ c .before .before .before .before .before .before .before .before .before .before .before .outline5 .given .1 in
+    let ready = ready-of (s .args .level) (s .args .row) e (s .pre .1 .0) in
+    let body = c .before .before .before .before .before .before .before .before .before .before .before .outline5 .given .0 .1 .1 .0 in
+    let first = definitionLines (s .args .level) (c .before .before .before .before .before .before .before .before .before .before .before .outline5 .given .0 .0) (parameterListAt (s .args .rows .now) (c .before .before .before .before .before .before .before .before .before .before .before .outline5 .given .0 .1 .0)) in
+    let inner = branchLines (s .args .level + 1) (statementAt (s .args .rows .now) body) in
+    let last = indented (s .args .level) closes ∷ [] in
+    let inside = told-inside (s .pre .1 .0 .readable) (s .pre .1 .1) e in
+    let lines = block-list-lines (s .pre .1 .0 .readable) (s .args .level + 1) body (c .before .before .before .before .before .block-list .result) (inside .1) (c .before .before .before .before .before .block-list .ensures) in
+    ready-line Closes (ready-behind inner last (ready-behind first (inner ++ last) ready (c .before .before .before .before .before .before .before .before .print-definition .ensures)) (printed-as lines (c .before .before .before .print-list .ensures))) tt
+
 print-item-enum-told : (t : ℕ) → print-item-lts.Need-enum-told (print-item-claims t) (print-item-at t) print-item.Post
 print-item-enum-told t c =
     search needs
@@ -231,8 +309,33 @@ print-item-returns-3 : (t : ℕ) → print-item-lts.Need-returns-3 (print-item-c
 print-item-returns-3 t c =
     printed-of (c .before .before .before .before .before .before .before .before .before .before .before .before .before .before .before .before .before .args .rows .now) (c .before .before .before .before .before .before .before .before .before .before .before .before .before .before .before .before .before .args .level) (c .before .before .before .before .before .before .before .before .before .before .before .before .before .before .before .before .before .args .row) (sym (c .before .before .before .before .before .before .before .before .before .before .before .before .before .before .before .outline-at .ensures) ∙ c .before .before .before .before .before .before .before .before .before .before .before .before .before .outline3 .given .1) (printed-next (c .before .before .before .before .before .before .before .before .before .before .print-enclosed2 .ensures) (printed-next (c .before .before .before .before .before .before .print-enclosed3 .ensures) (c .before .before .print-line3 .ensures)))
 
+print-item-same-length-4 : (t : ℕ) → print-item-lts.Need-same-length-4 (print-item-claims t) (print-item-at t) print-item.Post
+print-item-same-length-4 t c =
+    search needs
+
 print-item-returns-4 : (t : ℕ) → print-item-lts.Need-returns-4 (print-item-claims t) (print-item-at t) print-item.Post
 print-item-returns-4 t c =
+    printed-of (c .before .before .before .before .before .before .before .before .before .before .before .before .before .args .rows .now) (c .before .before .before .before .before .before .before .before .before .before .before .before .before .args .level) (c .before .before .before .before .before .before .before .before .before .before .before .before .before .args .row) (sym (c .before .before .before .before .before .before .before .before .before .before .before .outline-at .ensures) ∙ c .before .before .before .before .before .before .before .before .before .outline4 .given .1) (printed-next (c .before .before .before .before .before .before .print-line4 .ensures) (c .before .before .print-arguments .ensures))
+
+print-item-same-length-5 : (t : ℕ) → print-item-lts.Need-same-length-5 (print-item-claims t) (print-item-at t) print-item.Post
+print-item-same-length-5 t c =
+    search needs
+
+print-item-returns-5 : (t : ℕ) → print-item-lts.Need-returns-5 (print-item-claims t) (print-item-at t) print-item.Post
+print-item-returns-5 t c =
+    let s = (c .before .before .before .before .before .before .before .before .before .before .before .before .before .before .before .before .before .before) in
+    let e = sym (c .before .before .before .before .before .before .before .before .before .before .before .before .before .before .before .before .outline-at .ensures) ∙ c .before .before .before .before .before .before .before .before .before .before .before .before .before .before .outline5 .given .1 in
+    let ready = ready-of (s .args .level) (s .args .row) e (s .pre .1 .0) in
+    let body = c .before .before .before .before .before .before .before .before .before .before .before .before .before .before .outline5 .given .0 .1 .1 .0 in
+    let first = definitionLines (s .args .level) (c .before .before .before .before .before .before .before .before .before .before .before .before .before .before .outline5 .given .0 .0) (parameterListAt (s .args .rows .now) (c .before .before .before .before .before .before .before .before .before .before .before .before .before .before .outline5 .given .0 .1 .0)) in
+    let inner = branchLines (s .args .level + 1) (statementAt (s .args .rows .now) body) in
+    let last = indented (s .args .level) closes ∷ [] in
+    let inside = told-inside (s .pre .1 .0 .readable) (s .pre .1 .1) e in
+    let lines = block-list-lines (s .pre .1 .0 .readable) (s .args .level + 1) body (c .before .before .before .before .before .before .before .before .block-list .result) (inside .1) (c .before .before .before .before .before .before .before .before .block-list .ensures) in
+    printed-of (s .args .rows .now) (s .args .level) (s .args .row) e (printed-next (c .before .before .before .before .before .before .before .before .before .before .before .print-definition .ensures) (printed-next (printed-as lines (c .before .before .before .before .before .before .print-list .ensures)) (c .before .before .print-line5 .ensures)))
+
+print-item-returns-6 : (t : ℕ) → print-item-lts.Need-returns-6 (print-item-claims t) (print-item-at t) print-item.Post
+print-item-returns-6 t c =
     printed-of (c .before .before .before .before .args .rows .now) (c .before .before .before .before .args .level) (c .before .before .before .before .args .row) (sym (c .before .before .outline-at .ensures) ∙ c .enum-told .given .1) (printed-none (c .before .before .before .before .args .page .now) (c .before .before .before .before .args .done) (omega (arith, c .before .before .before .before .pre .1 .0 .room)))
 
 abbrev print-list-Inv-loop : print-list-lts.InvT-loop
@@ -297,6 +400,15 @@ pub +print-enclosed+print-item+print-list-spec : {M : Type 1} → statement M
     (print-item-print-enclosed-requires-2 t)
     (print-item-print-enclosed-requires-3 t)
     (print-item-print-line-requires-3 t)
+    (print-item-enum-known-outline-4 t)
+    (print-item-print-line-requires-4 t)
+    (print-item-print-arguments-requires t)
+    (print-item-enum-known-outline-5 t)
+    (print-item-print-definition-requires t)
+    (print-item-block-list-requires t)
+    (print-item-add-print-list t)
+    (print-item-print-list-requires t)
+    (print-item-print-line-requires-5 t)
     (print-item-enum-told t)
     (print-item-same-length t)
     (print-item-returns t)
@@ -304,7 +416,11 @@ pub +print-enclosed+print-item+print-list-spec : {M : Type 1} → statement M
     (print-item-returns-2 t)
     (print-item-same-length-3 t)
     (print-item-returns-3 t)
-    (print-item-returns-4 t))
+    (print-item-same-length-4 t)
+    (print-item-returns-4 t)
+    (print-item-same-length-5 t)
+    (print-item-returns-5 t)
+    (print-item-returns-6 t))
     λ t. print-list-lts.spec (print-list-claims t) (print-list-at t) print-list.Post
     print-list-Inv-loop
     print-list-μ-loop

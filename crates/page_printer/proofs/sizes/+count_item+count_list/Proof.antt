@@ -11,7 +11,7 @@ use Rattle.page_line.specs.ReadsLaws.{row-words}
 use Rattle.page_printer.specs.declared.Outline.{Outline}
 use Rattle.page_printer.specs.Outlines.{outlineAt, outlined}
 use Rattle.page_printer.specs.OutlineLaws.{next-inside, next-later}
-use Rattle.page_printer.specs.CountLaws.{ahead, ahead-falls, told-inside, list-count, enclosed-count, split-count, block-sized}
+use Rattle.page_printer.specs.CountLaws.{ahead, ahead-falls, told-inside, list-count, enclosed-count, split-count, called-count, defined-count, block-sized}
 use Prim.Native.Nat.{ℕ, _<_}
 use borrow.Fn.Kinds.{In}
 use borrow.Fn.PlainCycle.{Measures, is, falls, and}
@@ -21,6 +21,8 @@ use Rattle.page_printer.proofs.sizes.+count_item+count_list.Lts-count_i
 use Rattle.page_printer.proofs.sizes.count_list.Reads as count-list
 use Rattle.page_printer.proofs.sizes.count_list.Kinds as count-list-kinds
 use Rattle.page_printer.proofs.sizes.+count_item+count_list.Lts-count_list as count-list-lts
+use Rattle.page_printer.proofs.functions.count_arguments.Reads as count-arguments-reads
+use Rattle.page_printer.proofs.functions.count_parameters.Reads as count-parameters-reads
 use Rattle.page_printer.proofs.items.block_list.Reads as block-list-reads
 use Rattle.page_printer.proofs.items.outline_at.Reads as outline-at-reads
 use Rattle.words.proofs.table.number_at.Reads as number-at-reads
@@ -52,14 +54,14 @@ count-list-below t =
     and 1 count-list-kinds.ps (falls 1 count-list-kinds.ps _<_ μ-count-list t) count-list.Pre
 
 abbrev count-item-claims : ℕ → count-item-lts.Claims
-count-item-claims t = (outline-at-reads.Asked, outline-at-reads.Learnt, block-list-reads.Asked, block-list-reads.Learnt, count-list-below t, count-list.Post)
+count-item-claims t = (outline-at-reads.Asked, outline-at-reads.Learnt, block-list-reads.Asked, block-list-reads.Learnt, count-list-below t, count-list.Post, count-arguments-reads.Asked, count-arguments-reads.Learnt, count-parameters-reads.Asked, count-parameters-reads.Learnt)
 
 abbrev count-list-claims : ℕ → count-list-lts.Claims
 count-list-claims t = (count-item-below t, count-item.Post, number-at-reads.Asked, number-at-reads.Learnt)
 
 count-item-outline-at-requires : (t : ℕ) → count-item-lts.Need-outline-at-requires (count-item-claims t) (count-item-at t) count-item.Post
 count-item-outline-at-requires t c κs =
-    row-words (c .pre .1 .readable) (c .pre .1 .inside)
+    (c .pre .1 .readable, c .pre .1 .inside)
 
 count-item-enum-told : (t : ℕ) → count-item-lts.Need-enum-told (count-item-claims t) (count-item-at t) count-item.Post
 count-item-enum-told t c =
@@ -124,6 +126,65 @@ count-item-add-result-3 t c =
     let p = c .before .before .before .before .before .before .before .before .pre .1 in
     omega (arith, split-count (p .readable) (p .inside) _ _ _ (c .before .before .before .block-list2 .result) (c .before .before .block-list3 .result) (sym (c .before .before .before .before .before .before .before .outline-at .ensures) ∙ c .before .before .before .before .before .outline2 .given .1) (c .before .before .before .block-list2 .ensures) (c .before .before .block-list3 .ensures), c .before .count-list2 .ensures, c .count-list3 .ensures, p .few)
 
+count-item-enum-known-outline-3 : (t : ℕ) → count-item-lts.Need-enum-known-outline-3 (count-item-claims t) (count-item-at t) count-item.Post
+count-item-enum-known-outline-3 t c =
+    search needs
+
+count-item-count-arguments-requires : (t : ℕ) → count-item-lts.Need-count-arguments-requires (count-item-claims t) (count-item-at t) count-item.Post
+count-item-count-arguments-requires t c κs =
+    let p = c .before .before .before .before .pre .1 in
+    let e = sym (c .before .before .before .outline-at .ensures) ∙ c .before .outline3 .given .1 in
+    (p .readable, told-inside (p .readable) (p .inside) e .2, omega (arith, called-count (p .readable) (p .inside) _ _ _ e, p .few))
+
+count-item-add-result-4 : (t : ℕ) → count-item-lts.Need-add-result-4 (count-item-claims t) (count-item-at t) count-item.Post
+count-item-add-result-4 t c =
+    let p = c .before .before .before .before .before .pre .1 in
+    omega (arith, called-count (p .readable) (p .inside) _ _ _ (sym (c .before .before .before .before .outline-at .ensures) ∙ c .before .before .outline3 .given .1), c .count-arguments .ensures, p .few)
+
+count-item-enum-known-outline-4 : (t : ℕ) → count-item-lts.Need-enum-known-outline-4 (count-item-claims t) (count-item-at t) count-item.Post
+count-item-enum-known-outline-4 t c =
+    search needs
+
+count-item-count-parameters-requires : (t : ℕ) → count-item-lts.Need-count-parameters-requires (count-item-claims t) (count-item-at t) count-item.Post
+count-item-count-parameters-requires t c κs =
+    let p = c .before .before .before .before .pre .1 in
+    let e = sym (c .before .before .before .outline-at .ensures) ∙ c .before .outline4 .given .1 in
+    let inside = told-inside (p .readable) (p .inside) e in
+    (p .readable, inside .0, omega (arith, defined-count (p .readable) (p .inside) _ _ _ _ e refl, p .few))
+
+count-item-add-opened : (t : ℕ) → count-item-lts.Need-add-opened (count-item-claims t) (count-item-at t) count-item.Post
+count-item-add-opened t c =
+    let p = c .before .before .before .before .before .pre .1 in
+    let e = sym (c .before .before .before .before .outline-at .ensures) ∙ c .before .before .outline4 .given .1 in
+    omega (arith, defined-count (p .readable) (p .inside) _ _ _ _ e refl, c .count-parameters .ensures, p .few)
+
+count-item-block-list-requires-4 : (t : ℕ) → count-item-lts.Need-block-list-requires-4 (count-item-claims t) (count-item-at t) count-item.Post
+count-item-block-list-requires-4 t c κs =
+    let p = c .before .before .before .before .before .pre .1 in
+    let e = sym (c .before .before .before .before .outline-at .ensures) ∙ c .before .before .outline4 .given .1 in
+    row-words (p .readable) (told-inside (p .readable) (p .inside) e .1)
+
+count-item-count-list-requires-4 : (t : ℕ) → count-item-lts.Need-count-list-requires-4 (count-item-claims t) (count-item-at t) count-item.Post
+count-item-count-list-requires-4 t c κs =
+    let p = c .before .before .before .before .before .before .pre .1 in
+    let e = sym (c .before .before .before .before .before .outline-at .ensures) ∙ c .before .before .before .outline4 .given .1 in
+    let n = defined-count (p .readable) (p .inside) _ _ _ (c .block-list4 .result) e (c .block-list4 .ensures) in
+    (omega (arith, n, c .before .before .before .before .before .before .pre .0), block-sized (p .readable) (p .inside) _ (c .block-list4 .result) (told-inside (p .readable) (p .inside) e .1) (c .block-list4 .ensures) (omega (arith, n, p .few)))
+
+count-item-add-result-5 : (t : ℕ) → count-item-lts.Need-add-result-5 (count-item-claims t) (count-item-at t) count-item.Post
+count-item-add-result-5 t c =
+    let p = c .before .before .before .before .before .before .before .pre .1 in
+    let e = sym (c .before .before .before .before .before .before .outline-at .ensures) ∙ c .before .before .before .before .outline4 .given .1 in
+    let n = defined-count (p .readable) (p .inside) _ _ _ (c .before .block-list4 .result) e (c .before .block-list4 .ensures) in
+    omega (arith, n, c .before .before .count-parameters .ensures, c .count-list4 .ensures, p .few)
+
+count-item-add-result-6 : (t : ℕ) → count-item-lts.Need-add-result-6 (count-item-claims t) (count-item-at t) count-item.Post
+count-item-add-result-6 t c =
+    let p = c .before .before .before .before .before .before .before .pre .1 in
+    let e = sym (c .before .before .before .before .before .before .outline-at .ensures) ∙ c .before .before .before .before .outline4 .given .1 in
+    let n = defined-count (p .readable) (p .inside) _ _ _ (c .before .block-list4 .result) e (c .before .block-list4 .ensures) in
+    omega (arith, n, c .before .before .count-parameters .ensures, c .count-list4 .ensures, p .few)
+
 count-item-enum-told-2 : (t : ℕ) → count-item-lts.Need-enum-told-2 (count-item-claims t) (count-item-at t) count-item.Post
 count-item-enum-told-2 t c =
     search needs
@@ -144,6 +205,18 @@ count-item-returns-3 t c =
 
 count-item-returns-4 : (t : ℕ) → count-item-lts.Need-returns-4 (count-item-claims t) (count-item-at t) count-item.Post
 count-item-returns-4 t c =
+    let p = c .before .before .before .before .before .pre .1 in
+    omega (arith, called-count (p .readable) (p .inside) _ _ _ (sym (c .before .before .before .before .outline-at .ensures) ∙ c .before .before .outline3 .given .1), c .count-arguments .ensures)
+
+count-item-returns-5 : (t : ℕ) → count-item-lts.Need-returns-5 (count-item-claims t) (count-item-at t) count-item.Post
+count-item-returns-5 t c =
+    let p = c .before .before .before .before .before .before .before .pre .1 in
+    let e = sym (c .before .before .before .before .before .before .outline-at .ensures) ∙ c .before .before .before .before .outline4 .given .1 in
+    let n = defined-count (p .readable) (p .inside) _ _ _ (c .before .block-list4 .result) e (c .before .block-list4 .ensures) in
+    omega (arith, n, c .before .before .count-parameters .ensures, c .count-list4 .ensures)
+
+count-item-returns-6 : (t : ℕ) → count-item-lts.Need-returns-6 (count-item-claims t) (count-item-at t) count-item.Post
+count-item-returns-6 t c =
     sym (ap (λ (o : Outline). length (outlined (c .before .before .before .args .rows .now) 0 o)) (sym (c .before .before .outline-at .ensures) ∙ c .enum-told2 .given .1))
 
 abbrev count-list-Inv-loop : count-list-lts.InvT-loop
@@ -204,11 +277,23 @@ pub +count-item+count-list-spec : {M : Type 1} → statement M
     (count-item-count-list-requires-3 t)
     (count-item-add-result-2 t)
     (count-item-add-result-3 t)
+    (count-item-enum-known-outline-3 t)
+    (count-item-count-arguments-requires t)
+    (count-item-add-result-4 t)
+    (count-item-enum-known-outline-4 t)
+    (count-item-count-parameters-requires t)
+    (count-item-add-opened t)
+    (count-item-block-list-requires-4 t)
+    (count-item-count-list-requires-4 t)
+    (count-item-add-result-5 t)
+    (count-item-add-result-6 t)
     (count-item-enum-told-2 t)
     (count-item-returns t)
     (count-item-returns-2 t)
     (count-item-returns-3 t)
-    (count-item-returns-4 t))
+    (count-item-returns-4 t)
+    (count-item-returns-5 t)
+    (count-item-returns-6 t))
     λ t. count-list-lts.spec (count-list-claims t) (count-list-at t) count-list.Post
     count-list-Inv-loop
     count-list-μ-loop

@@ -61,6 +61,16 @@ put-binary-requires : tie.Need-put-binary-requires
 put-binary-requires c κs =
     (value-room _ _ (c .before .before .before .before .value4 .given .1) _ _ (c .before .before .before .before .before .before .pre .0), c .before .before .before .before .before .before .pre .2, c .before .before .kernel-atom4 .ensures .1, c .before .kernel-atom5 .ensures .1)
 
+enum-known-value-5 : tie.Need-enum-known-value-5
+enum-known-value-5 c = search needs
+
+cast-put-called : tie.Need-cast-put-called
+cast-put-called c = search needs
+
+put-called-requires : tie.Need-put-called-requires
+put-called-requires c κs =
+    (value-room _ _ (c .before .before .value5 .given .1) _ _ (c .before .before .before .before .pre .0), c .before .before .before .before .pre .2, omega (arith, value-fit _ _ (c .before .before .value5 .given .1) (c .before .before .before .before .pre .3)))
+
 same-length : tie.Need-same-length
 same-length c = search needs
 
@@ -93,6 +103,13 @@ returns-4 c =
     recoded _ _ _ _ _ _ (c .before .put-binary .ensures)
     (ap₂ (λ x y. express (assign (variable (c .before .before .before .before .before .before .before .before .args .number)) (binary (c .before .before .before .before .before .before .value4 .given .0 .0) x y)) then none) (c .before .before .before .before .kernel-atom4 .ensures .0) (c .before .before .before .kernel-atom5 .ensures .0) ∙ ap (λ v. express (assign (variable (c .before .before .before .before .before .before .before .before .args .number)) (valueTree (c .before .before .before .before .before .before .before .before .args .sizes) v)) then none) (sym (c .before .before .before .before .before .before .value4 .given .1)))
 
+same-length-5 : tie.Need-same-length-5
+same-length-5 c = search needs
+
+returns-5 : tie.Need-returns-5
+returns-5 c =
+    recoded _ _ _ _ _ _ (c .before .put-called .ensures) (ap (λ v. express (assign (variable (c .before .before .before .before .before .before .args .number)) (valueTree (c .before .before .before .before .before .before .args .sizes) v)) then none) (sym (c .before .before .before .before .value5 .given .1)))
+
 pub put-value-spec : {M : Type 1} → statement M
 put-value-spec =
     tie.close
@@ -111,6 +128,9 @@ put-value-spec =
     kernel-atom-requires-4
     kernel-atom-requires-5
     put-binary-requires
+    enum-known-value-5
+    cast-put-called
+    put-called-requires
     same-length
     returns
     same-length-2
@@ -118,4 +138,6 @@ put-value-spec =
     same-length-3
     returns-3
     same-length-4
-    returns-4)
+    returns-4
+    same-length-5
+    returns-5)

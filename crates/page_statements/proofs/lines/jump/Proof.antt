@@ -1,7 +1,6 @@
 -- `jump`: goto and label by what stands around their numbers.
 use mathlib.Core.Path.{sym, ap, _∙_}
 use mathlib.Core.List.{List, [], _∷_}
-use mathlib.Core.Bool.{true}
 use native.Mathlib.Omega.{arith}
 use Rattle.page_words.specs.Reads.{gotoOf, labelOf, jumpRead}
 use Rattle.page_words.specs.CompareLaws.{framed-long}
@@ -79,13 +78,13 @@ unfolding jumpRead
 returns-2 c =
     rw (sym (c .before .before .before .before .before .before .before .before .is-framed .ensures) ∙ c .before .before .before .before .before .before .before .if1 .left, sym (c .before .before .before .before .is-framed2 .ensures) ∙ c .before .before .before .if2 .taken) (c .label-of .ensures ∙ ap labelOf (c .before .number-below2 .ensures))
 
-tested-requires : tie.Need-tested-requires
-tested-requires c κs = search needs
+function-requires : tie.Need-function-requires
+function-requires c κs = search needs
 
 returns-3 : tie.Need-returns-3
 unfolding jumpRead
 returns-3 c =
-    rw (sym (c .before .before .before .before .before .before .is-framed .ensures) ∙ c .before .before .before .before .before .if1 .left, sym (c .before .before .is-framed2 .ensures) ∙ c .before .if2 .left) (c .tested .ensures)
+    rw (sym (c .before .before .before .before .before .before .is-framed .ensures) ∙ c .before .before .before .before .before .if1 .left, sym (c .before .before .is-framed2 .ensures) ∙ c .before .if2 .left) (c .function .ensures)
 
 pub jump-spec : {M : Type 1} → statement M
 jump-spec =
@@ -111,5 +110,5 @@ jump-spec =
     number-below-requires-2
     label-of-requires
     returns-2
-    tested-requires
+    function-requires
     returns-3)

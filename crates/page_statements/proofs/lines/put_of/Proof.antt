@@ -24,6 +24,9 @@ enum-told-3 c = search needs
 enum-told-4 : tie.Need-enum-told-4
 enum-told-4 c = search needs
 
+enum-told-5 : tie.Need-enum-told-5
+enum-told-5 c = search needs
+
 returns-2 : tie.Need-returns-2
 returns-2 c =
     rw (c .before .before .before .before .value .given .1, c .before .assigned .given .1)
@@ -37,6 +40,9 @@ returns-4 c = search needs
 returns-5 : tie.Need-returns-5
 returns-5 c = search needs
 
+returns-6 : tie.Need-returns-6
+returns-6 c = search needs
+
 pub put-of-spec : {M : Type 1} → statement M
 put-of-spec =
     tie.close
@@ -48,7 +54,9 @@ put-of-spec =
     enum-told-2
     enum-told-3
     enum-told-4
+    enum-told-5
     returns-2
     returns-3
     returns-4
-    returns-5)
+    returns-5
+    returns-6)

@@ -1,7 +1,6 @@
 -- `value`: one word, or several parted by blanks.
-use mathlib.Core.Path.{ap₂, _∙_}
+use mathlib.Core.Path.{_∙_}
 use native.Mathlib.Omega.{arith}
-use Rattle.page_words.specs.Reads.{singleOf}
 use Rattle.page_words.specs.Parts.{piece-within, value-unparted, value-parted}
 use borrow.Author.Needs.{needs}
 use Rattle.page_statements.proofs.values.value.Statement.{statement}
@@ -10,18 +9,12 @@ use Rattle.page_statements.proofs.values.value.Tie as tie
 piece-end-requires : tie.Need-piece-end-requires
 piece-end-requires c κs = search needs
 
-element-requires : tie.Need-element-requires
-element-requires c κs = search needs
-
-atom-requires : tie.Need-atom-requires
-atom-requires c κs = search needs
-
-single-of-requires : tie.Need-single-of-requires
-single-of-requires c κs = search needs
+single-requires : tie.Need-single-requires
+single-requires c κs = search needs
 
 returns : tie.Need-returns
 returns c =
-    c .single-of .ensures ∙ ap₂ singleOf (c .before .before .element .ensures) (c .before .atom .ensures) ∙ value-unparted (c .before .before .before .before .before .before .args .names) (c .before .before .before .before .before .before .args .text .now) (c .before .before .before .before .piece-end .result) (c .before .before .before .before .piece-end .ensures) (c .before .before .before .if1 .taken)
+    c .single .ensures ∙ value-unparted (c .before .before .before .before .args .names) (c .before .before .before .before .args .text .now) (c .before .before .piece-end .result) (c .before .before .piece-end .ensures) (c .before .if1 .taken)
 
 add-next : tie.Need-add-next
 add-next c =
@@ -60,9 +53,7 @@ value-spec =
     tie.close
     (tie.spec
     piece-end-requires
-    element-requires
-    atom-requires
-    single-of-requires
+    single-requires
     returns
     add-next
     sub-several

@@ -29,11 +29,8 @@ enum-known-shape-3 c = search needs
 choice-links-requires : tie.Need-choice-links-requires
 choice-links-requires c κs = search needs
 
-enum-told-2 : tie.Need-enum-told-2
-enum-told-2 c = search needs
-
-links-requires-2 : tie.Need-links-requires-2
-links-requires-2 c κs = search needs
+enum-known-shape-4 : tie.Need-enum-known-shape-4
+enum-known-shape-4 c = search needs
 
 returns : tie.Need-returns
 returns c = c .links .ensures ∙ sym (ap linksOf (c .before .enum-told .given .1))
@@ -48,7 +45,7 @@ returns-4 : tie.Need-returns-4
 returns-4 c = c .choice-links .ensures ∙ sym (ap linksOf (c .before .before .shape3 .given .1))
 
 returns-5 : tie.Need-returns-5
-returns-5 c = c .links2 .ensures ∙ sym (ap linksOf (c .before .enum-told2 .given .1))
+returns-5 c = sym (ap linksOf (c .before .shape4 .given .1))
 
 pub links-of-spec : {M : Type 1} → statement M
 links-of-spec =
@@ -62,8 +59,7 @@ links-of-spec =
     operation-links-requires
     enum-known-shape-3
     choice-links-requires
-    enum-told-2
-    links-requires-2
+    enum-known-shape-4
     returns
     returns-2
     returns-3

@@ -19,8 +19,8 @@ nothing-requires c κs = search needs
 loop-holds : tie.Need-loop-holds Inv-loop μ-loop
 loop-holds c = variables-start (c .nothing .ensures)
 
-row-set-requires : tie.Need-row-set-requires Inv-loop μ-loop
-row-set-requires c κs = omega (arith, c .loop-test .taken, c .before .before .before .before .pre .room)
+set-of-requires : tie.Need-set-of-requires Inv-loop μ-loop
+set-of-requires c κs = omega (arith, c .loop-test .taken, c .before .before .before .before .pre .room)
 
 declared-set-requires : tie.Need-declared-set-requires Inv-loop μ-loop
 declared-set-requires c κs = let asked = c .before .before .before .before .before .pre in (asked .source, asked .names, c .before .loop-test .taken)
@@ -39,7 +39,7 @@ loop-less c = omega (arith, c .before .before .before .before .loop-test .taken)
 
 loop-again : tie.Need-loop-again Inv-loop μ-loop
 loop-again c =
-    variables-next (c .before .before .before .before .before .before .before .before .pre) (c .before .before .before .before .before .loop .inv) (c .before .before .before .before .loop-test .taken) (c .before .before .before .row-set .ensures)
+    variables-next (c .before .before .before .before .before .before .before .before .pre) (c .before .before .before .before .before .loop .inv) (c .before .before .before .before .loop-test .taken) (c .before .before .before .set-of .ensures)
     (c .before .before .declared-set .ensures) (c .before .join .ensures) (c .join2 .ensures)
 
 returns : tie.Need-returns Inv-loop μ-loop
@@ -53,7 +53,7 @@ any-variables-spec =
     μ-loop
     nothing-requires
     loop-holds
-    row-set-requires
+    set-of-requires
     declared-set-requires
     join-requires
     join-requires-2

@@ -12,11 +12,11 @@ is-declaration-requires c κs = search needs
 
 store-word-requires : tie.Need-store-word-requires
 store-word-requires c κs =
-    let s = c .before .before .before .before .pre in (s .1, count-room (s .0) _ (s .2), count-few (s .0) _ (s .2))
+    let s = c .before .before .before .before .before .pre in (s .1, count-room (s .0) _ (s .2), count-few (s .0) _ (s .2))
 
 returns : tie.Need-returns
 returns c =
-    back _ (c .store-word .ok) ∙ c .store-word .ensures ∙ declared-word _ _ _ (c .before .before .before .before .before .pre .0) (c .before .before .before .before .before .pre .2) ∙ sym (name-declared _ _ _ (sym (c .before .before .is-declaration .ensures) ∙ c .before .if1 .taken))
+    back _ (c .store-word .ok) ∙ c .store-word .ensures ∙ declared-word _ _ _ (c .before .before .before .before .before .before .pre .0) (c .before .before .before .before .before .before .pre .2) ∙ sym (name-declared _ _ _ (sym (c .before .before .is-declaration .ensures) ∙ c .before .if1 .taken))
 
 number-at-requires : tie.Need-number-at-requires
 number-at-requires c κs = search needs

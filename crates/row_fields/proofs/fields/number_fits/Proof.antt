@@ -13,13 +13,13 @@ unfolding numberFits
 returns c =
     rw (eq-eqb _ _ (c .before .if1 .taken)) (c .variable-fits .ensures)
 
-variable-fits-requires-2 : tie.Need-variable-fits-requires-2
-variable-fits-requires-2 c κs = search needs
+declared-fits-requires : tie.Need-declared-fits-requires
+declared-fits-requires c κs = search needs
 
 returns-2 : tie.Need-returns-2
 unfolding numberFits
 returns-2 c =
-    rw (ne-eqb _ _ (c .before .before .if1 .left), eq-eqb _ _ (c .before .if2 .taken)) (c .variable-fits2 .ensures)
+    rw (ne-eqb _ _ (c .before .before .if1 .left), eq-eqb _ _ (c .before .if2 .taken)) (c .declared-fits .ensures)
 
 returns-3 : tie.Need-returns-3
 unfolding numberFits
@@ -37,4 +37,4 @@ returns-5 c =
     rw (ne-eqb _ _ (c .before .before .before .if1 .left), ne-eqb _ _ (c .before .before .if2 .left), ne-eqb _ _ (c .before .if3 .left), ne-eqb _ _ (c .if4 .left))
 
 pub number-fits-spec : {M : Type 1} → statement M
-number-fits-spec = tie.close (tie.spec variable-fits-requires returns variable-fits-requires-2 returns-2 returns-3 returns-4 returns-5)
+number-fits-spec = tie.close (tie.spec variable-fits-requires returns declared-fits-requires returns-2 returns-3 returns-4 returns-5)

@@ -5,7 +5,7 @@ use Rattle.row_writes.proofs.ArgumentLaws.{argument-set, no-argument-se
 use borrow.Author.Needs.{needs}
 use Rattle.row_writes.proofs.arguments.argument_writes.Statement.{statement}
 use Rattle.row_writes.proofs.arguments.argument_writes.Tie as tie
-use Rattle.row_writes.proofs.writes.set_at.Reads as set-at-reads
+use Rattle.row_writes.proofs.table.set_at.Reads as set-at-reads
 use Rattle.shapes.proofs.rows.argument_at.Reads as argument-at-reads
 use Rattle.write_sets.proofs.nothing.Reads as nothing-reads
 
@@ -16,7 +16,7 @@ enum-known-shape : tie.Need-enum-known-shape
 enum-known-shape c = search needs
 
 set-at-requires : tie.Need-set-at-requires
-set-at-requires c κs = link-held (c .before .before .before .before .before .pre .0) ((argued (c .before .before .before .argument-at .ensures) (c .before .shape .given .1)) .onward)
+set-at-requires c κs = link-held (c .before .before .before .before .before .pre .0) (λ h. (argued (c .before .before .before .argument-at .ensures) (c .before .shape .given .1)) .onward)
 
 enum-told : tie.Need-enum-told
 enum-told c = search needs

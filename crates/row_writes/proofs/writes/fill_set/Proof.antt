@@ -1,10 +1,10 @@
 -- One row more has its set.
 use native.Mathlib.Omega.{arith}
-use Rattle.row_writes.proofs.WriteLaws.{one-set-more}
+use Rattle.row_writes.proofs.WriteLaws.{one-set-more, functions-kept}
 use borrow.Author.Needs.{needs}
 use Rattle.row_writes.proofs.writes.fill_set.Statement.{statement}
 use Rattle.row_writes.proofs.writes.fill_set.Tie as tie
-use Rattle.row_writes.proofs.writes.put_set.Reads as put-set-reads
+use Rattle.row_writes.proofs.table.put_set.Reads as put-set-reads
 use Rattle.row_writes.proofs.writes.writes_at.Reads as writes-at-reads
 
 writes-at-requires : tie.Need-writes-at-requires
@@ -17,7 +17,9 @@ same-length : tie.Need-same-length
 same-length c = search needs
 
 returns : tie.Need-returns
-returns c = one-set-more _ _ _ _ _ (omega (arith, c .before .before .before .before .before .before .before .pre .0 .room, c .before .before .before .before .before .before .before .pre .1)) (c .before .before .put-set .ensures) (c .before .before .before .before .writes-at .ensures) (c .before .before .before .before .before .before .before .pre .0)
+returns c =
+    let p = c .before .before .before .before .before .before .before .pre in
+    (one-set-more _ _ _ _ _ (omega (arith, p .0 .room, p .2)) (c .before .before .put-set .ensures) (c .before .before .before .before .writes-at .ensures) (p .0), functions-kept _ _ _ _ _ (omega (arith, p .0 .room, p .2)) (c .before .before .put-set .ensures) (p .1))
 
 pub fill-set-spec : {M : Type 1} → statement M
 fill-set-spec = tie.close (tie.spec writes-at-requires put-set-requires same-length returns)

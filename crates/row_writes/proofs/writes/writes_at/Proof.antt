@@ -1,82 +1,56 @@
--- What an expression writes, by its shape.
-use Rattle.shapes.specs.ShapeLaws.{expressed}
-use Rattle.row_writes.proofs.WriteLaws.{number-set, call-set}
+-- What an expression writes: what its own row does, and what is written at its links.
+use native.Mathlib.Omega.{arith}
 use borrow.Author.Needs.{needs}
+use Rattle.row_writes.proofs.WriteLaws.{link-held, part-link}
+use Rattle.row_writes.proofs.ReachLaws.{row-reach, reach-set}
 use Rattle.row_writes.proofs.writes.writes_at.Statement.{statement}
 use Rattle.row_writes.proofs.writes.writes_at.Tie as tie
-use Rattle.row_writes.proofs.arguments.arguments_writes.Reads as arguments-writes-reads
-use Rattle.row_writes.proofs.writes.choice_writes.Reads as choice-writes-reads
-use Rattle.row_writes.proofs.writes.operation_writes.Reads as operation-writes-reads
-use Rattle.row_writes.proofs.writes.read_writes.Reads as read-writes-reads
-use Rattle.shapes.proofs.rows.expression_at.Reads as expression-at-reads
-use Rattle.write_sets.proofs.nothing.Reads as nothing-reads
 
-expression-at-requires : tie.Need-expression-at-requires
-expression-at-requires c κs = search needs
-
-enum-told : tie.Need-enum-told
-enum-told c = search needs
-
-nothing-requires : tie.Need-nothing-requires
-nothing-requires c κs = search needs
-
-enum-known-shape : tie.Need-enum-known-shape
-enum-known-shape c = search needs
-
-read-writes-requires : tie.Need-read-writes-requires
-read-writes-requires c κs = (c .before .before .before .before .before .pre .0, expressed (c .before .before .before .expression-at .ensures) (c .before .shape .given .1))
-
-enum-known-shape-2 : tie.Need-enum-known-shape-2
-enum-known-shape-2 c = search needs
-
-operation-writes-requires : tie.Need-operation-writes-requires
-operation-writes-requires c κs = (c .before .before .before .before .before .pre .0, expressed (c .before .before .before .expression-at .ensures) (c .before .shape2 .given .1))
-
-enum-known-shape-3 : tie.Need-enum-known-shape-3
-enum-known-shape-3 c = search needs
-
-choice-writes-requires : tie.Need-choice-writes-requires
-choice-writes-requires c κs = (c .before .before .before .before .before .pre .0, expressed (c .before .before .before .expression-at .ensures) (c .before .shape3 .given .1))
-
-enum-known-shape-4 : tie.Need-enum-known-shape-4
-enum-known-shape-4 c = search needs
+reach-at-requires : tie.Need-reach-at-requires
+reach-at-requires c κs = let p = c .before .pre in (p .0 .source, p .0 .names, p .2, omega (arith, p .0 .room, p .2))
 
 arguments-writes-requires : tie.Need-arguments-writes-requires
-arguments-writes-requires c κs = (c .before .before .before .before .before .pre .0, (expressed (c .before .before .before .expression-at .ensures) (c .before .shape4 .given .1)) .onward)
+arguments-writes-requires c κs = (c .before .before .pre .0, (row-reach (c .before .before .pre .0) (c .before .before .pre .1) (c .before .before .pre .2) (c .reach-at .ensures)) .arguments)
+
+set-at-requires : tie.Need-set-at-requires
+set-at-requires c κs = link-held (c .before .before .before .pre .0) ((row-reach (c .before .before .before .pre .0) (c .before .before .before .pre .1) (c .before .before .before .pre .2) (c .before .reach-at .ensures)) .third)
+
+join-requires : tie.Need-join-requires
+join-requires c κs = search needs
+
+set-at-requires-2 : tie.Need-set-at-requires-2
+set-at-requires-2 c κs = link-held (c .before .before .before .before .before .pre .0) ((row-reach (c .before .before .before .before .before .pre .0) (c .before .before .before .before .before .pre .1) (c .before .before .before .before .before .pre .2) (c .before .before .before .reach-at .ensures)) .second)
+
+join-requires-2 : tie.Need-join-requires-2
+join-requires-2 c κs = search needs
+
+set-at-requires-3 : tie.Need-set-at-requires-3
+set-at-requires-3 c κs = link-held (c .before .before .before .before .before .before .before .pre .0) ((row-reach (c .before .before .before .before .before .before .before .pre .0) (c .before .before .before .before .before .before .before .pre .1) (c .before .before .before .before .before .before .before .pre .2) (c .before .before .before .before .before .reach-at .ensures)) .first)
+
+join-requires-3 : tie.Need-join-requires-3
+join-requires-3 c κs = search needs
+
+join-requires-4 : tie.Need-join-requires-4
+join-requires-4 c κs = search needs
 
 returns : tie.Need-returns
-returns c = number-set (c .before .before .before .before .before .pre .0) (expressed (c .before .before .before .expression-at .ensures) (c .before .enum-told .given .1)) (c .nothing .ensures)
-
-returns-2 : tie.Need-returns-2
-returns-2 c = search needs
-
-returns-3 : tie.Need-returns-3
-returns-3 c = search needs
-
-returns-4 : tie.Need-returns-4
-returns-4 c = search needs
-
-returns-5 : tie.Need-returns-5
-returns-5 c =
-    call-set (c .before .before .before .before .before .before .pre .0) (expressed (c .before .before .before .before .expression-at .ensures) (c .before .before .shape4 .given .1)) (c .arguments-writes .ensures)
+returns c =
+    let m = c .before .before .before .before .before .before .before .before .before .before .pre .0 in
+    let reach = row-reach (c .before .before .before .before .before .before .before .before .before .before .pre .0) (c .before .before .before .before .before .before .before .before .before .before .pre .1) (c .before .before .before .before .before .before .before .before .before .before .pre .2) (c .before .before .before .before .before .before .before .before .reach-at .ensures) in
+    reach-set reach (part-link m _ (reach .first) (c .before .before .set-at3 .ensures)) (part-link m _ (reach .second) (c .before .before .before .before .set-at2 .ensures)) (part-link m _ (reach .third) (c .before .before .before .before .before .before .set-at .ensures)) (c .before .before .before .before .before .before .before .arguments-writes .ensures)
+    (c .before .before .before .before .before .join .ensures) (c .before .before .before .join2 .ensures) (c .before .join3 .ensures) (c .join4 .ensures)
 
 pub writes-at-spec : {M : Type 1} → statement M
 writes-at-spec =
     tie.close
     (tie.spec
-    expression-at-requires
-    enum-told
-    nothing-requires
-    enum-known-shape
-    read-writes-requires
-    enum-known-shape-2
-    operation-writes-requires
-    enum-known-shape-3
-    choice-writes-requires
-    enum-known-shape-4
+    reach-at-requires
     arguments-writes-requires
-    returns
-    returns-2
-    returns-3
-    returns-4
-    returns-5)
+    set-at-requires
+    join-requires
+    set-at-requires-2
+    join-requires-2
+    set-at-requires-3
+    join-requires-3
+    join-requires-4
+    returns)

@@ -12,11 +12,12 @@ use Rattle.shapes.specs.ShapeLaws.{expressed}
 use Rattle.shapes.specs.declared.ExpressionShape.the-variants.{Operation}
 use Rattle.leaves.specs.Straight.{straightCode}
 use Rattle.leaves.specs.Chain.{room-less}
-use Rattle.straight_writers.specs.AtomLaws.{held-is, onward-inside, room-by-shape, choice-none, call-none}
+use Rattle.straight_writers.specs.AtomLaws.{held-is, onward-inside, room-by-shape, choice-none}
 use Rattle.leaves.specs.LeafLaws.{recoded, nothing-wrote}
 use Rattle.language.specs.Writes.{indexWrites}
 use Rattle.measure_table.specs.Parts.{calledIn, firstCopied}
 use Rattle.measure_table.specs.MeasureLaws.{landed-copied}
+use Rattle.expression_measures.proofs.PassedLaws.{called-otherwise}
 use borrow.Author.Needs.{needs}
 use Rattle.straight_writers.proofs.straight.put_straight.Statement.{statement}
 use Rattle.straight_writers.proofs.straight.put_straight.Tie as tie
@@ -244,7 +245,7 @@ returns-11 c = recoded _ _ _ _ _ _ (nothing-wrote (c .before .before .before .be
 returns-12 : tie.Need-returns-12
 returns-12 c =
     let start = c .before .before .before .before .before .before in
-    recoded _ _ _ _ _ _ (nothing-wrote (start .args .follows) (start .args .base) _) (call-none (start .args .store) (start .args .usage) (start .args .level) (start .pre .0 .measured .source) (start .pre .1 .inside) (expressed (c .before .before .expression-at .ensures) (c .enum-told4 .given .1)))
+    absurd (called-otherwise (expressed (c .before .before .expression-at .ensures) (c .enum-told4 .given .1)) (start .pre .1 .no-call))
 
 pub put-straight-spec : {M : Type 1} → statement M
 put-straight-spec =

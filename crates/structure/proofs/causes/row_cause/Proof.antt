@@ -9,11 +9,11 @@ use Rattle.structure.proofs.causes.row_cause.Statement.{statement}
 use Rattle.structure.proofs.causes.row_cause.Tie as tie
 
 abbrev Inv-loop : tie.InvT-loop
-Inv-loop kinds form bounds rows row cause₀ field₀ cause field =
+Inv-loop kinds form bounds rows parameters row cause₀ field₀ cause field =
     (field ≤ 6) × (cause ≡ leastCause (fieldCause form bounds rows row) field)
 
 abbrev μ-loop : tie.MeasureT-loop
-μ-loop kinds form bounds rows row cause₀ field₀ cause field =
+μ-loop kinds form bounds rows parameters row cause₀ field₀ cause field =
     6 - field
 
 loop-holds : tie.Need-loop-holds Inv-loop μ-loop
@@ -21,7 +21,7 @@ unfolding leastCause
 loop-holds c = (omega arith, refl)
 
 field-cause-requires : tie.Need-field-cause-requires Inv-loop μ-loop
-field-cause-requires c κs = (omega arith, omega arith, search needs)
+field-cause-requires c κs = (omega arith, omega arith, search needs, search needs)
 
 lesser-requires : tie.Need-lesser-requires Inv-loop μ-loop
 lesser-requires c κs = tt

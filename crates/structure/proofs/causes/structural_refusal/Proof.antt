@@ -2,7 +2,7 @@
 use mathlib.Core.Path.{sym, _∙_}
 use borrow.Author.Tests.{not-true, not-false}
 use Rattle.words.specs.Laws.{countFits-facts}
-use Rattle.structure.proofs.Marks.{marked-start}
+use Rattle.structure.proofs.Marks.{blank-start}
 use Rattle.structure.specs.Refusal.{unless, _next_, structuralRefusal}
 use borrow.Author.Needs.{needs}
 use Rattle.structure.proofs.causes.structural_refusal.Statement.{statement}
@@ -31,7 +31,7 @@ bounds-of-requires c κs =
 table-causes-requires : tie.Need-table-causes-requires
 table-causes-requires c κs =
     let fits = sym (c .before .before .before .count-fits .ensures) ∙ not-false _ (c .before .before .if2 .left) in
-    (countFits-facts _ _ fits .whole, marked-start _ _ _ fits (c .before .before .before .before .before .before .before .pre))
+    (countFits-facts _ _ fits .whole, blank-start _ _ _ fits (c .before .before .before .before .before .before .before .pre))
 
 same-length : tie.Need-same-length
 same-length c = search needs

@@ -1,6 +1,7 @@
 -- A declaration: its value, and then the assignment to its word.
 use native.Mathlib.Omega.{arith}
-use Rattle.translation.specs.declared.Use.the-variants.{Dropped as dropped}
+use Rattle.translation.specs.declared.Use.the-variants.{Stored as stored, Dropped as dropped}
+use Rattle.straight_writers.specs.LevelLaws.{part-low}
 use Rattle.writers.proofs.Sequence.{room-behind}
 use Rattle.writers.proofs.DeclarationLaws.{declared-done}
 use borrow.Author.Needs.{needs}
@@ -20,7 +21,9 @@ add-put-variable : tie.Need-add-put-variable
 add-put-variable c = search needs
 
 write-expression-requires : tie.Need-write-expression-requires
-write-expression-requires c κs = (search needs, record { inside = search needs; level-low = λ h. omega arith; use-fits = c .before .before .before .before .before .pre .1 .low; room = search needs })
+write-expression-requires c κs =
+    let start = c .before .before .before .before .before in
+    (start .pre .0, record { inside = start .pre .1 .inside; level-low = omega (arith, part-low (start .pre .0) (start .args .value) (start .pre .1 .inside) (stored (start .args .number))); use-fits = start .pre .1 .low; room = search needs })
 
 mul-put-variable : tie.Need-mul-put-variable
 mul-put-variable c = search needs
@@ -60,7 +63,7 @@ returns : tie.Need-returns
 returns c =
     let start = c .before .before .before .before .before .before .before .before .before .before in
     let args = start .args in
-    declared-done (args .store) (args .rows .now) (args .number) (args .value) (args .base) (args .follows) (args .out .now) dropped (start .pre .1 .some) (c .before .before .before .before .before .before .before .before .operand-size .ensures) (c .before .before .before .before .before .before .before .store-rows .ensures) (c .before .before .before .before .before .before .more .ensures) (c .before .before .before .before .write-expression .ensures) (c .before .put-variable .ensures)
+    declared-done (args .store) (args .rows .now) (args .number) (args .value) (args .base) (args .follows) (args .out .now) dropped (start .pre .1 .absent) (c .before .before .before .before .before .before .before .before .operand-size .ensures) (c .before .before .before .before .before .before .before .store-rows .ensures) (c .before .before .before .before .before .before .more .ensures) (c .before .before .before .before .write-expression .ensures) (c .before .put-variable .ensures)
 
 pub write-declare-spec : {M : Type 1} → statement M
 write-declare-spec =

@@ -1,6 +1,8 @@
 -- The end of a round: the label, the step and the test, one behind another.
 use Prim.Native.Nat.{_+_}
 use Rattle.leaves.specs.Chain.{back-in}
+use Rattle.translation.specs.declared.Use.the-variants.{Dropped as dropped}
+use Rattle.straight_writers.specs.LevelLaws.{part-low}
 use Rattle.writers.proofs.Sequence.{back-length, room-behind}
 use Rattle.language.specs.Decode.{partAt}
 use mathlib.Core.Path.{_∙_}
@@ -44,7 +46,9 @@ part-write-expression-end : tie.Need-part-write-expression-end
 part-write-expression-end c = search needs
 
 write-expression-requires : tie.Need-write-expression-requires
-write-expression-requires c κs = (search needs, record { inside = search needs; level-low = λ h. omega arith; use-fits = tt; room = search needs })
+write-expression-requires c κs =
+    let start = c .before .before .before .before .before .before .before .before .before in
+    (start .pre .0, record { inside = start .pre .1 .action-inside; level-low = omega (arith, part-low (start .pre .0) (start .args .action) (start .pre .1 .action-inside) dropped); use-fits = tt; room = search needs })
 
 add-write-test : tie.Need-add-write-test
 add-write-test c = search needs

@@ -8,6 +8,8 @@ use Rattle.emission.specs.Emission.{emitItems}
 use Rattle.words.specs.Over.{over}
 use Rattle.leaves.specs.Chain.{room-less}
 use Rattle.measure_table.specs.Parts.{calledIn}
+use Rattle.translation.specs.declared.Use.the-variants.{Wanted as wanted}
+use Rattle.straight_writers.specs.LevelLaws.{part-low}
 use Rattle.writers.proofs.Sequence.{room-behind}
 use Rattle.writers.proofs.LoopLaws.{test-some, test-most, test-done}
 use borrow.Author.Needs.{needs}
@@ -32,7 +34,7 @@ write-expression-requires : tie.Need-write-expression-requires
 write-expression-requires c κs =
     let start = c .before .before .before .before .before in
     let asks = start .pre .1 in
-    (start .pre .0, record { inside = asks .inside; level-low = λ h. omega arith; use-fits = tt; room = room-less _ (asks .room) (test-most (calledIn (start .args .rows .now)) (partAt (start .args .rows .now) (start .args .test))) })
+    (start .pre .0, record { inside = asks .inside; level-low = omega (arith, part-low (start .pre .0) (start .args .test) (asks .inside) wanted); use-fits = tt; room = room-less _ (asks .room) (test-most (calledIn (start .args .rows .now)) (partAt (start .args .rows .now) (start .args .test))) })
 
 add-put-exit : tie.Need-add-put-exit
 add-put-exit c =

@@ -1,6 +1,8 @@
 -- A return: it stands behind the code of its value.
 use native.Mathlib.Omega.{arith}
 use Rattle.leaves.specs.Chain.{room-less}
+use Rattle.translation.specs.declared.Use.the-variants.{Wanted as wanted}
+use Rattle.straight_writers.specs.LevelLaws.{part-low}
 use Rattle.writers.proofs.Sequence.{room-behind}
 use Rattle.writers.proofs.ReturnLaws.{returned-nothing, returned-done}
 use borrow.Author.Needs.{needs}
@@ -32,7 +34,7 @@ write-expression-requires : tie.Need-write-expression-requires
 write-expression-requires c κs =
     let start = c .before .before .before .before .before in
     let asks = start .pre .1 in
-    (start .pre .0, record { inside = asks .inside; level-low = λ h. omega arith; use-fits = tt; room = room-less _ (asks .room) (omega arith) })
+    (start .pre .0, record { inside = asks .inside; level-low = omega (arith, part-low (start .pre .0) (start .args .value) (asks .inside) wanted); use-fits = tt; room = room-less _ (asks .room) (omega arith) })
 
 add-put-return : tie.Need-add-put-return
 add-put-return c = search needs

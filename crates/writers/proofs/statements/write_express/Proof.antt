@@ -2,6 +2,7 @@
 use native.Mathlib.Omega.{arith}
 use Rattle.translation.specs.declared.Use.the-variants.{Dropped as dropped}
 use Rattle.leaves.specs.Chain.{room-less}
+use Rattle.straight_writers.specs.LevelLaws.{part-low}
 use Rattle.writers.proofs.StatementLaws.{part-size, express-nothing, express-something}
 use borrow.Author.Needs.{needs}
 use Rattle.writers.proofs.statements.write_express.Statement.{statement}
@@ -30,7 +31,7 @@ write-expression-requires c κs =
     let start = c .before .before .before .before in
     let asks = start .pre .1 in (
       start .pre .0,
-      record { inside = asks .inside; level-low = λ h. omega arith; use-fits = tt; room = room-less _ (asks .room) (omega (arith, part-size dropped (start .args .rows .now) (start .args .expression) (asks .some))) },
+      record { inside = asks .inside; level-low = omega (arith, part-low (start .pre .0) (start .args .expression) (asks .inside) dropped); use-fits = tt; room = room-less _ (asks .room) (omega (arith, part-size dropped (start .args .rows .now) (start .args .expression) (asks .some))) },
     )
 
 same-length-2 : tie.Need-same-length-2

@@ -5,6 +5,7 @@ use native.Mathlib.Omega.{arith}
 use Rattle.language.specs.Decode.{statementAt}
 use Rattle.translation.specs.declared.Use.the-variants.{Wanted as wanted}
 use Rattle.leaves.specs.Chain.{back-in, room-less}
+use Rattle.straight_writers.specs.LevelLaws.{part-low}
 use Rattle.writers.specs.Code.{exitsOf}
 use Rattle.writers.proofs.Sequence.{back-length, room-behind}
 use Rattle.writers.proofs.StatementLaws.{part-size}
@@ -62,7 +63,7 @@ write-expression-requires t c κs =
     let args = start .args in
     let rows = args .rows .now in
     let guard-size = part-size wanted rows (args .guard) (asks .guard-some) in
-    (start .pre .1 .0, record { inside = asks .guard-inside; level-low = λ h. omega arith; use-fits = tt; room = room-less _ (asks .room) (omega (arith, guard-size)) })
+    (start .pre .1 .0, record { inside = asks .guard-inside; level-low = omega (arith, part-low (start .pre .1 .0) (args .guard) (asks .guard-inside) wanted); use-fits = tt; room = room-less _ (asks .room) (omega (arith, guard-size)) })
 
 pub add-put-arm-head : (t : ℕ) → lts.Need-add-put-arm-head (write-guarded-claims t) (write-guarded-at t) reads.Post
 add-put-arm-head t c =

@@ -4,6 +4,7 @@ use mathlib.Core.Path.{_∙_}
 use Prim.Native.Nat.{ℕ, _+_}
 use native.Mathlib.Omega.{arith}
 use Rattle.translation.specs.declared.Use.the-variants.{Wanted as wanted}
+use Rattle.straight_writers.specs.LevelLaws.{part-low}
 use Rattle.writers.specs.Code.{exitsOf}
 use Rattle.leaves.specs.Chain.{Reach, back-in, room-less}
 use Rattle.leaves.proofs.Words.{pick-most}
@@ -112,7 +113,7 @@ write-expression-requires t c κs =
     let asks = start .pre .1 .1 in
     let args = start .args in
     let test-size = part-size wanted (args .rows .now) (args .test) (asks .test-some) in
-    (start .pre .1 .0, record { inside = asks .test-inside; level-low = λ h. omega arith; use-fits = tt; room = room-less _ (asks .room) (omega (arith, test-size)) })
+    (start .pre .1 .0, record { inside = asks .test-inside; level-low = omega (arith, part-low (start .pre .1 .0) (args .test) (asks .test-inside) wanted); use-fits = tt; room = room-less _ (asks .room) (omega (arith, test-size)) })
 
 pub add-put-if : (t : ℕ) → lts.Need-add-put-if (write-if-claims t) (write-if-at t) reads.Post
 add-put-if t c =

@@ -3,6 +3,8 @@ use mathlib.Core.Path.{_∙_}
 use Prim.Native.Nat.{ℕ, _+_}
 use native.Mathlib.Omega.{arith}
 use Rattle.leaves.specs.Chain.{Reach, back-in, room-less}
+use Rattle.translation.specs.declared.Use.the-variants.{Dropped as dropped}
+use Rattle.straight_writers.specs.LevelLaws.{part-low}
 use Rattle.writers.proofs.Sequence.{back-length, room-behind}
 use Rattle.writers.proofs.LoopLaws.{loop-done}
 use Rattle.writers.proofs.statements.write_loop.Reads as reads
@@ -46,7 +48,7 @@ write-expression-requires t c κs =
     let start = c .before .before .before .before in
     let fits = start .pre .1 .1 in
     let room = start .pre .1 .2 in
-    (start .pre .1 .0, record { inside = fits .first-inside; level-low = λ h. omega arith; use-fits = tt; room = room-less _ room (omega arith) })
+    (start .pre .1 .0, record { inside = fits .first-inside; level-low = omega (arith, part-low (start .pre .1 .0) (start .args .parts .first) (fits .first-inside) dropped); use-fits = tt; room = room-less _ room (omega arith) })
 
 put-loop-reach : (t : ℕ) (c : lts.After-out (write-loop-claims t) (write-loop-at t) reads.Post) →
     let past-operand-size = c .before .before .before .before .operand-size in

@@ -16,9 +16,10 @@ use Rattle.words.specs.Over.{over}
 use Rattle.writers.specs.Code.{exitsOf}
 use Rattle.measure_table.specs.Parts.{calledIn}
 use Rattle.leaves.specs.Chain.{room-less}
+use Rattle.writers.proofs.DeclarationLaws.{initial-size}
 use Rattle.writers.proofs.ListLaws.{above-less, optional-inside}
 use Rattle.writers.proofs.ReturnLaws.{returned-code}
-use Rattle.writers.proofs.StatementLaws.{line-done, part-size, if-size, if-labels, while-size, do-size, for-size, while-code, do-code, for-code}
+use Rattle.writers.proofs.StatementLaws.{line-done, if-size, if-labels, while-size, do-size, for-size, while-code, do-code, for-code}
 use Rattle.writers.proofs.statements.write_statement.Reads as reads
 use Rattle.writers.proofs.statements.+write_arm+write_arms+write_block+write_body+write_choice+write_guarded+write_if+write_item+write_list+write_loop+write_round+write_rounds+write_statement+write_switch.Lts-write_statement as lts
 use Rattle.writers.proofs.statements.+write_arm+write_arms+write_block+write_body+write_choice+write_guarded+write_if+write_item+write_list+write_loop+write_round+write_rounds+write_statement+write_switch.Proof.Claims.{write-statement-claims, write-statement-at}
@@ -358,7 +359,7 @@ write-declare-requires t c κs =
     let writing = start .pre .1 .0 in
     let asks = start .pre .1 .1 in
     let line = is-declare in
-    (writing, record { low = line .onward .0 .low; some = omega (arith, line .onward .1 .later); inside = line .onward .1 .inside; room = room-less _ (rw (line .is) at (asks .room)) (omega (arith, part-size (stored (past-line10 .given .0 .0)) (start .args .rows .now) (past-line10 .given .0 .1 .0) (omega (arith, line .onward .1 .later)))) })
+    (writing, record { low = line .onward .0 .low; absent = line .onward .1 .absent; inside = line .onward .1 .inside; room = room-less _ (rw (line .is) at (asks .room)) (omega (arith, initial-size (start .args .rows .now) (past-line10 .given .0 .0) (past-line10 .given .0 .1 .0) (line .onward .1 .absent))) })
 
 pub enum-known-line-11 : (t : ℕ) → lts.Need-enum-known-line-11 (write-statement-claims t) (write-statement-at t) reads.Post
 enum-known-line-11 t c = search needs

@@ -6,6 +6,7 @@ use Rattle.translation.specs.declared.Use.the-variants.{Wanted as wanted}
 use Rattle.language.specs.Decode.{expressionAt, listAt}
 use Rattle.translation.specs.Translate.{atomOf}
 use Rattle.measure_table.specs.Parts.{calledIn}
+use Rattle.straight_writers.specs.LevelLaws.{part-low}
 use Rattle.writers.specs.Code.{exitsOf}
 use Rattle.leaves.specs.Chain.{Reach, back-in, room-less}
 use Rattle.writers.proofs.Sequence.{back-length, room-behind}
@@ -96,7 +97,7 @@ write-expression-requires t c κs =
     let asks = start .pre .1 .1 in
     let args = start .args in
     let selector-size = part-size wanted (args .rows .now) (args .selector) (asks .selector-some) in
-    (start .pre .1 .0, record { inside = asks .selector-inside; level-low = λ h. omega arith; use-fits = tt; room = room-less _ (asks .room) (omega (arith, selector-size)) })
+    (start .pre .1 .0, record { inside = asks .selector-inside; level-low = omega (arith, part-low (start .pre .1 .0) (args .selector) (asks .selector-inside) wanted); use-fits = tt; room = room-less _ (asks .room) (omega (arith, selector-size)) })
 
 write-cases-reach : (t : ℕ) (c : lts.After-out (write-switch-claims t) (write-switch-at t) reads.Post) →
     let past-operand-size = c .before .before .before .before .before .before .before .operand-size in

@@ -1,0 +1,1 @@
+// The pages of legal kernel tables: theorems alone, in specs/.

@@ -3,6 +3,7 @@
 //! entry takes. Both are built for release. Output tables are reused and not
 //! cleared between repetitions; a run's store is cleared before each.
 
+mod deep_calls;
 #[path = "../../wrapper/tests/compared/entries.rs"]
 mod entries;
 mod programs;
@@ -49,7 +50,7 @@ fn everything() {
         run(&KERNEL, "kernel", &programs::translated(&program)).print_rate();
     }
     println!("Flat: million source steps per second, the flat run of the translation and the interpreter's source run");
-    for program in programs::long_running() {
+    for program in programs::without_functions() {
         flat(&program).print_rate();
     }
     println!("Rows: nanoseconds per row");
@@ -135,7 +136,7 @@ fn run(entries: &Entries, form: &str, program: &Program) -> Row {
 /// The flat run of a program's translation beside the interpreter's run of the program itself.
 fn flat(program: &Program) -> Row {
     let kernel = programs::translated(program);
-    let list = interpreter::flat::flatten(&kernel.rows);
+    let list = interpreter::flat::flatten(&kernel.rows).unwrap();
     let mut store = vec![0; KERNEL.form.header_words(&kernel.header)];
     let mut theirs = vec![0; SOURCE.form.store_words(&program.header, &program.rows)];
     let source = clight::run(&program.header, &program.rows, &mut theirs, u32::MAX).unwrap();
@@ -187,10 +188,10 @@ fn flatten(program: &Program) -> Row {
         || words = clight::flatten(header, rows, &mut list).unwrap(),
         || {
             interpreter::check(KERNEL.form, header, rows).unwrap();
-            std::hint::black_box(interpreter::flat::flatten(rows));
+            std::hint::black_box(interpreter::flat::flatten(rows).unwrap());
         },
     );
-    assert_eq!(list[..words], interpreter::flat::flatten(rows));
+    assert_eq!(list[..words], interpreter::flat::flatten(rows).unwrap());
     per(program.name.clone(), program.row_count(), times)
 }
 

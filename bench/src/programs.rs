@@ -68,8 +68,15 @@ fn count_up(number: i32, limit: Tree, body: Vec<Tree>) -> Tree {
 }
 
 /// The programs whose steps are counted: some millions each, and a plain end.
-pub fn long_running() -> [Program; 4] {
-    [sums(), sieve(), sort(), states()]
+pub fn long_running() -> [Program; 5] {
+    [sums(), sieve(), sort(), states(), calls()]
+}
+
+/// Those that have a flat list.
+pub fn without_functions() -> impl Iterator<Item = Program> {
+    let defines =
+        |program: &Program| program.rows.iter().step_by(WORDS).any(|&kind| kind == DEFINE);
+    long_running().into_iter().filter(move |program| !defines(program))
 }
 
 /// Nested loops over variables: additions, remainders, a test.
@@ -142,6 +149,20 @@ fn states() -> Program {
         Some(block(vec![expression(unary(POST_INCREMENT, v(3)))])),
     );
     program("states", &[4], vec![count_up(0, n(200_000), vec![switch(v(1), items), next, wrap])])
+}
+
+/// Two functions, one of which calls the other: calls as operands and as arguments, returns out of ifs.
+fn calls() -> Program {
+    let step = binary(REMAINDER, add(binary(MULTIPLY, v(0), n(7)), v(1)), n(1000));
+    let inner = define(0, &[0, 1], vec![give_back(Some(step))]);
+    let third = binary(EQUAL, binary(REMAINDER, v(0), n(3)), n(0));
+    let items = vec![
+        choice(third, give_back(Some(call(0, vec![v(0), n(1)]))), None),
+        give_back(Some(call(0, vec![call(0, vec![n(1), v(0)]), v(0)]))),
+    ];
+    let outer = define(1, &[0], items);
+    let sum = set(3, binary(REMAINDER, add(call(1, vec![v(2)]), v(3)), n(1000)));
+    program("calls", &[4], vec![inner, outer, count_up(2, n(100_000), vec![sum])])
 }
 
 /// A source program of so many rows, a multiple of 8: assignments, ifs, loops.

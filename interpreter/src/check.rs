@@ -1,8 +1,9 @@
 //! The check of both forms: the causes in order of number, then of row. Causes
-//! 1 to 6 and 9 are those of both; the source form adds 7, 8 and 18 to 20, the
-//! kernel form 12 and 13.
+//! 1 to 7, 9, 19, 23 and 24 are those of both; the source form adds 8, 18 and 20,
+//! the kernel form 12 and 13.
 
 mod declarations;
+mod functions;
 mod kernel;
 mod marks;
 
@@ -16,19 +17,24 @@ pub fn check(form: Form, header: &[i32], rows: &[i32]) -> Result<(), Refusal> {
     check_links(rows)?;
     let standings = check_linked_once(rows)?;
     check_numbers(form, header, rows)?;
+    marks::check_places(form, rows, &standings)?;
     match form {
         Form::Source => {
-            marks::check_places(rows, &standings)?;
             marks::check_repeated_marks(rows)?;
             check_depth(form, &standings)?;
-            declarations::check_declarations(rows)
+            declarations::check_first_values(rows)?;
+            declarations::check_repeated(rows)?;
+            declarations::check_count(rows)?;
         }
         Form::Kernel => {
             check_depth(form, &standings)?;
-            kernel::check_forms(rows)?;
-            kernel::check_labels(rows, &standings)
+            kernel::check_forms(rows, &standings)?;
+            kernel::check_labels(rows, &standings)?;
+            declarations::check_repeated(rows)?;
         }
     }
+    functions::check_definitions(rows)?;
+    functions::check_calls(rows, &standings)
 }
 
 /// Causes 1 and 2: all that a reader tests of the words, and a writer.
@@ -92,27 +98,42 @@ fn known_fields(row: &Row) -> [Field; 4] {
 
 /// Cause 4.
 fn check_links(rows: &[Row]) -> Result<(), Refusal> {
+    let parameters = parameters(rows);
+    let well = |at: usize| {
+        let (fields, next) = match parameters[at] {
+            true => (PARAMETER_FIELDS, Field::FirstParameter),
+            false => (known_fields(&rows[at]), next_field(rows[at][0])),
+        };
+        let mut links = fields.into_iter().chain([next]).zip(&rows[at][1..]);
+        links.all(|(field, &link)| is_well(rows, at, field, link))
+    };
+    refuse_row(4, (0..rows.len()).find(|&at| !well(at)))
+}
+
+/// Whether the link of a row is to a later row of the sort that the field asks for.
+fn is_well(rows: &[Row], at: usize, field: Field, link: i32) -> bool {
+    if !field.is_link() || (link == 0 && field.may_be_absent()) {
+        return true;
+    }
+    later_row(rows, at, link)
+        .is_some_and(|target| field.fits(target[0]) && !(field.is_branch() && target[NEXT] != 0))
+}
+
+/// Which rows are parameters: those of kind 58 that a definition links by its b, or a parameter by
+/// its next. Links are to later rows, so that one pass is enough.
+fn parameters(rows: &[Row]) -> Vec<bool> {
+    let mut parameters = vec![false; rows.len()];
     for (at, row) in rows.iter().enumerate() {
-        let refusal = Refusal::new(4, at);
-        for (field, &link) in known_fields(row).iter().zip(&row[1..NEXT]) {
-            if !field.is_link() || (link == 0 && field.may_be_absent()) {
-                continue;
-            }
-            let target = later_row(rows, at, link).ok_or(refusal)?;
-            if !field.fits(target[0]) || (field.is_branch() && target[NEXT] != 0) {
-                return Err(refusal);
-            }
-        }
-        // The next of an expression is 0 by now.
-        if row[NEXT] != 0 {
-            let target = later_row(rows, at, row[NEXT]).ok_or(refusal)?;
-            let fits = if row[0] == ARM { target[0] == ARM } else { is_statement(target[0]) };
-            if !fits {
-                return Err(refusal);
-            }
+        let link = match row[0] {
+            DEFINE => row[2],
+            _ if parameters[at] => row[NEXT],
+            _ => continue,
+        };
+        if later_row(rows, at, link).is_some_and(|target| target[0] == DECLARE) {
+            parameters[link as usize] = true;
         }
     }
-    Ok(())
+    parameters
 }
 
 fn later_row(rows: &[Row], at: usize, link: i32) -> Option<&Row> {
@@ -161,14 +182,19 @@ fn check_linked_once(rows: &[Row]) -> Result<Vec<Standing>, Refusal> {
     }
 }
 
-/// Cause 6. Declared words and temporaries are variable numbers from S on; V to S-1 name nothing.
+/// Cause 6. Declared words and temporaries are variable numbers from S on; V to S-1 name nothing. A
+/// declaration of the source names a variable, a parameter of the kernel a declared word.
 fn check_numbers(form: Form, header: &[i32], rows: &[Row]) -> Result<(), Refusal> {
     let variables = 0..header[0];
     let behind = form.numbers_behind(header);
+    let declared = match form {
+        Form::Source => variables.clone(),
+        Form::Kernel => behind.start..behind.start + form.declared_by_header(header),
+    };
     let arrays = 0..form.lengths(header).len() as i32;
     let within = |row: &Row| match row[0] {
         VARIABLE => variables.contains(&row[1]) || behind.contains(&row[1]),
-        DECLARE => variables.contains(&row[1]),
+        DECLARE => declared.contains(&row[1]),
         ELEMENT => arrays.contains(&row[1]),
         GOTO | LABEL => (0..LABELS).contains(&row[1]),
         _ => true,

@@ -1,9 +1,11 @@
 //! Damaged programs: every cause of refusal, alone and in company, at low and
 //! high rows. Some damages leave a program legal.
 
+mod arguments;
 mod arms;
 mod bytes;
 mod declarations;
+mod functions;
 mod table;
 mod tree;
 
@@ -27,6 +29,7 @@ enum Damage {
     Root,
     Full,
     Declared,
+    Function,
     // On the header and the rows.
     Header,
     NoRows,
@@ -36,6 +39,7 @@ enum Damage {
     BranchNext,
     Linked,
     Arm,
+    Argument,
     Number,
     AnyWord,
     Swap,
@@ -44,13 +48,14 @@ enum Damage {
     Words,
 }
 
-const WEIGHTS: [(usize, Damage); 19] = [
+const WEIGHTS: [(usize, Damage); 21] = [
     (30, Damage::Misplaced),
     (24, Damage::Repeated),
     (18, Damage::Deep),
     (4, Damage::Root),
     (1, Damage::Full),
-    (50, Damage::Declared),
+    (65, Damage::Declared),
+    (65, Damage::Function),
     (10, Damage::Header),
     (4, Damage::NoRows),
     (12, Damage::Kind),
@@ -59,6 +64,7 @@ const WEIGHTS: [(usize, Damage); 19] = [
     (9, Damage::BranchNext),
     (22, Damage::Linked),
     (20, Damage::Arm),
+    (20, Damage::Argument),
     (22, Damage::Number),
     (12, Damage::AnyWord),
     (9, Damage::Swap),

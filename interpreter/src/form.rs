@@ -97,11 +97,9 @@ impl Form {
     /// The fields a to d of a kind; none where the kind is not in the language.
     pub fn fields(self, kind: i32) -> Option<[Field; 4]> {
         let known = match (self, kind) {
-            (Source, kind) => {
-                kind <= CONTINUE || (GUARDED_IF..=ARM).contains(&kind) || kind == DECLARE
-            }
-            (Kernel, CONSTANT..=MINUS | ADD..=UNEQUAL | ASSIGN) => true,
-            (Kernel, EMPTY..=WHILE | GOTO | LABEL | ABORT) => true,
+            (Source, kind) => !matches!(kind, GOTO | LABEL | ABORT),
+            (Kernel, CONSTANT..=MINUS | ADD..=UNEQUAL | ASSIGN | CALL | ARGUMENT) => true,
+            (Kernel, EMPTY..=WHILE | GOTO | LABEL | ABORT | DECLARE..=RETURN) => true,
             (Kernel, _) => false,
         };
         if known {

@@ -1,13 +1,15 @@
 //! Generated programs, weighted toward what translators get wrong: one place
 //! read and written on both sides, effects in indices, fall-through, jumps
-//! through nests and guarded statements, names that hide others, faults half-way,
-//! and budgets next to the count.
+//! through nests and guarded statements, names that hide others, functions that
+//! write what their callers read, faults half-way, and budgets next to the count.
 
 mod aliasing;
 mod declarations;
 mod expressions;
+mod functions;
 mod guarded;
 mod loops;
+mod maker;
 mod statements;
 
 use crate::cases::Case;
@@ -18,6 +20,7 @@ use crate::random::Random;
 use crate::table::*;
 use crate::text;
 use crate::tree::*;
+pub use maker::Maker;
 
 /// Runs longer than this count as endless here.
 const LONG: u32 = 20_000;
@@ -204,7 +207,12 @@ fn legal(random: &mut Random, size: Size, endless: usize, guards: Guards) -> Pro
 }
 
 fn draft(random: &mut Random, size: Size, endless: usize, guards: Guards) -> Program {
-    let header = header(random);
+    let mut header = header(random);
+    // A third of the programs have functions, a few of them with as many parameters as can be.
+    let functions = random.weighted(&[(69, 0), (13, 1), (10, 2), (6, 3), (3, 5), (1, 9)]);
+    if functions > 0 && random.chance(1) {
+        header[0] = random.pick(&[MAX_DECLARED, MAX_DECLARED + 1, 100]);
+    }
     let rows = match size {
         Size::Large => random.pick(&[300, 600, 1_000, 1_500, 2_040, 2_048]),
         Size::Mixed => match random.below(1_000) {
@@ -235,10 +243,16 @@ fn draft(random: &mut Random, size: Size, endless: usize, guards: Guards) -> Pro
         in_loop: false,
         breakable: false,
         declarations,
+        declared: 0,
+        functions: Vec::new(),
+        in_function: false,
+        writable: None,
+        work: 0,
     };
     let tree = match maker.random.below(100) {
-        0..=2 => maker.deep_program(),
-        _ => maker.whole(rows),
+        0..=2 => maker.deep_program(functions),
+        3 if functions > 0 => maker.chain_program(),
+        _ => maker.whole(rows, functions),
     };
     Program { header, tree }
 }
@@ -257,26 +271,4 @@ fn header(random: &mut Random) -> Vec<i32> {
         _ => {}
     }
     header
-}
-
-/// The state of the making of one program.
-pub struct Maker<'a> {
-    pub random: &'a mut Random,
-    pub variables: i32,
-    pub lengths: Vec<i32>,
-    /// Chance, in percent, that a choice is kept from faulting.
-    pub tame: usize,
-    /// Chance, in percent, that a loop is endless.
-    pub endless: usize,
-    /// Rows still to be made; parts stay small once it is used up.
-    pub room: i32,
-    /// Variables that count the rounds of the loops around.
-    pub counters: Vec<i32>,
-    /// Product of the rounds of the loops around.
-    pub rounds: i32,
-    pub guards: Guards,
-    pub in_loop: bool,
-    pub breakable: bool,
-    /// Declarations that may still be made.
-    pub declarations: i32,
 }

@@ -120,6 +120,19 @@ fn items(tree: &mut Tree) -> &mut Vec<Tree> {
     }
 }
 
+/// Puts an item anywhere behind the definitions; at times into a function, where there is one.
+fn insert(random: &mut Random, program: &mut Program, item: Tree) {
+    let list = items(&mut program.tree);
+    let defined = list.iter().take_while(|item| item.kind == DEFINE).count();
+    if defined > 0 && random.chance(30) {
+        if let Part::One(body) = &mut list[random.below(defined)].parts[2] {
+            return items(body).push(item);
+        }
+    }
+    let position = defined + random.below(list.len() - defined + 1);
+    list.insert(position, item);
+}
+
 /// Empties behind one program, so that the joined rows are about 2,048.
 fn fill(random: &mut Random, programs: &mut [Program; 2]) {
     let rows = random.pick(&[MAX_ROWS - 1, MAX_ROWS, MAX_ROWS, MAX_ROWS + 1, MAX_ROWS + 2]);
@@ -140,9 +153,8 @@ fn declare_more(random: &mut Random, programs: &mut [Program; 2]) {
     for _ in declared..total {
         let program = &mut programs[random.below(2)];
         if program.header[0] > 0 && count(program) < MAX_DECLARED {
-            let list = items(&mut program.tree);
-            let position = random.below(list.len() + 1);
-            list.insert(position, block(vec![declare(0, constant(random.between(-1, 9)))]));
+            let item = block(vec![declare(0, constant(random.between(-1, 9)))]);
+            insert(random, program, item);
         }
     }
 }
@@ -154,8 +166,7 @@ fn deepen(random: &mut Random, programs: &mut [Program; 2]) {
         if which & (1 << i) != 0 {
             let depth = random.between(MAX_DEPTH as i32 - 2, MAX_DEPTH as i32);
             let nest = (2..depth).fold(block(Vec::new()), |inner, _| block(vec![inner]));
-            let list = items(&mut program.tree);
-            list.insert(random.below(list.len() + 1), nest);
+            insert(random, program, nest);
         }
     }
 }

@@ -1,5 +1,7 @@
 //! Generated kernel programs: every statement of the kernel form, gotos out of
-//! nests and past items, and damaged tables of them.
+//! nests and past items, functions, and damaged tables of them.
+
+mod functions;
 
 use crate::cases::Case;
 use crate::damage::{damage_text, damage_words, start};
@@ -57,9 +59,27 @@ pub fn program(random: &mut Random) -> Program {
     let arrays = Kernel.lengths(&header).len();
     let numbers = variable_numbers(&header);
     let size = random.pick(&[3, 10, 10, 40, 200]);
-    let mut writer = Writer { random, arrays, numbers, rows: Vec::new(), labels: 0, left: size };
-    writer.block(0, &mut Vec::new());
+    let declared = declared_words(&header);
+    let mut writer = Writer {
+        random,
+        arrays,
+        numbers,
+        declared,
+        rows: Vec::new(),
+        labels: 0,
+        left: size,
+        functions: Vec::new(),
+        in_function: false,
+    };
+    writer.row(BLOCK);
+    let last = writer.definitions();
+    writer.items(0, last, 0, &mut Vec::new());
     Program { rows: writer.rows, header }
+}
+
+fn declared_words(header: &[i32]) -> Vec<i32> {
+    let size = Kernel.size(header) as i32;
+    (size..size + Kernel.declared_by_header(header)).collect()
 }
 
 /// The numbers that name a variable, a declared word or a temporary.
@@ -71,10 +91,15 @@ struct Writer<'a> {
     random: &'a mut Random,
     arrays: usize,
     numbers: Vec<i32>,
+    /// The numbers of the declared words, which parameters name.
+    declared: Vec<i32>,
     rows: Vec<Row>,
     labels: i32,
     /// How many statements may still be begun.
     left: usize,
+    /// How many parameters each function has that may be called.
+    functions: Vec<usize>,
+    in_function: bool,
 }
 
 impl Writer<'_> {
@@ -88,24 +113,24 @@ impl Writer<'_> {
         self.rows.len() as i32
     }
 
-    /// A block; `ahead` holds the labels that a goto in it may have.
     fn block(&mut self, depth: usize, ahead: &mut Vec<i32>) {
         let own = self.row(BLOCK);
+        self.items(own, None, depth, ahead);
+    }
+
+    /// The items of a block, behind the last that it has; `ahead` holds the labels that a goto in it
+    /// may have.
+    fn items(&mut self, own: usize, mut last: Option<i32>, depth: usize, ahead: &mut Vec<i32>) {
         let items = if depth == 0 { 6 } else { self.random.below(6) };
         // Whether a label stands at each position; those labels are known from the start.
         let places: Vec<Option<i32>> = (0..items).map(|_| self.maybe_label()).collect();
         let outer = ahead.len();
         ahead.extend(places.iter().rev().flatten());
-        let mut last = None;
         for place in places {
             if place.is_none() && self.left == 0 {
                 continue;
             }
-            let at = self.free();
-            match last {
-                None => self.rows[own][1] = at,
-                Some(before) => self.rows[before as usize][NEXT] = at,
-            }
+            let at = self.link_item(own, last);
             match place {
                 Some(label) => {
                     let at = self.row(LABEL);
@@ -117,6 +142,16 @@ impl Writer<'_> {
             last = Some(at);
         }
         ahead.truncate(outer);
+    }
+
+    /// Links the row that is written next as an item, and gives it.
+    fn link_item(&mut self, own: usize, last: Option<i32>) -> i32 {
+        let at = self.free();
+        match last {
+            None => self.rows[own][1] = at,
+            Some(before) => self.rows[before as usize][NEXT] = at,
+        }
+        at
     }
 
     fn maybe_label(&mut self) -> Option<i32> {
@@ -138,6 +173,7 @@ impl Writer<'_> {
                 let at = self.row(GOTO);
                 self.rows[at][1] = self.random.pick(ahead);
             }
+            2 | 3 if self.in_function => self.give_back(),
             7 => self.block(depth + 1, ahead),
             8 | 9 => {
                 let at = self.row(IF);
@@ -190,6 +226,7 @@ impl Writer<'_> {
                 self.rows[at][2] = self.atom();
             }
             6 | 7 if self.arrays > 0 => self.element(),
+            8 | 9 if !self.functions.is_empty() => self.call(),
             _ => {
                 self.atom();
             }
@@ -225,7 +262,11 @@ impl Writer<'_> {
 /// Changes some words of a table, or its length, or its header.
 pub fn damage(random: &mut Random, header: &mut Vec<i32>, rows: &mut Vec<i32>) {
     for _ in 0..random.between(1, 2) {
-        match random.below(24) {
+        let choice = match functions::has_functions(rows) && random.chance(60) {
+            true => 10,
+            false => random.below(24),
+        };
+        match choice {
             0 => {
                 let at = random.below(header.len());
                 header[at] = random.pick(&[-1, 0, 1, 64, 65, 257, 4097, 8193, i32::MIN]);
@@ -234,6 +275,7 @@ pub fn damage(random: &mut Random, header: &mut Vec<i32>, rows: &mut Vec<i32>) {
             2 => rows.truncate(random.below(rows.len() + 1)),
             3 => rows.extend([EMPTY, 0, 0, 0, 0, 0]),
             4..=9 => change_form(random, rows),
+            10 => functions::damage(random, rows),
             _ => change_word(random, rows),
         }
         if header.is_empty() || rows.is_empty() {
@@ -251,8 +293,8 @@ fn change_word(random: &mut Random, rows: &mut [i32]) {
         2 => random.between(0, rows.len() as i32 / WORDS as i32),
         3 => random.pick(&[-1, 0, 40_979, 40_980, i32::MIN, i32::MAX]),
         4 => random.pick(&[
-            CONSTANT, VARIABLE, ELEMENT, NOT, ASSIGN, EMPTY, BLOCK, GOTO, LABEL, GUARDED_IF,
-            GUARDED_DO, ARM, ABORT,
+            CONSTANT, VARIABLE, ELEMENT, NOT, ASSIGN, CALL, ARGUMENT, EMPTY, BLOCK, GOTO, LABEL,
+            GUARDED_IF, GUARDED_DO, ARM, ABORT, DECLARE, DEFINE, RETURN,
         ]),
         _ => 0,
     };

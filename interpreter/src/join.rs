@@ -1,5 +1,5 @@
 //! Two programs as one, which runs the first and then the second (document 02,
-//! changes 8 and 11); and the run of a join held to the runs of its programs.
+//! changes 8, 11 and 13); and the run of a join held to the runs of its programs.
 
 use crate::cases::any_words;
 use crate::check::check;
@@ -28,27 +28,97 @@ pub fn join(first: &Program, second: &Program) -> Result<Vec<i32>, Refusal> {
     }
 }
 
-/// The new block, the first's rows, the second's.
+/// The new block, both sets of definitions, the first's other rows, the second's; each in old order.
 fn joined(first: &[Row], second: &[Row]) -> Vec<Row> {
-    let behind = 1 + first.len();
-    let mut rows = vec![[BLOCK, 1, 0, 0, 0, 0]];
-    rows.extend(first.iter().map(|row| moved(row, 1)));
-    rows[1][NEXT] = behind as i32;
-    rows.extend(second.iter().map(|row| moved(row, behind as i32)));
+    let programs = [Parted::new(first), Parted::new(second)];
+    let [one, two] = &programs;
+    let order = [
+        moving(0, &one.definitions),
+        moving(1, &two.definitions),
+        moving(0, &one.others),
+        moving(1, &two.others),
+    ]
+    .concat();
+    let mut places = [vec![0; first.len()], vec![0; second.len()]];
+    for (place, &(which, at)) in order.iter().enumerate() {
+        places[which][at] = 1 + place as i32;
+    }
+    let functions = [0, one.functions.len() as i32];
+    let mut rows = vec![[BLOCK, 0, 0, 0, 0, 0]];
+    rows.extend(order.iter().map(|&(which, at)| {
+        let row = programs[which].row(at);
+        moved(&row, &places[which], functions[which])
+    }));
+    // The new block has the definitions, then the blocks of both programs.
+    let of = |which: usize, at: &[usize]| -> Vec<i32> {
+        at.iter().map(|&at| places[which][at]).collect()
+    };
+    let items = [of(0, &one.functions), of(1, &two.functions), of(0, &[0]), of(1, &[0])].concat();
+    rows[0][1] = items[0];
+    for pair in items.windows(2) {
+        rows[pair[0] as usize][NEXT] = pair[1];
+    }
     rows
 }
 
-/// A row whose links lead so many rows further.
-fn moved(row: &Row, by: i32) -> Row {
+/// Rows of one of both programs.
+fn moving(which: usize, rows: &[usize]) -> Vec<(usize, usize)> {
+    rows.iter().map(|&at| (which, at)).collect()
+}
+
+/// A program whose definitions are told from its other rows.
+struct Parted<'a> {
+    rows: &'a [Row],
+    /// The rows of kind 59.
+    functions: Vec<usize>,
+    /// Those, and all below them.
+    definitions: Vec<usize>,
+    others: Vec<usize>,
+}
+
+impl Parted<'_> {
+    fn new(rows: &[Row]) -> Parted<'_> {
+        let mut inside = vec![false; rows.len()];
+        for (at, row) in rows.iter().enumerate() {
+            inside[at] |= row[0] == DEFINE;
+            let fields = Source.fields_or_unused(row[0]);
+            for (field, &link) in fields.iter().zip(&row[1..NEXT]) {
+                if field.is_link() {
+                    inside[link as usize] |= inside[at];
+                }
+            }
+            inside[row[NEXT] as usize] |= inside[at] && row[0] != DEFINE;
+        }
+        // Links that are absent lead to row 0.
+        inside[0] = false;
+        let (definitions, others) = (0..rows.len()).partition(|&at| inside[at]);
+        Parted { rows, functions: crate::table::definitions(rows), definitions, others }
+    }
+
+    /// A row; the list of row 0 begins behind the definitions, and the last of these ends their own.
+    fn row(&self, at: usize) -> Row {
+        let mut row = self.rows[at];
+        if let (0, Some(&last)) = (at, self.functions.last()) {
+            row[1] = self.rows[last][NEXT];
+        }
+        if self.functions.last() == Some(&at) {
+            row[NEXT] = 0;
+        }
+        row
+    }
+}
+
+/// A row whose links lead to the new places of their rows, and whose functions have numbers behind
+/// so many others.
+fn moved(row: &Row, places: &[i32], functions: i32) -> Row {
     let mut row = *row;
     let fields = Source.fields_or_unused(row[0]);
-    for (field, word) in fields.iter().zip(&mut row[1..NEXT]) {
-        if field.is_link() && *word != 0 {
-            *word += by;
+    for (field, word) in fields.into_iter().chain([Field::First]).zip(&mut row[1..]) {
+        match field {
+            Field::FunctionNumber => *word += functions,
+            field if field.is_link() && *word != 0 => *word = places[*word as usize],
+            _ => {}
         }
-    }
-    if row[NEXT] != 0 {
-        row[NEXT] += by;
     }
     row
 }

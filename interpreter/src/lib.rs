@@ -1,5 +1,5 @@
-//! A C-light interpreter built apart from the translator, from document 01
-//! alone. The translator's answers are compared with the answers given here.
+//! A C-light interpreter built apart from the translator, from documents 01 and
+//! 02 alone. The translator's answers are compared with the answers given here.
 //!
 //! A program is a header and rows of six words, in one of two forms: the source
 //! form, and the kernel form that translations have. There is no translation
@@ -38,3 +38,13 @@ pub use form::Form;
 pub use machine::{run, Ending, Fault, Outcome, Write};
 pub use preview::{preview, Preview};
 pub use table::Refusal;
+
+/// What the act gives, on a thread whose stack holds the deepest run: as many calls within calls as
+/// a kernel table has rows for.
+pub fn on_large_stack<T: Send>(act: impl FnOnce() -> T + Send) -> T {
+    std::thread::scope(|scope| {
+        let builder = std::thread::Builder::new().stack_size(64 << 20);
+        let thread = builder.spawn_scoped(scope, act).expect("a thread starts");
+        thread.join().unwrap_or_else(|panic| std::panic::resume_unwind(panic))
+    })
+}

@@ -2,6 +2,7 @@
 //! number names is kept as the run goes: a declaration gives it a new word, and
 //! the end of its block gives the old one back.
 
+mod calls;
 mod expressions;
 mod kernel;
 mod loops;
@@ -87,15 +88,21 @@ pub fn run_watched(
     let arrays = Array::all(header[0], form.lengths(header));
     let names = Names::new(form, header, rows);
     let rows = rows_of(rows);
-    let writes = Vec::new();
-    let mut machine =
-        Machine { rows, arrays: &arrays, names, store, budget, count: 0, watched, writes };
-    let result = match form {
-        Form::Source => machine.statement(0).map(|_| ()),
-        Form::Kernel => machine.kernel_statement(0).map(|_| ()),
+    let functions = definitions(rows);
+    let mut machine = Machine {
+        form,
+        rows,
+        arrays: &arrays,
+        functions: &functions,
+        names,
+        store,
+        budget,
+        count: 0,
+        watched,
+        writes: Vec::new(),
     };
-    let ending = match result {
-        Ok(()) => Ending::Ended,
+    let ending = match machine.block_of_form(0) {
+        Ok(_) => Ending::Ended,
         Err(Stop::Spent) => Ending::Spent,
         Err(Stop::Fault(fault)) => Ending::Fault(fault),
     };
@@ -123,6 +130,21 @@ enum Flow {
     On,
     Break,
     Continue,
+    /// To this label; of the kernel form.
+    Goto(i32),
+    /// Out of the function, with this value.
+    Return(i32),
+}
+
+impl Flow {
+    /// How a loop is left whose body was left so; none where the next round comes.
+    fn out_of_loop(self) -> Option<Flow> {
+        match self {
+            Flow::On | Flow::Continue => None,
+            Flow::Break => Some(Flow::On),
+            flow => Some(flow),
+        }
+    }
 }
 
 pub(crate) struct Array {
@@ -149,8 +171,11 @@ impl Array {
 }
 
 struct Machine<'a> {
+    form: Form,
     rows: &'a [Row],
     arrays: &'a [Array],
+    /// The rows of the definitions, by number.
+    functions: &'a [usize],
     names: Names,
     store: &'a mut [i32],
     budget: u32,
@@ -174,6 +199,14 @@ impl Machine<'_> {
         self.store[place] = value;
         if place < self.watched {
             self.writes.push(Write { place, value, step: self.count });
+        }
+    }
+
+    /// Runs row 0, or the block of a function.
+    fn block_of_form(&mut self, at: i32) -> Result<Flow, Stop> {
+        match self.form {
+            Form::Source => self.statement(at),
+            Form::Kernel => self.kernel_statement(at),
         }
     }
 
@@ -226,6 +259,7 @@ impl Machine<'_> {
             }
             BREAK => Ok(Flow::Break),
             CONTINUE => Ok(Flow::Continue),
+            RETURN => self.returned(a),
             // Empty, case and default: the step alone.
             _ => Ok(Flow::On),
         }
@@ -239,15 +273,19 @@ impl Machine<'_> {
         Ok(flow)
     }
 
-    /// Runs the items of a list from the given one on; 0 is an empty list.
+    /// Runs the items of a list from the given one on; 0 is an empty list. Definitions are passed
+    /// over.
     fn list(&mut self, first: i32) -> Result<Flow, Stop> {
         let mut item = first;
         while item != 0 {
-            let flow = self.statement(item)?;
-            if flow != Flow::On {
-                return Ok(flow);
+            let [kind, .., next] = self.rows[item as usize];
+            if kind != DEFINE {
+                let flow = self.statement(item)?;
+                if flow != Flow::On {
+                    return Ok(flow);
+                }
             }
-            item = self.rows[item as usize][NEXT];
+            item = next;
         }
         Ok(Flow::On)
     }

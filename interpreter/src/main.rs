@@ -5,8 +5,8 @@ use interpreter::generate::{self, Size};
 use interpreter::tally::Tally;
 use interpreter::Form::{self, Kernel, Source};
 use interpreter::{
-    check, damage, day, flat, generate_day, generate_joins, generate_kernel, page, rules, text,
-    trial,
+    check, damage, day, flat, generate_day, generate_joins, generate_kernel, on_large_stack, page,
+    rules, text, trial,
 };
 use std::io::{self, Read, Write};
 use std::process::ExitCode;
@@ -18,7 +18,7 @@ fn main() -> ExitCode {
     let tally = arguments.iter().any(|argument| argument == "--tally");
     arguments.retain(|argument| argument != "--tally");
     let arguments: Vec<&str> = arguments.iter().map(String::as_str).collect();
-    match act(&arguments, tally).and_then(|output| put(&output)) {
+    match on_large_stack(|| act(&arguments, tally)).and_then(|output| put(&output)) {
         Ok(()) => ExitCode::SUCCESS,
         Err(message) => {
             eprintln!("interpreter: {message}");
@@ -216,12 +216,11 @@ fn list_check_text(bytes: &[u8]) -> Vec<u8> {
 }
 
 fn flatten_text(bytes: &[u8]) -> Vec<u8> {
-    let program = text::read(Kernel, bytes)
-        .and_then(|(header, rows)| check(Kernel, &header, &rows).map(|()| (header, rows)));
-    match program {
-        Ok((header, rows)) => text::write_list(&header, &flat::flatten::flatten(&rows)),
-        Err(refusal) => line(refusal.to_string()),
-    }
+    let list = text::read(Kernel, bytes).and_then(|(header, rows)| {
+        check(Kernel, &header, &rows)?;
+        Ok(text::write_list(&header, &flat::flatten(&rows)?))
+    });
+    list.unwrap_or_else(|refusal| line(refusal.to_string()))
 }
 
 fn read_page(header: &[&str]) -> Result<Vec<u8>, String> {

@@ -47,11 +47,8 @@ impl Printer<'_> {
     }
 
     fn list(&mut self, first: i32, level: usize) {
-        let mut at = first as usize;
-        while at != 0 {
-            self.item(self.rows[at], level);
-            at = self.rows[at][NEXT] as usize;
-        }
+        let rows = self.rows;
+        list(rows, first).for_each(|at| self.item(rows[at], level));
     }
 
     fn block(&mut self, row: i32, level: usize) {
@@ -62,10 +59,16 @@ impl Printer<'_> {
         let [kind, a, b, c, _, _] = row;
         match kind {
             EMPTY => self.line(level, ";"),
-            EXPRESSION => {
-                let statement = self.assignment(self.rows[a as usize]);
-                self.line(level, &statement);
+            EXPRESSION => self.assignment(self.rows[a as usize], level),
+            DEFINE => {
+                let names =
+                    list(self.rows, b).map(|at| format!("int {}", self.name(self.rows[at][1])));
+                let names = names.collect();
+                self.opened(level, &format!("int f{a}("), names, ") {");
+                self.block(c, level + 1);
+                self.line(level, "}");
             }
+            RETURN => self.line(level, &format!("return {};", self.atom(a))),
             BLOCK => {
                 self.line(level, "{");
                 self.list(a, level + 1);
@@ -119,15 +122,31 @@ impl Printer<'_> {
         }
     }
 
-    fn assignment(&self, row: Row) -> String {
+    fn assignment(&mut self, row: Row, level: usize) {
         let [_, place, value, ..] = row;
+        let place = self.place(place);
         let value = match self.rows[value as usize] {
+            [CALL, function, first, ..] => {
+                let values = list(self.rows, first).map(|at| self.atom(self.rows[at][1])).collect();
+                return self.opened(level, &format!("{place} = f{function}("), values, ");");
+            }
             [MINUS, a, ..] => format!("- {}", self.atom(a)),
             [kind @ ADD..=UNEQUAL, a, b, ..] => {
                 format!("{} {} {}", self.atom(a), OPERATORS[(kind - ADD) as usize], self.atom(b))
             }
             _ => self.place(value),
         };
-        format!("{} = {value};", self.place(place))
+        self.line(level, &format!("{place} = {value};"));
+    }
+
+    /// A line that opens parentheses, and a line for each of those inside, the last of which closes
+    /// them; all on one line where there are none.
+    fn opened(&mut self, level: usize, opening: &str, inside: Vec<String>, closing: &str) {
+        let Some((last, others)) = inside.split_last() else {
+            return self.line(level, &format!("{opening}{closing}"));
+        };
+        self.line(level, opening);
+        others.iter().for_each(|other| self.line(level, &format!("{other},")));
+        self.line(level, &format!("{last}{closing}"));
     }
 }

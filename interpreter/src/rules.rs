@@ -4,6 +4,8 @@
 
 mod declarations;
 mod expressions;
+mod function_refusals;
+mod functions;
 mod guarded;
 mod refusals;
 mod shelf;
@@ -31,6 +33,8 @@ pub fn rules() -> Vec<Rule> {
     statements::add(&mut rules);
     guarded::add(&mut rules);
     declarations::add(&mut rules);
+    functions::add(&mut rules);
+    function_refusals::add(&mut rules);
     written::add(&mut rules);
     refusals::add(&mut rules);
     rules

@@ -54,6 +54,8 @@ pub const PRE_INCREMENT: i32 = 27;
 pub const PRE_DECREMENT: i32 = 28;
 pub const POST_INCREMENT: i32 = 29;
 pub const POST_DECREMENT: i32 = 30;
+pub const CALL: i32 = 31;
+pub const ARGUMENT: i32 = 32;
 pub const EMPTY: i32 = 40;
 pub const EXPRESSION: i32 = 41;
 pub const BLOCK: i32 = 42;
@@ -72,7 +74,12 @@ pub const GUARDED_IF: i32 = 54;
 pub const GUARDED_DO: i32 = 55;
 pub const ARM: i32 = 56;
 pub const ABORT: i32 = 57;
+/// A declaration; below a definition, a parameter.
 pub const DECLARE: i32 = 58;
+pub const DEFINE: i32 = 59;
+pub const RETURN: i32 = 60;
+/// The highest kind of all.
+pub const LAST_KIND: i32 = RETURN;
 
 /// A cause's number and its place: a row, a line of the text, or 0.
 #[derive(Clone, Copy, Debug, PartialEq, Eq)]
@@ -93,7 +100,7 @@ impl fmt::Display for Refusal {
     }
 }
 
-/// What one of the fields a to d of a row holds.
+/// What a field of a row holds: one of a to d, or its next.
 #[derive(Clone, Copy, Debug, PartialEq, Eq)]
 pub enum Field {
     Unused,
@@ -102,6 +109,8 @@ pub enum Field {
     /// The number that a declaration gives a new object.
     DeclaredNumber,
     ArrayNumber,
+    /// The number of a function that is defined or called.
+    FunctionNumber,
     /// Link to an expression.
     Expression,
     /// Link to an expression, or 0.
@@ -118,16 +127,25 @@ pub enum Field {
     FirstArm,
     /// Link to a block that is a body.
     BodyBlock,
+    /// Link to the first parameter of a definition, or 0.
+    FirstParameter,
+    /// Link to the first argument of a call, or 0.
+    FirstArgument,
+    /// A link that is always absent: a parameter has no first value.
+    NoLink,
 }
 
 impl Field {
     pub fn is_link(self) -> bool {
-        use Field::{ArrayNumber, DeclaredNumber, Unused, Value, VariableNumber};
-        !matches!(self, Unused | Value | VariableNumber | DeclaredNumber | ArrayNumber)
+        use Field::{ArrayNumber, DeclaredNumber, FunctionNumber, Unused, Value, VariableNumber};
+        let number = matches!(self, VariableNumber | DeclaredNumber | ArrayNumber | FunctionNumber);
+        !number && !matches!(self, Unused | Value)
     }
 
     pub fn may_be_absent(self) -> bool {
-        matches!(self, Field::MaybeExpression | Field::MaybeBranch | Field::First | Field::FirstArm)
+        use Field::{First, FirstArgument, FirstArm, FirstParameter};
+        let list = matches!(self, First | FirstArm | FirstParameter | FirstArgument);
+        list || matches!(self, Field::MaybeExpression | Field::MaybeBranch | Field::NoLink)
     }
 
     /// A branch or body, whose next is 0.
@@ -143,6 +161,8 @@ impl Field {
             Field::Branch | Field::MaybeBranch | Field::First => is_statement(kind),
             Field::FirstArm => kind == ARM,
             Field::BodyBlock => kind == BLOCK,
+            Field::FirstParameter => kind == DECLARE,
+            Field::FirstArgument => kind == ARGUMENT,
             _ => false,
         }
     }
@@ -174,25 +194,54 @@ pub(crate) fn fields(kind: i32) -> Option<[Field; 4]> {
         GUARDED_IF | GUARDED_DO => [FirstArm, u, u, u],
         ARM => [e, BodyBlock, u, u],
         DECLARE => [DeclaredNumber, e, u, u],
+        CALL => [FunctionNumber, FirstArgument, u, u],
+        ARGUMENT => [e, u, u, u],
+        DEFINE => [FunctionNumber, FirstParameter, BodyBlock, u],
+        RETURN => [MaybeExpression, u, u, u],
         _ => return None,
     };
     Some(fields)
 }
 
-pub fn is_expression(kind: i32) -> bool {
-    (CONSTANT..=POST_DECREMENT).contains(&kind)
+/// The fields of a parameter, which is a row of kind 58 without a first value.
+pub(crate) const PARAMETER_FIELDS: [Field; 4] =
+    [Field::DeclaredNumber, Field::NoLink, Field::Unused, Field::Unused];
+
+/// What the next of a kind holds, where that is no parameter: the next item of its list, or 0.
+pub fn next_field(kind: i32) -> Field {
+    match kind {
+        ARM => Field::FirstArm,
+        ARGUMENT => Field::FirstArgument,
+        kind if is_expression(kind) => Field::Unused,
+        _ => Field::First,
+    }
 }
 
-/// Of the kinds that the table has: an arm is neither expression nor statement.
+pub fn is_expression(kind: i32) -> bool {
+    (CONSTANT..=CALL).contains(&kind)
+}
+
+/// Of the kinds that the table has: arms and arguments are neither expressions nor statements.
 pub fn is_statement(kind: i32) -> bool {
-    !is_expression(kind) && kind != ARM
+    !is_expression(kind) && kind != ARM && kind != ARGUMENT
 }
 
 pub fn is_loop(kind: i32) -> bool {
     matches!(kind, WHILE | DO | FOR)
 }
 
-/// The rows of the declarations, in order.
+/// The rows of a list from this one on; none where it is 0.
+pub fn list(rows: &[Row], first: i32) -> impl Iterator<Item = usize> + '_ {
+    let item = |at: i32| (at != 0).then_some(at as usize);
+    std::iter::successors(item(first), move |&at| item(rows[at][NEXT]))
+}
+
+/// The definitions at the head of row 0's list.
+pub fn definitions(rows: &[Row]) -> Vec<usize> {
+    list(rows, rows[0][1]).take_while(|&at| rows[at][0] == DEFINE).collect()
+}
+
+/// The rows of the declarations, parameters among them, in order.
 pub fn declarations(words: &[i32]) -> Vec<usize> {
     let rows = rows_of(words);
     (0..rows.len()).filter(|&at| rows[at][0] == DECLARE).collect()

@@ -111,6 +111,28 @@ pub fn declare(number: i32, value: Tree) -> Tree {
     node(DECLARE, Number(number), one(value))
 }
 
+/// A parameter: a declaration without a first value.
+pub fn parameter(number: i32) -> Tree {
+    node(DECLARE, Number(number), Absent)
+}
+
+/// The definition of the function with this number: the numbers of its parameters, its items.
+pub fn define(function: i32, parameters: &[i32], items: Vec<Tree>) -> Tree {
+    let parameters = parameters.iter().map(|&number| parameter(number)).collect();
+    let parts = [Number(function), List(parameters), one(block(items)), Absent];
+    Tree { kind: DEFINE, parts }
+}
+
+pub fn call(function: i32, arguments: Vec<Tree>) -> Tree {
+    let arguments = arguments.into_iter().map(|value| node(ARGUMENT, one(value), Absent));
+    node(CALL, Number(function), List(arguments.collect()))
+}
+
+/// A return with this value, or with 0.
+pub fn give_back(value: Option<Tree>) -> Tree {
+    node(RETURN, maybe(value), Absent)
+}
+
 pub fn case(value: i32) -> Tree {
     node(CASE, Number(value), Absent)
 }
@@ -211,7 +233,7 @@ fn lay(tree: &Tree, rows: &mut Vec<Row>) -> usize {
 pub fn link_fields(row: &Row) -> Vec<usize> {
     let fields = Source.fields_or_unused(row[0]);
     let mut links: Vec<usize> = (1..NEXT).filter(|&i| fields[i - 1].is_link()).collect();
-    if Source.is_statement(row[0]) || row[0] == ARM {
+    if Source.fields(row[0]).is_some() && !is_expression(row[0]) {
         links.push(NEXT);
     }
     links

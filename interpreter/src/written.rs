@@ -1,6 +1,6 @@
-//! What a program can write (document 02, changes 7 and 11): the variables, the
+//! What a program can write (document 02, changes 7, 11 and 13): the variables, the
 //! declared words, and the arrays of the elements, that are places of the kinds 21
-//! to 30, in any row; and the words of all declarations.
+//! to 30, in any row; and the words of all declarations and parameters.
 
 use crate::table::*;
 use std::collections::BTreeSet;
@@ -44,13 +44,20 @@ impl Search<'_> {
     /// A row and all below it.
     fn row(&mut self, at: usize) {
         let row = self.rows[at];
+        if row[0] == DEFINE {
+            return self.scoped(|search| {
+                // The parameters are in scope in the body.
+                search.items(row[2]);
+                search.items(row[3]);
+            });
+        }
         if (ASSIGN..=POST_DECREMENT).contains(&row[0]) {
             self.place(self.rows[row[1] as usize]);
         }
         let fields = fields(row[0]).unwrap_or([Field::Unused; 4]);
         for (field, &link) in fields.iter().zip(&row[1..NEXT]) {
-            if field.is_link() && link != 0 {
-                self.list(link as usize);
+            if field.is_link() {
+                self.scoped(|search| search.items(link));
             }
         }
         if row[0] == DECLARE {
@@ -60,14 +67,15 @@ impl Search<'_> {
         }
     }
 
-    /// A row, and the items that follow it in its list.
-    fn list(&mut self, first: usize) {
+    /// A row, and the items that follow it in its list; 0 is an empty list.
+    fn items(&mut self, first: i32) {
+        list(self.rows, first).for_each(|item| self.row(item));
+    }
+
+    /// What is declared on the way is in scope there alone.
+    fn scoped(&mut self, search: impl FnOnce(&mut Self)) {
         let outer = self.scope.len();
-        let mut item = first;
-        while item != 0 {
-            self.row(item);
-            item = self.rows[item][NEXT] as usize;
-        }
+        search(self);
         self.scope.truncate(outer);
     }
 

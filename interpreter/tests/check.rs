@@ -63,14 +63,15 @@ fn sizes() {
 #[test]
 fn kinds_and_unused_fields() {
     for kind in (-3..70).chain([i32::MIN, i32::MAX]) {
-        let statement = (40..=51).contains(&kind) || (54..=56).contains(&kind) || kind == 58;
-        let known = (1..=30).contains(&kind) || statement;
+        let statement =
+            (40..=51).contains(&kind) || (54..=56).contains(&kind) || (58..=60).contains(&kind);
+        let known = (1..=32).contains(&kind) || statement;
         assert_eq!(Source.fields(kind).is_some(), known, "{kind}");
         let rows = [BLOCK, 1, 0, 0, 0, 0, kind, 0, 0, 0, 0, 0];
         assert_eq!(refused(&[1, 1], &rows) == (3, 1), !known, "{kind}");
     }
     // Every field that the kind does not name, and next of an expression.
-    for kind in 1..=DECLARE {
+    for kind in 1..=LAST_KIND {
         let Some(fields) = Source.fields(kind) else { continue };
         for i in 1..WORDS {
             let unused =

@@ -11,6 +11,10 @@ use interpreter::tree::*;
 use interpreter::Form::Source;
 use interpreter::{check, day, generate_joins, preview, text, trial, Ending, Refusal};
 
+mod renaming;
+
+use renaming::Renaming;
+
 /// The generated programs that declare names, with their rows.
 fn declaring(seed: u64, count: u64) -> impl Iterator<Item = (Program, Vec<i32>, Random)> {
     (0..count).filter_map(move |i| {
@@ -22,51 +26,19 @@ fn declaring(seed: u64, count: u64) -> impl Iterator<Item = (Program, Vec<i32>, 
     })
 }
 
-/// The tree without declarations: each of them assigns to a variable of its own.
-struct Renaming {
-    /// The number of the next such variable.
-    fresh: i32,
-    scope: Vec<(i32, i32)>,
-}
-
-impl Renaming {
-    fn tree(&mut self, tree: &Tree) -> Tree {
-        if let (VARIABLE, Part::Number(number)) = (tree.kind, &tree.parts[0]) {
-            let meant = self.scope.iter().rev().find(|named| named.0 == *number);
-            return variable(meant.map_or(*number, |named| named.1));
-        }
-        if let (DECLARE, [Part::Number(number), Part::One(value), ..]) = (tree.kind, &tree.parts) {
-            let value = self.tree(value);
-            let fresh = self.fresh;
-            self.fresh += 1;
-            self.scope.push((*number, fresh));
-            return expression(assign(variable(fresh), value));
-        }
-        let parts = [0, 1, 2, 3].map(|i| match &tree.parts[i] {
-            Part::One(part) => Part::One(Box::new(self.tree(part))),
-            Part::List(items) => {
-                let outer = self.scope.len();
-                let items = items.iter().map(|item| self.tree(item)).collect();
-                self.scope.truncate(outer);
-                Part::List(items)
-            }
-            other => other.clone(),
-        });
-        Tree { kind: tree.kind, parts }
-    }
-}
-
-/// A program ends as the one in which the declared objects are variables behind the others.
+/// A program ends as the one in which declared objects and parameters are variables behind the
+/// others.
 #[test]
 fn declared_names_are_variables_of_their_own() {
-    let mut compared = 0;
+    let (mut compared, mut calling) = (0, 0);
     for (program, rows, mut random) in declaring(91, 6_000) {
         let header = &program.header;
         let declared = declarations(&rows).len();
-        let mut renaming = Renaming { fresh: header[0], scope: Vec::new() };
+        let mut renaming = Renaming::new(header[0]);
         let renamed = rows_in_order(&renaming.tree(&program.tree));
+        let more = (renaming.fresh - header[0]) as usize;
         let mut wider = header.clone();
-        wider[0] += declared as i32;
+        wider[0] = renaming.fresh;
         if check(Source, &wider, &renamed).is_err() {
             // Over 256 variables, 8,192 words, 2,048 rows or 64 levels.
             continue;
@@ -74,21 +46,22 @@ fn declared_names_are_variables_of_their_own() {
         let any = |random: &mut Random| random.between(-9, 9);
         let variables: Vec<i32> = (0..header[0]).map(|_| any(&mut random)).collect();
         let cells: Vec<i32> = header[1..].iter().flat_map(|&n| vec![2; n as usize]).collect();
-        let own: Vec<i32> = (0..2 * declared).map(|_| any(&mut random)).collect();
+        let own: Vec<i32> = (0..declared + more).map(|_| any(&mut random)).collect();
         let mut store = [&variables[..], &cells, &own[..declared]].concat();
         let mut other = [&variables[..], &own[declared..], &cells].concat();
         let one = run_checked(Source, header, &rows, &mut store, 20_000);
-        let two = run_checked(Source, &wider, &renamed, &mut other, 60_000);
+        let two = run_checked(Source, &wider, &renamed, &mut other, 1_000_000);
         if one.ending == Ending::Spent {
             continue;
         }
         assert_eq!(one.ending, two.ending);
         let size = Source.size(header) as usize;
-        other.drain(header[0] as usize..header[0] as usize + declared);
+        other.drain(header[0] as usize..header[0] as usize + more);
         assert_eq!(store[..size], other);
         compared += 1;
+        calling += usize::from(rows_of(&rows).iter().any(|row| row[0] == ARGUMENT));
     }
-    assert!(compared > 1_000, "{compared}");
+    assert!(compared > 2_000 && calling > 700, "{compared} {calling}");
 }
 
 /// At every budget the first S words, the ending and the count are the same, whatever the declared

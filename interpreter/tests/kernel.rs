@@ -182,4 +182,10 @@ fn shares_of_cases() {
         assert!(count >= 20, "{number}: {:?}", tally.answers);
     }
     assert!(tally.accepted >= 300);
+    // Functions are in a third of the programs, and of their causes 19 takes two parameters.
+    (2_000..8_000).for_each(|i| tally.add(Kernel, &damaged_case(5, i)));
+    for (number, least) in [(7, 40), (19, 10), (23, 25), (24, 35)] {
+        let count = tally.answers.get(&format!("refused {number:2}")).copied().unwrap_or(0);
+        assert!(count >= least, "{number}: {:?}", tally.answers);
+    }
 }

@@ -112,3 +112,60 @@ fn names_of_words() {
         assert!(read(&fewer, &page).is_err());
     }
 }
+
+/// A line for each parameter and argument, at the level of their definition or statement.
+#[test]
+fn functions() {
+    let rows: Vec<Row> = vec![
+        [BLOCK, 1, 0, 0, 0, 0],
+        [DEFINE, 0, 0, 2, 0, 5],
+        [BLOCK, 3, 0, 0, 0, 0],
+        [RETURN, 4, 0, 0, 0, 0],
+        [CONSTANT, -7, 0, 0, 0, 0],
+        [DEFINE, 1, 6, 8, 0, 13],
+        [DECLARE, 2, 0, 0, 0, 7],
+        [DECLARE, 1, 0, 0, 0, 0],
+        [BLOCK, 9, 0, 0, 0, 0],
+        [EXPRESSION, 10, 0, 0, 0, 0],
+        [ASSIGN, 11, 12, 0, 0, 0],
+        [VARIABLE, 3, 0, 0, 0, 0],
+        [CALL, 0, 0, 0, 0, 0],
+        [BLOCK, 14, 0, 0, 0, 0],
+        [EXPRESSION, 15, 0, 0, 0, 0],
+        [ASSIGN, 16, 17, 0, 0, 0],
+        [VARIABLE, 0, 0, 0, 0, 0],
+        [CALL, 1, 18, 0, 0, 0],
+        [ARGUMENT, 19, 0, 0, 0, 20],
+        [VARIABLE, 0, 0, 0, 0, 0],
+        [ARGUMENT, 21, 0, 0, 0, 0],
+        [CONSTANT, 3, 0, 0, 0, 0],
+    ];
+    let (header, rows) = ([1, 2, 1], rows.concat());
+    assert_eq!(check(Kernel, &header, &rows), Ok(()));
+    let page = print(&header, &rows);
+    let lines: Vec<&str> =
+        std::str::from_utf8(&page).unwrap().lines().map(|l| l[6..].trim_end()).collect();
+    let expected = [
+        "int f0() {",
+        "  return -7;",
+        "}",
+        "int f1(",
+        "int l1,",
+        "int l0) {",
+        "  t0 = f0();",
+        "}",
+        "{",
+        "  v0 = f1(",
+        "  v0,",
+        "  3);",
+        "}",
+    ];
+    assert_eq!(lines, expected);
+    assert_eq!(read(&header, &page), Ok(rows));
+    // A page that ends inside parentheses, and one without the line of its last argument.
+    let cut = |lines: usize| read(&header, &page[..lines * (COLUMNS + 1)]);
+    assert_eq!(cut(11), Err(Refusal::new(14, 12)));
+    assert_eq!(cut(5), Err(Refusal::new(14, 6)));
+    // Fewer declared words than the parameters name.
+    assert_eq!(read(&[1, 1, 1], &page), Err(Refusal::new(14, 5)));
+}

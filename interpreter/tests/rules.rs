@@ -7,10 +7,14 @@ use interpreter::Form::Source;
 
 #[test]
 fn every_rule_has_its_answer() {
+    let mut wrong = Vec::new();
     for rule in rules() {
-        let text = String::from_utf8_lossy(&rule.case.text).into_owned();
-        assert_eq!(answer(Source, &rule.case), rule.answer, "{}: {text}", rule.name);
+        let given = answer(Source, &rule.case);
+        if given != rule.answer {
+            wrong.push(format!("{}: {} and not {given}", rule.name, rule.answer));
+        }
     }
+    assert!(wrong.is_empty(), "{}", wrong.join("\n"));
 }
 
 #[test]

@@ -22,6 +22,14 @@ pub const SOURCE_HEADER_WORDS: usize = 33;
 pub const KERNEL_HEADER_WORDS: usize = 35;
 pub const SOURCE_ROWS_LIMIT: usize = 2048;
 pub const KERNEL_ROWS_LIMIT: usize = 40_980;
+/// Bytes of stack that are enough for every entry but a run of a deep kernel table.
+pub const STACK: usize = 2 << 20;
+/// Bytes of stack that are enough for a run of any kernel table. A table that defines functions may
+/// call as deep as it has rows; where it has more than `SHALLOW_ROWS` of them, `kernel_run` and
+/// `dispatcher_run` go to a thread of their own with that much.
+pub const KERNEL_STACK: usize = 8 << 20;
+/// `STACK` is enough for a run of a kernel table of so many rows, whatever it calls.
+pub const SHALLOW_ROWS: usize = 2048;
 
 /// At most so many kernel rows come from n source rows.
 pub const fn kernel_rows(source_rows: usize) -> usize {
@@ -51,10 +59,13 @@ pub enum Cause {
     NamesItself = 18,
     DeclaredTwice = 19,
     Declarations = 20,
+    Definition = 23,
+    Call = 24,
+    Functions = 25,
 }
 
-/// Every cause, in order of number.
-pub const CAUSES: [Cause; 20] = [
+/// Every cause, in order of number. The library has no 21 and 22, which a day's input gets.
+pub const CAUSES: [Cause; 23] = [
     Cause::Header,
     Cause::RowCount,
     Cause::Kind,
@@ -75,7 +86,18 @@ pub const CAUSES: [Cause; 20] = [
     Cause::NamesItself,
     Cause::DeclaredTwice,
     Cause::Declarations,
+    Cause::Definition,
+    Cause::Call,
+    Cause::Functions,
 ];
+
+impl Cause {
+    /// The cause that the library has this number for.
+    fn numbered(number: u32) -> Cause {
+        let found = CAUSES.into_iter().find(|&cause| cause as u32 == number);
+        found.expect("the library gives the causes of its header")
+    }
+}
 
 /// A cause and its place: a row, a line of the text from 1, or 0.
 #[derive(Clone, Copy, Debug, PartialEq, Eq)]
@@ -147,7 +169,7 @@ impl Answer {
     fn values(self) -> Result<(usize, usize), Refusal> {
         match self.cause {
             0 => Ok((self.first, self.second)),
-            number => Err(Refusal { cause: CAUSES[number as usize - 1], place: self.first }),
+            number => Err(Refusal { cause: Cause::numbered(number), place: self.first }),
         }
     }
 
@@ -190,6 +212,32 @@ fn run_by(
     let (rows, row_words) = (rows.as_ptr(), rows.len());
     let (store, store_words) = (store.as_mut_ptr(), store.len());
     unsafe { entry(header, header_words, rows, row_words, store, store_words, budget) }.run()
+}
+
+/// The same, on a stack that holds the calls of a kernel table.
+fn run_deep_by(
+    entry: foreign::Run,
+    header: &[i32],
+    rows: &[i32],
+    store: &mut [i32],
+    budget: u32,
+) -> Result<Run, Refusal> {
+    if !calls_deep(rows) {
+        return run_by(entry, header, rows, store, budget);
+    }
+    std::thread::scope(|scope| {
+        let builder = std::thread::Builder::new().stack_size(KERNEL_STACK);
+        let run = || run_by(entry, header, rows, store, budget);
+        let thread = builder.spawn_scoped(scope, run).expect("a thread starts");
+        thread.join().unwrap_or_else(|panic| std::panic::resume_unwind(panic))
+    })
+}
+
+/// Whether the calls of a kernel table may need more than `STACK`.
+fn calls_deep(rows: &[i32]) -> bool {
+    const DEFINITION: i32 = 59;
+    rows.len() > ROW_WORDS * SHALLOW_ROWS
+        && rows.iter().step_by(ROW_WORDS).any(|&kind| kind == DEFINITION)
 }
 
 fn read_by(
@@ -259,30 +307,31 @@ pub fn preview(
     .preview()
 }
 
-/// Runs a kernel program on a store of S+D+T words.
+/// Runs a kernel program on a store of S+D+T words. See `KERNEL_STACK`.
 pub fn kernel_run(
     header: &[i32],
     rows: &[i32],
     store: &mut [i32],
     budget: u32,
 ) -> Result<Run, Refusal> {
-    run_by(foreign::clight_kernel_run, header, rows, store, budget)
+    run_deep_by(foreign::clight_kernel_run, header, rows, store, budget)
 }
 
 /// Runs a kernel program on the S words that a dispatcher sees; its declared words and
-/// temporaries begin as zeros and are kept inside. There is no count.
+/// temporaries begin as zeros and are kept inside. There is no count. See `KERNEL_STACK`.
 pub fn dispatcher_run(
     header: &[i32],
     rows: &[i32],
     words: &mut [i32],
     budget: u32,
 ) -> Result<Ending, Refusal> {
-    Ok(run_by(foreign::clight_dispatcher_run, header, rows, words, budget)?.ending)
+    Ok(run_deep_by(foreign::clight_dispatcher_run, header, rows, words, budget)?.ending)
 }
 
 /// Writes the flat list of a kernel program, which stands under its header,
 /// and gives its words; those beyond keep their content. Five words for each
-/// kernel row are always enough. The list is legal, and the flat run and the
+/// kernel row are always enough. A program with functions has none, and is
+/// refused with `Cause::Functions`. The list is legal, and the flat run and the
 /// kernel run on equal stores both end or neither does, with equal ending and
 /// words.
 pub fn flatten(header: &[i32], rows: &[i32], list: &mut [i32]) -> Result<usize, Refusal> {

@@ -1,5 +1,5 @@
-//! include/clight.h and the wrapper have the same causes and endings, with
-//! the same numbers.
+//! include/clight.h and the wrapper have the same causes, endings and limits,
+//! with the same numbers.
 
 use clight::{CAUSES, ENDINGS};
 
@@ -42,4 +42,20 @@ fn causes_agree() {
     let done = std::iter::once(("DONE".to_string(), 0));
     let own = CAUSES.iter().map(|cause| (in_capitals(&format!("{cause:?}")), *cause as usize));
     assert_eq!(members("clight_cause"), done.chain(own).collect::<Vec<_>>());
+}
+
+#[test]
+fn limits_agree() {
+    let own = [
+        ("ROW_WORDS", clight::ROW_WORDS),
+        ("LINE_WORDS", 5),
+        ("SOURCE_HEADER_WORDS", clight::SOURCE_HEADER_WORDS),
+        ("KERNEL_HEADER_WORDS", clight::KERNEL_HEADER_WORDS),
+        ("SOURCE_ROWS_LIMIT", clight::SOURCE_ROWS_LIMIT),
+        ("KERNEL_ROWS_LIMIT", clight::KERNEL_ROWS_LIMIT),
+        ("STACK", clight::STACK),
+        ("KERNEL_STACK", clight::KERNEL_STACK),
+        ("SHALLOW_ROWS", clight::SHALLOW_ROWS),
+    ];
+    assert_eq!(members("clight_limit"), own.map(|(name, number)| (name.to_string(), number)));
 }

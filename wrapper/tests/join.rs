@@ -90,5 +90,5 @@ fn joins_are_those_of_the_interpreter() {
     }
     let met: Vec<u32> = causes.keys().copied().collect();
     println!("{causes:?}");
-    assert_eq!(met, [0, 1, 2, 3, 4, 5, 6, 7, 8, 9, 10, 16, 17, 18, 19, 20]);
+    assert_eq!(met, [0, 1, 2, 3, 4, 5, 6, 7, 8, 9, 10, 16, 17, 18, 19, 20, 23, 24]);
 }

@@ -1,34 +1,51 @@
-//! What the check adds for declarations, of the source form: causes 18, 19 and 20,
-//! each over the whole table.
+//! What the check adds for declarations: causes 18, 19 and 20, each over the whole
+//! table. Parameters are declarations without a first value.
 
 use super::{known_fields, refuse_row};
 use crate::table::*;
+use std::collections::BTreeSet;
 
-pub fn check_declarations(rows: &[Row]) -> Result<(), Refusal> {
-    let declared: Vec<usize> = (0..rows.len()).filter(|&at| rows[at][0] == DECLARE).collect();
-    refuse_row(18, declared.iter().copied().find(|&at| names(rows, rows[at][2], rows[at][1])))?;
-    refuse_row(19, declared.iter().filter_map(|&at| declared_again(rows, at)).min())?;
-    refuse_row(20, declared.get(MAX_DECLARED as usize).copied())
+/// Cause 18.
+pub fn check_first_values(rows: &[Row]) -> Result<(), Refusal> {
+    let names_itself = |&at: &usize| match rows[at] {
+        [DECLARE, number, value, ..] => value != 0 && names(rows, value as usize, number),
+        _ => false,
+    };
+    refuse_row(18, (0..rows.len()).find(names_itself))
 }
 
-/// Whether the number stands in the expression: as operand, place or index.
-fn names(rows: &[Row], at: i32, number: i32) -> bool {
-    let row = &rows[at as usize];
-    let links =
-        known_fields(row).into_iter().zip(&row[1..NEXT]).filter(|(field, _)| field.is_link());
-    let mut below = links.map(|(_, &link)| link);
-    *row == [VARIABLE, number, 0, 0, 0, 0] || below.any(|link| names(rows, link, number))
+/// Whether the number stands in the expression: as operand, place or index. An argument goes with
+/// those behind it.
+fn names(rows: &[Row], at: usize, number: i32) -> bool {
+    let row = &rows[at];
+    let fields = known_fields(row);
+    let links = (1..NEXT).filter(|&field| fields[field - 1].is_link()).chain([NEXT]);
+    let mut below = links.map(|field| row[field]).filter(|&link| link != 0);
+    *row == [VARIABLE, number, 0, 0, 0, 0] || below.any(|link| names(rows, link as usize, number))
 }
 
-/// The next declaration of the same number behind this one in its list. Items of one list follow
-/// in order of their rows.
-fn declared_again(rows: &[Row], at: usize) -> Option<usize> {
-    let mut item = rows[at][NEXT] as usize;
-    while item != 0 {
-        if rows[item][0] == DECLARE && rows[item][1] == rows[at][1] {
-            return Some(item);
+/// Cause 19: the lowest row of those that declare a number again in their list. Parameters are the
+/// first items of their function's block, whatever their rows.
+pub fn check_repeated(rows: &[Row]) -> Result<(), Refusal> {
+    let repeated = rows.iter().filter_map(|row| match *row {
+        [BLOCK, first, ..] => lowest_repeated(rows, list(rows, first)),
+        [DEFINE, _, first, body, ..] => {
+            let items = list(rows, rows[body as usize][1]);
+            lowest_repeated(rows, list(rows, first).chain(items))
         }
-        item = rows[item][NEXT] as usize;
-    }
-    None
+        _ => None,
+    });
+    refuse_row(19, repeated.min())
+}
+
+/// The lowest of the items that declare the number of an item before them.
+fn lowest_repeated(rows: &[Row], items: impl Iterator<Item = usize>) -> Option<usize> {
+    let mut numbers = BTreeSet::new();
+    items.filter(|&at| rows[at][0] == DECLARE && !numbers.insert(rows[at][1])).min()
+}
+
+/// Cause 20.
+pub fn check_count(rows: &[Row]) -> Result<(), Refusal> {
+    let mut declared = (0..rows.len()).filter(|&at| rows[at][0] == DECLARE);
+    refuse_row(20, declared.nth(MAX_DECLARED as usize))
 }

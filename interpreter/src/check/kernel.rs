@@ -5,12 +5,13 @@ use super::{refuse_row, Standing};
 use crate::table::*;
 
 /// Cause 12.
-pub fn check_forms(rows: &[Row]) -> Result<(), Refusal> {
-    refuse_row(12, (0..rows.len()).find(|&at| !has_kernel_form(rows, at)))
+pub fn check_forms(rows: &[Row], standings: &[Standing]) -> Result<(), Refusal> {
+    refuse_row(12, (0..rows.len()).find(|&at| !has_kernel_form(rows, standings, at)))
 }
 
-/// Whether a statement has kernel form; an expression is judged with its statement.
-fn has_kernel_form(rows: &[Row], at: usize) -> bool {
+/// Whether a statement has kernel form; an expression is judged with its statement. A declaration
+/// has it as a parameter alone.
+fn has_kernel_form(rows: &[Row], standings: &[Standing], at: usize) -> bool {
     let [kind, a, b, c, ..] = rows[at];
     let is_block = |link: i32| link != 0 && rows[link as usize][0] == BLOCK;
     match kind {
@@ -20,6 +21,8 @@ fn has_kernel_form(rows: &[Row], at: usize) -> bool {
             let [kind, place, value, ..] = rows[a as usize];
             kind == ASSIGN && is_kernel_assignment(rows, &rows[place as usize], value)
         }
+        DECLARE => rows[standings[at].owner][0] == DEFINE,
+        RETURN => a != 0 && is_atom(rows, a),
         _ => true,
     }
 }
@@ -38,13 +41,16 @@ fn is_kernel_assignment(rows: &[Row], place: &Row, value: i32) -> bool {
         MINUS => is_atom(rows, a),
         ADD..=UNEQUAL => is_atom(rows, a) && is_atom(rows, b),
         ELEMENT => is_atom(rows, b),
+        CALL => list(rows, b).all(|argument| is_atom(rows, rows[argument][1])),
         _ => false,
     }
 }
 
 /// Cause 13. Items of one list follow in order of their rows.
 pub fn check_labels(rows: &[Row], standings: &[Standing]) -> Result<(), Refusal> {
-    let mut labels: Vec<Vec<usize>> = vec![Vec::new(); LABELS as usize];
+    let numbers = rows.iter().filter(|row| matches!(row[0], GOTO | LABEL)).map(|row| row[1]);
+    let mut labels: Vec<Vec<usize>> =
+        vec![Vec::new(); numbers.max().map_or(0, |most| most as usize + 1)];
     for (at, row) in rows.iter().enumerate() {
         if row[0] == LABEL {
             labels[row[1] as usize].push(at);
@@ -53,19 +59,20 @@ pub fn check_labels(rows: &[Row], standings: &[Standing]) -> Result<(), Refusal>
     let well = |at: usize| match rows[at] {
         [LABEL, number, ..] => labels[number as usize][0] == at,
         [GOTO, number, ..] => {
-            labels[number as usize].iter().any(|&label| is_ahead(standings, at, label))
+            labels[number as usize].iter().any(|&label| is_ahead(rows, standings, at, label))
         }
         _ => true,
     };
     refuse_row(13, (0..rows.len()).find(|&at| !well(at)))
 }
 
-/// Whether the label is a later item of a list that holds the goto or a row around it.
-fn is_ahead(standings: &[Standing], goto: usize, label: usize) -> bool {
+/// Whether the label is a later item of a list that holds the goto or a row around it, inside its
+/// function.
+fn is_ahead(rows: &[Row], standings: &[Standing], goto: usize, label: usize) -> bool {
     let owner = |row: usize| standings[row].owner;
     let list = owner(label);
     let mut item = goto;
-    while item != 0 {
+    while item != 0 && rows[item][0] != DEFINE {
         if owner(item) == list {
             return item < label;
         }

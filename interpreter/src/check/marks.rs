@@ -1,7 +1,9 @@
-//! What the check adds for the source form: jumps, marks and declarations in their
-//! places, causes 7 and 8.
+//! What the check adds for jumps, marks, declarations and returns: that they stand in
+//! their places, cause 7, and that a switch has no mark twice, cause 8. The kernel form
+//! has no jumps and marks of these.
 
 use super::{refuse_row, Standing};
+use crate::form::Form;
 use crate::table::*;
 
 /// What a row stands inside of.
@@ -11,24 +13,29 @@ struct Inside {
     a_loop: bool,
     /// A loop or switch, so that break has its place.
     a_breakable: bool,
+    /// A definition, so that return has its place.
+    a_function: bool,
 }
 
 /// Cause 7. A row's owner is an earlier row, so that one pass is enough.
-pub fn check_places(rows: &[Row], standings: &[Standing]) -> Result<(), Refusal> {
+pub fn check_places(form: Form, rows: &[Row], standings: &[Standing]) -> Result<(), Refusal> {
     let mut inside = vec![Inside::default(); rows.len()];
     for at in 1..rows.len() {
         let owner = standings[at].owner;
         let kind = rows[owner][0];
         let a_loop = inside[owner].a_loop || is_loop(kind);
         let a_breakable = inside[owner].a_breakable || is_loop(kind) || kind == SWITCH;
-        inside[at] = Inside { a_loop, a_breakable };
+        let a_function = inside[owner].a_function || kind == DEFINE;
+        inside[at] = Inside { a_loop, a_breakable, a_function };
         let in_place = match rows[at][0] {
             BREAK => a_breakable,
             CONTINUE => a_loop,
             // The statements that a switch owns are the items of its list.
             CASE | DEFAULT => kind == SWITCH,
-            // So are those that a block owns.
-            DECLARE => kind == BLOCK,
+            // So are those that a block owns; the declarations that a definition owns are its
+            // parameters. In the kernel another one is no statement of its form, 12.
+            DECLARE => kind == BLOCK || kind == DEFINE || form == Form::Kernel,
+            RETURN => a_function,
             _ => true,
         };
         if !in_place {
@@ -49,24 +56,16 @@ pub fn check_repeated_marks(rows: &[Row]) -> Result<(), Refusal> {
 fn repeated_mark(rows: &[Row], first: i32) -> Option<usize> {
     let mut values = Vec::new();
     let mut defaults = 0;
-    let mut item = first as usize;
-    while item != 0 {
-        let repeated = match rows[item][0] {
-            CASE => {
-                let seen = values.contains(&rows[item][1]);
-                values.push(rows[item][1]);
-                seen
-            }
-            DEFAULT => {
-                defaults += 1;
-                defaults > 1
-            }
-            _ => false,
-        };
-        if repeated {
-            return Some(item);
+    list(rows, first).find(|&item| match rows[item][0] {
+        CASE => {
+            let seen = values.contains(&rows[item][1]);
+            values.push(rows[item][1]);
+            seen
         }
-        item = rows[item][NEXT] as usize;
-    }
-    None
+        DEFAULT => {
+            defaults += 1;
+            defaults > 1
+        }
+        _ => false,
+    })
 }

@@ -1,6 +1,6 @@
 //! Damages to the header and the rows: causes 1 to 6, and any word.
 
-use super::{arms, Damage};
+use super::{arguments, arms, Damage};
 use crate::form::Form::Source;
 use crate::random::Random;
 use crate::table::*;
@@ -37,6 +37,7 @@ pub fn damage_table(random: &mut Random, header: &mut Vec<i32>, rows: &mut Vec<R
         Damage::BranchNext => damage_branch_next(random, rows),
         Damage::Linked => damage_linked(random, rows),
         Damage::Arm => arms::damage(random, rows),
+        Damage::Argument => arguments::damage(random, rows),
         Damage::Number => damage_number(random, header, rows),
         Damage::AnyWord => any_word(random, rows),
         Damage::Swap => swap(random, rows),
@@ -79,8 +80,8 @@ fn damage_kind(random: &mut Random, rows: &mut [Row]) {
     let Some(at) = some_row(random, &all) else { return };
     rows[at][0] = match random.below(4) {
         0 => random.pick(&[GOTO, LABEL, ABORT, ABORT]),
-        1 => random.pick(&[0, 31, 39, 59, DECLARE]),
-        2 => random.between(31, 39),
+        1 => random.pick(&[0, 39, LAST_KIND + 1, CALL, ARGUMENT, DECLARE, DEFINE, RETURN]),
+        2 => random.between(33, 39),
         _ => random.pick(&[-1, i32::MIN, i32::MAX, 100, 257, -42]),
     };
 }
@@ -121,9 +122,10 @@ fn damage_link(random: &mut Random, rows: &mut [Row]) {
 }
 
 fn damage_branch_next(random: &mut Random, rows: &mut [Row]) {
-    let owners = rows_where(rows, |row| matches!(row[0], IF | WHILE | DO | FOR | ARM));
+    let owners = rows_where(rows, |row| matches!(row[0], IF | WHILE | DO | FOR | ARM | DEFINE));
     let Some(at) = some_row(random, &owners) else { return };
     let branch = match rows[at][0] {
+        DEFINE => rows[at][3],
         IF if rows[at][3] != 0 && random.chance(50) => rows[at][3],
         IF | WHILE | ARM => rows[at][2],
         DO => rows[at][1],
@@ -161,7 +163,8 @@ fn cut_link(random: &mut Random, rows: &mut [Row]) {
     let optional = |row: &Row| {
         (row[0] == IF && row[3] != 0)
             || (row[0] == FOR && row[1..4] != [0, 0, 0])
-            || (matches!(row[0], GUARDED_IF | GUARDED_DO) && row[1] != 0)
+            || (matches!(row[0], GUARDED_IF | GUARDED_DO | RETURN) && row[1] != 0)
+            || (matches!(row[0], CALL | DEFINE) && row[2] != 0)
             || (!is_expression(row[0]) && row[NEXT] != 0)
     };
     let owners = rows_where(rows, optional);
@@ -169,7 +172,8 @@ fn cut_link(random: &mut Random, rows: &mut [Row]) {
     match rows[at][0] {
         IF => rows[at][3] = 0,
         FOR => rows[at][random.pick(&[1, 2, 3])] = 0,
-        GUARDED_IF | GUARDED_DO if random.chance(50) => rows[at][1] = 0,
+        GUARDED_IF | GUARDED_DO | RETURN if random.chance(50) => rows[at][1] = 0,
+        CALL | DEFINE => rows[at][2] = 0,
         _ => rows[at][NEXT] = 0,
     }
 }
@@ -180,8 +184,7 @@ fn move_link(random: &mut Random, rows: &mut [Row]) {
     let Some(at) = some_row(random, &all) else { return };
     let field = random.pick(&link_fields(&rows[at]));
     let wanted = match field {
-        NEXT if rows[at][0] == ARM => Field::FirstArm,
-        NEXT => Field::First,
+        NEXT => next_field(rows[at][0]),
         _ => Source.fields_or_unused(rows[at][0])[field - 1],
     };
     let fits = |other: &usize| {
@@ -231,7 +234,7 @@ fn any_word(random: &mut Random, rows: &mut Vec<Row>) {
         1 => rows.insert(at, rows[at]),
         2..=5 => {
             let same = Source.fields(rows[at][0]);
-            let kinds: Vec<i32> = (1..=DECLARE)
+            let kinds: Vec<i32> = (1..=LAST_KIND)
                 .filter(|&kind| {
                     Source.fields(kind) == same
                         && Source.is_statement(kind) == Source.is_statement(rows[at][0])

@@ -1,7 +1,7 @@
 //! Damages to the tree, before its rows are numbered: causes 5, 7, 8 and 9, and 2;
-//! those to declarations stand apart.
+//! those to declarations and functions stand apart.
 
-use super::{declarations, Damage};
+use super::{declarations, functions, Damage};
 use crate::form::Form::Source;
 use crate::random::Random;
 use crate::table::*;
@@ -12,6 +12,7 @@ pub fn damage_tree(random: &mut Random, tree: &mut Tree, pick: Damage) {
         Damage::Misplaced => misplace(random, tree),
         Damage::Repeated => repeat_mark(random, tree),
         Damage::Declared => declarations::damage(random, tree),
+        Damage::Function => functions::damage(random, tree),
         Damage::Deep => {
             let depth = random.between(57, 67) as usize;
             let nest = nest(random, depth);
@@ -127,7 +128,7 @@ fn misplace(random: &mut Random, tree: &mut Tree) {
 }
 
 pub fn owns_branch(tree: &Tree) -> bool {
-    matches!(tree.kind, IF | WHILE | DO | FOR | ARM)
+    matches!(tree.kind, IF | WHILE | DO | FOR | ARM | DEFINE)
 }
 
 /// Puts a statement in the place of a branch or body; an arm that was damaged before may have none.

@@ -22,8 +22,17 @@ struct Flattener<'a> {
     addresses: HashMap<i32, usize>,
 }
 
-pub fn flatten(rows: &[i32]) -> Vec<i32> {
+/// The list of a program that the kernel check accepts; 25 where it has functions, with the row of
+/// the first.
+pub fn flatten(rows: &[i32]) -> Result<Vec<i32>, Refusal> {
     let rows = rows_of(rows);
+    match rows.iter().position(|row| row[0] == DEFINE) {
+        Some(at) => Err(Refusal::new(25, at)),
+        None => Ok(flattened(rows)),
+    }
+}
+
+fn flattened(rows: &[Row]) -> Vec<i32> {
     let lines = vec![0; rows.len()];
     let mut flat = Flattener { rows, lines, made: Vec::new(), addresses: HashMap::new() };
     for at in (0..rows.len()).rev() {
@@ -69,13 +78,7 @@ impl Flattener<'_> {
     }
 
     fn items(&self, first: i32) -> Vec<i32> {
-        let mut items = Vec::new();
-        let mut item = first;
-        while item != 0 {
-            items.push(item);
-            item = self.rows[item as usize][NEXT];
-        }
-        items
+        list(self.rows, first).map(|at| at as i32).collect()
     }
 
     fn atom(&self, at: i32) -> Atom {

@@ -8,6 +8,9 @@ use crate::tree::*;
 
 impl Maker<'_> {
     pub fn effect_or_leaf(&mut self, level: i32) -> Tree {
+        if self.has_functions() && level > 0 && self.random.chance(20) {
+            return self.any_call(level - 1);
+        }
         if !self.has_places() {
             return self.leaf();
         }

@@ -34,14 +34,21 @@ impl Maker<'_> {
 
     /// A variable to write: seldom one that counts rounds.
     pub fn written_variable(&mut self) -> i32 {
-        let mut number = self.read_variable();
+        let mut number = self.writable_variable();
         for _ in 0..6 {
             if !self.counters.contains(&number) || self.random.chance(3) {
                 break;
             }
-            number = self.read_variable();
+            number = self.writable_variable();
         }
         number
+    }
+
+    fn writable_variable(&mut self) -> i32 {
+        match &self.writable {
+            Some(numbers) => self.random.pick(numbers),
+            None => self.read_variable(),
+        }
     }
 
     pub fn array(&mut self) -> i32 {
@@ -116,6 +123,8 @@ impl Maker<'_> {
             (11 * places, 10),
             (18 * places, 11),
             (8, 12),
+            (45 * self.has_functions() as usize, 13),
+            (30 * self.has_functions() as usize, 14),
         ]);
         if choice == 0 {
             return self.leaf();
@@ -151,7 +160,9 @@ impl Maker<'_> {
             }
             10 => unary(self.random.pick(&STEPS), self.place(level)),
             11 => self.aliasing(level),
-            _ => self.edge(level),
+            12 => self.edge(level),
+            13 => self.any_call(level),
+            _ => self.aliased_call(level),
         }
     }
 

@@ -138,6 +138,7 @@ impl Maker<'_> {
     fn guard(&mut self) -> Tree {
         match self.random.below(4) {
             0 if self.has_places() => self.effect_or_leaf(2),
+            1 if self.has_functions() => self.any_call(1),
             _ => self.expression(2),
         }
     }
@@ -153,6 +154,7 @@ impl Maker<'_> {
         match self.random.below(8) {
             0 | 1 if self.breakable => items.push(plain(BREAK)),
             2 | 3 if self.in_loop => items.push(plain(CONTINUE)),
+            4 if self.in_function => items.push(self.give_back(1)),
             _ => {}
         }
         self.declare_among(&mut items, counting);

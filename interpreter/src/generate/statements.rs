@@ -6,9 +6,15 @@ use crate::table::*;
 use crate::tree::*;
 
 impl Maker<'_> {
-    pub fn whole(&mut self, rows: i32) -> Tree {
+    pub fn whole(&mut self, rows: i32, functions: usize) -> Tree {
+        let definitions = self.definitions(functions);
+        let defined: usize = definitions.iter().map(Tree::size).sum();
         let mut items = Vec::new();
         let deepest = self.random.between(2, 4);
+        if self.has_functions() {
+            self.room = (self.room - defined as i32).max(12);
+            items.push(self.calling());
+        }
         if self.tame < 99 && self.has_places() && self.random.chance(30) {
             self.room -= 3;
             let place = self.place(1);
@@ -22,6 +28,7 @@ impl Maker<'_> {
         }
         self.declare_among(&mut items, 0);
         self.declare_all(&mut items);
+        items.splice(0..0, definitions);
         let mut tree = block(items);
         // The largest programs are filled up to their exact size.
         if rows > 150 {
@@ -39,8 +46,9 @@ impl Maker<'_> {
     }
 
     /// Adds a statement, and what it needs ahead of it.
-    fn statement(&mut self, items: &mut Vec<Tree>, level: i32) {
+    pub fn statement(&mut self, items: &mut Vec<Tree>, level: i32) {
         self.room -= 1;
+        self.work = self.work.saturating_add(self.rounds);
         let inner = (level > 0 && self.room > 6) as usize;
         let guards = inner * self.has_guards() as usize;
         let kind = self.random.weighted(&[
@@ -56,6 +64,8 @@ impl Maker<'_> {
             (3, EMPTY),
             (5 * self.breakable as usize, BREAK),
             (14 * self.in_loop as usize, CONTINUE),
+            (8 * self.in_function as usize, RETURN),
+            (14 * self.has_functions() as usize, CALL),
         ]);
         match kind {
             EXPRESSION => {
@@ -78,6 +88,7 @@ impl Maker<'_> {
             GUARDED_IF => items.push(self.guarded_if(level)),
             GUARDED_DO => self.guarded_do(items, level),
             EMPTY => items.push(plain(EMPTY)),
+            CALL => items.push(self.calling()),
             _ => items.push(self.jump(kind)),
         }
     }
@@ -94,11 +105,15 @@ impl Maker<'_> {
         }
     }
 
-    /// A jump, mostly under a test, at times inside a block.
-    fn jump(&mut self, kind: i32) -> Tree {
+    /// A jump or return, mostly under a test, at times inside a block.
+    pub fn jump(&mut self, kind: i32) -> Tree {
+        let jump = match kind {
+            RETURN => self.give_back(1),
+            _ => plain(kind),
+        };
         let jump = match self.random.chance(15) {
-            true => block(vec![plain(kind)]),
-            false => plain(kind),
+            true => block(vec![jump]),
+            false => jump,
         };
         if self.random.chance(25) {
             return jump;
@@ -170,6 +185,7 @@ impl Maker<'_> {
                 unary(self.random.pick(&STEPS), variable(self.read_variable()))
             }
             5 | 6 if self.variables > 0 => variable(self.read_variable()),
+            7 if self.has_functions() => self.any_call(2),
             _ => self.expression(2),
         }
     }
@@ -213,12 +229,14 @@ impl Maker<'_> {
             0..=7 => items.push(plain(BREAK)),
             8..=10 if self.in_loop => items.push(plain(CONTINUE)),
             11 => items.push(block(vec![plain(BREAK)])),
+            12 | 13 if self.in_function => items.push(self.give_back(1)),
             _ => {}
         }
     }
 
     /// A program near the limit of depth.
-    pub fn deep_program(&mut self) -> Tree {
+    pub fn deep_program(&mut self, functions: usize) -> Tree {
+        let definitions = self.definitions(functions.min(2));
         self.room = 24;
         let target = self.random.pick(&[58, 61, 62, 63, 64, 64, 64]);
         let chain = self.random.between(0, 55) as usize;
@@ -238,10 +256,16 @@ impl Maker<'_> {
         items.push(statement);
         items.extend(self.list(1, 2));
         self.declare_among(&mut items, 0);
+        items.splice(0..0, definitions);
         block(items)
     }
 
     fn wrap_expression(&mut self, inner: Tree) -> Tree {
+        if self.has_functions() && self.random.chance(15) {
+            if let Some(called) = self.wrap_call(inner.clone()) {
+                return called;
+            }
+        }
         let written = (self.variables > 0) as usize;
         let arrays = !self.lengths.is_empty() as usize;
         match self.random.weighted(&[
@@ -273,7 +297,8 @@ impl Maker<'_> {
         }
     }
 
-    fn wrap_statement(&mut self, inner: Tree) -> Tree {
+    /// A statement around this one, which runs it about once.
+    pub fn wrap_statement(&mut self, inner: Tree) -> Tree {
         match self.random.below(if self.has_guards() { 9 } else { 7 }) {
             0 => {
                 let mut items = vec![inner];

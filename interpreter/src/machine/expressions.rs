@@ -46,6 +46,7 @@ impl Machine<'_> {
                 self.save(place, result);
                 Ok(result)
             }
+            CALL => self.call(a, b),
             _ => {
                 let place = self.place(a)?;
                 let old = self.store[place];

@@ -8,8 +8,8 @@ impl Machine<'_> {
     #[inline(always)]
     pub(super) fn while_loop(&mut self, test: i32, body: i32) -> Result<Flow, Stop> {
         while self.expression(test)? != 0 {
-            if self.statement(body)? == Flow::Break {
-                break;
+            if let Some(flow) = self.statement(body)?.out_of_loop() {
+                return Ok(flow);
             }
         }
         Ok(Flow::On)
@@ -18,8 +18,8 @@ impl Machine<'_> {
     #[inline(always)]
     pub(super) fn do_loop(&mut self, body: i32, test: i32) -> Result<Flow, Stop> {
         loop {
-            if self.statement(body)? == Flow::Break {
-                break;
+            if let Some(flow) = self.statement(body)?.out_of_loop() {
+                return Ok(flow);
             }
             if self.expression(test)? == 0 {
                 break;
@@ -40,8 +40,8 @@ impl Machine<'_> {
             self.expression(start)?;
         }
         while test == 0 || self.expression(test)? != 0 {
-            if self.statement(body)? == Flow::Break {
-                break;
+            if let Some(flow) = self.statement(body)?.out_of_loop() {
+                return Ok(flow);
             }
             if step != 0 {
                 self.expression(step)?;

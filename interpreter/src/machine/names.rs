@@ -1,51 +1,77 @@
-//! What variable numbers name at a moment of a run (document 02, change 11).
+//! What variable numbers name at a moment of a run (document 02, changes 11 and 13).
 
 use crate::form::Form;
 use crate::table::declarations;
 
 pub struct Names {
-    /// The word that each number below V names; empty in the kernel form, where a number is a word.
-    words: Vec<usize>,
+    form: Form,
     /// The declarations' rows, in order.
     rows: Vec<usize>,
     /// The word of the first of them.
     first: usize,
+    scope: Scope,
+}
+
+/// What a function, or the program outside of functions, has declared.
+pub struct Scope {
+    /// The word that each number below V names; empty in the kernel form, where a number is a word.
+    words: Vec<usize>,
     /// The declarations that are in force: the number of each, and the word that it named before.
     hidden: Vec<(usize, usize)>,
 }
 
+impl Scope {
+    /// The header's variables, and no declaration.
+    fn new(variables: usize) -> Scope {
+        Scope { words: (0..variables).collect(), hidden: Vec::new() }
+    }
+}
+
 impl Names {
     pub fn new(form: Form, header: &[i32], rows: &[i32]) -> Names {
-        let (words, rows) = match form {
-            Form::Source => ((0..header[0] as usize).collect(), declarations(rows)),
-            Form::Kernel => (Vec::new(), Vec::new()),
+        let (variables, rows) = match form {
+            Form::Source => (header[0] as usize, declarations(rows)),
+            Form::Kernel => (0, Vec::new()),
         };
-        Names { words, rows, first: form.size(header) as usize, hidden: Vec::new() }
+        Names { form, rows, first: form.size(header) as usize, scope: Scope::new(variables) }
     }
 
     pub fn word(&self, number: usize) -> usize {
-        self.words.get(number).copied().unwrap_or(number)
+        self.scope.words.get(number).copied().unwrap_or(number)
     }
 
     /// The number names the word of this declaration from now on.
     pub fn declare(&mut self, row: usize, number: usize) -> usize {
+        if self.form == Form::Kernel {
+            return number;
+        }
         let word = self.first + self.rows.partition_point(|&other| other < row);
-        self.hidden.push((number, self.words[number]));
-        self.words[number] = word;
+        self.scope.hidden.push((number, self.scope.words[number]));
+        self.scope.words[number] = word;
         word
     }
 
     /// How many declarations are in force.
     pub fn declared(&self) -> usize {
-        self.hidden.len()
+        self.scope.hidden.len()
     }
 
     /// Only so many declarations stay in force.
     pub fn leave(&mut self, declared: usize) {
-        while self.hidden.len() > declared {
-            if let Some((number, word)) = self.hidden.pop() {
-                self.words[number] = word;
+        while self.scope.hidden.len() > declared {
+            if let Some((number, word)) = self.scope.hidden.pop() {
+                self.scope.words[number] = word;
             }
         }
+    }
+
+    /// A function sees none of its caller's declarations; those are given back.
+    pub fn enter_function(&mut self) -> Scope {
+        let variables = self.scope.words.len();
+        std::mem::replace(&mut self.scope, Scope::new(variables))
+    }
+
+    pub fn leave_function(&mut self, caller: Scope) {
+        self.scope = caller;
     }
 }

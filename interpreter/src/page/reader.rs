@@ -1,10 +1,13 @@
 //! The reader of pages, from docs/PAGES.md alone.
 
+mod functions;
+
 use super::{line_text, COLUMNS, MAX_LINES, OPERATORS};
 use crate::check::check_header;
 use crate::form::Form::Kernel;
 use crate::table::*;
 use crate::text::number;
+use functions::Parentheses;
 
 /// The rows of the program whose page this is, numbered in the order of the
 /// page: 1, then 14 with the first wrong line, then 2.
@@ -18,13 +21,14 @@ pub fn read(header: &[i32], page: &[u8]) -> Result<Vec<i32>, Refusal> {
         size: Kernel.size(header) as i32,
         rows: vec![[BLOCK, 0, 0, 0, 0, 0]],
         around: vec![Around::new(0, Ends::Page)],
+        parentheses: None,
     };
     let mut number = 1;
     for line in page.chunks(COLUMNS + 1) {
         reader.numbered(number, line).ok_or(Refusal::new(14, number))?;
         number += 1;
     }
-    if reader.around.len() != 1 {
+    if reader.around.len() != 1 || reader.parentheses.is_some() {
         return Err(Refusal::new(14, number));
     }
     if reader.rows.len() > Kernel.max_rows() {
@@ -63,6 +67,8 @@ struct Reader {
     size: i32,
     rows: Vec<Row>,
     around: Vec<Around>,
+    /// The parentheses of a definition or a call that are open.
+    parentheses: Option<Parentheses>,
 }
 
 impl Reader {
@@ -77,7 +83,10 @@ impl Reader {
         let depth = self.around.len() - 1;
         let level = if words[0] == "}" { depth.checked_sub(1)? } else { depth };
         (text == line_text(number, level, statement)).then_some(())?;
-        self.line(&words)
+        match self.parentheses {
+            Some(parentheses) => self.inside(parentheses, &words),
+            None => self.line(&words),
+        }
     }
 
     fn line(&mut self, words: &[&str]) -> Option<()> {
@@ -114,6 +123,14 @@ impl Reader {
                 }
                 0
             }
+            ["int", function] => return self.define(function),
+            ["int", function, "{"] => return self.define_alone(function),
+            ["return", value] => {
+                let at = self.rows.len() as i32;
+                self.item([RETURN, at + 1, 0, 0, 0, 0]);
+                self.atom(value.strip_suffix(';')?)?;
+                0
+            }
             ["goto", label] => {
                 let label =
                     below(MAX_KERNEL_ROWS as i32, label.strip_prefix('L')?.strip_suffix(';')?)?;
@@ -137,6 +154,7 @@ impl Reader {
                 match value {
                     [x] if named.is_none() => self.atom(x.strip_suffix(';')?)?,
                     _ if named.is_none() => return None,
+                    [x] if x.starts_with('f') => self.call(x)?,
                     _ => self.value(value)?,
                 }
                 0

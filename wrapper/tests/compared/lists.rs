@@ -7,7 +7,7 @@ use interpreter::flat::{self, damage, generate as lists};
 use interpreter::generate::Size;
 use interpreter::random::Random;
 use interpreter::Form::{Kernel, Source};
-use interpreter::{check, generate, generate_kernel, text};
+use interpreter::{check, generate, generate_kernel, text, Refusal};
 
 /// The runs of a flat list, which may be damaged.
 fn flat_list(random: &mut Random, header: &[i32], list: &[i32], tally: &mut Tally) {
@@ -80,7 +80,7 @@ fn lists_of_kernel_programs() {
         let program = generate_kernel::program(random);
         flattened(random, &program.header, &program.rows.concat(), &mut tally);
     }
-    tally.expect(&[0]);
+    tally.expect(&[0, 25]);
 }
 
 /// The lists of translations: some 200,000 runs.
@@ -98,7 +98,7 @@ fn lists_of_translations() {
         kernel_rows.truncate(tables.row_words);
         flattened(random, &kernel_header, &kernel_rows, &mut tally);
     }
-    tally.expect(&[0]);
+    tally.expect(&[0, 25]);
 }
 
 /// Flattens into so many words: the answer, and what the output holds then.
@@ -128,7 +128,16 @@ fn same_list(header: &[i32], rows: &[i32], list: &[i32], tally: &mut Tally) {
     }
 }
 
-/// The kernel check's refusal, whatever room there is, and an output that is left as it was.
+/// A refusal that comes whatever room there is, and an output that is left as it was.
+fn no_list(header: &[i32], rows: &[i32], refusal: Refusal, tally: &mut Tally) {
+    for room in [0, 1_000] {
+        let (answer, left) = listed(header, rows, room, tally);
+        assert_eq!(answer, Err((refusal.number, refusal.place as usize)));
+        assert!(left.iter().all(|&word| word == WORD));
+    }
+}
+
+/// The kernel check's refusals, and 25.
 #[test]
 fn lists_of_damaged_programs() {
     let mut tally = Tally::default();
@@ -137,17 +146,12 @@ fn lists_of_damaged_programs() {
         let program = generate_kernel::program(random);
         let (mut header, mut rows) = (program.header, program.rows.concat());
         generate_kernel::damage(random, &mut header, &mut rows);
-        let Err(refusal) = check(Kernel, &header, &rows) else {
-            same_list(&header, &rows, &flat::flatten(&rows), &mut tally);
-            continue;
-        };
-        for room in [0, 1_000] {
-            let (answer, left) = listed(&header, &rows, room, &mut tally);
-            assert_eq!(answer, Err((refusal.number, refusal.place as usize)));
-            assert!(left.iter().all(|&word| word == WORD));
+        match check(Kernel, &header, &rows).and_then(|()| flat::flatten(&rows)) {
+            Ok(list) => same_list(&header, &rows, &list, &mut tally),
+            Err(refusal) => no_list(&header, &rows, refusal, &mut tally),
         }
     }
-    tally.expect(&[0, 1, 2, 3, 4, 5, 6, 10, 12, 13]);
+    tally.expect(&[0, 1, 2, 3, 4, 5, 6, 7, 10, 12, 13, 25]);
 }
 
 /// As many lines as there can be, 40,979; and the deepest loops, blocks and ifs.
@@ -162,13 +166,13 @@ fn lists_at_the_limits() {
             _ => [57, 0, 0, 0, 0, if at < last { at + 1 } else { 0 }],
         })
         .collect();
-    let list = flat::flatten(&aborts);
+    let list = flat::flatten(&aborts).unwrap();
     assert_eq!(list.len(), 5 * 40_979);
     same_list(&header, &aborts, &list, &mut tally);
     for (kind, constant) in [(43, 0), (43, 1), (44, 0), (44, 1)] {
         let rows = nested(kind, constant, 255);
         assert_eq!(check(Kernel, &header, &rows), Ok(()));
-        let list = flat::flatten(&rows);
+        let list = flat::flatten(&rows).unwrap();
         // a level: a test and a jump back, or one of them
         let lines = if (kind, constant) == (44, 0) { 2 * 255 + 1 } else { 255 + 1 };
         assert_eq!(list.len(), 5 * lines);
@@ -195,7 +199,10 @@ fn nested(kind: i32, constant: i32, levels: i32) -> Vec<i32> {
 }
 
 fn flattened(random: &mut Random, header: &[i32], rows: &[i32], tally: &mut Tally) {
-    let list = flat::flatten(rows);
+    let list = match flat::flatten(rows) {
+        Ok(list) => list,
+        Err(refusal) => return no_list(header, rows, refusal, tally),
+    };
     assert!(list.len() / 5 < rows.len() / 6);
     same_list(header, rows, &list, tally);
     assert_eq!(flat::check(header, &list), Ok(()));

@@ -21,7 +21,7 @@ const BYTE: u8 = 0xA5;
 /// How often each cause was given; 0 is for none.
 #[derive(Default)]
 pub struct Tally {
-    seen: [u32; 21],
+    seen: [u32; 26],
 }
 
 impl Tally {

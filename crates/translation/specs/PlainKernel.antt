@@ -1,4 +1,4 @@
--- Plain kernel programs: without functions. No form has functions yet, and the flat list refuses them.
+-- Plain kernel programs: without functions, which the flat list refuses (25).
 use mathlib.Core.Path.{_≡_}
 use mathlib.Core.Bool.{false}
 use Prim.Native.Nat.{ℕ}

@@ -2,7 +2,7 @@
 use Rattle.std.specs.Prelude.{Bool, true, false, ℕ, zero, suc}
 use Rattle.words.specs.Word.{pick}
 use Rattle.computation.specs.Computation.{Turn, again, leave, Computation}
-use Rattle.computation.specs.Run.{State, Result, ok, stopped, Limit, and_then, runStep, after_turn, iterate, run}
+use Rattle.computation.specs.Run.{State, Result, ok, stopped, Limit, and_then, run_step, after_turn, iterate, run}
 use Rattle.language.specs.Meaning.{enter}
 
 abbrev pub Gives : {A : Type 0} → (A → Type 0) → Result A → Type 0
@@ -36,13 +36,13 @@ turned P more (leave a) ν p r = p
 pub gives-iterate : {A : Type 0} (P : A → Type 0) (l : Limit) (n : ℕ) (body : State → Result (Turn A)) → ((σ : State) → Gives (Leaves P) (body σ)) → (σ : State) → Gives P (iterate l n body σ)
 gives-iterate P l zero body h σ = tt
 gives-iterate P l (suc n) body h σ =
-    gives_then Any P (runStep l σ) (λ _ τ. and_then (body τ) (after_turn (iterate l n body))) (any (runStep l σ))
+    gives_then Any P (run_step l σ) (λ _ τ. and_then (body τ) (after_turn (iterate l n body))) (any (run_step l σ))
     (λ _ τ _. gives_then (Leaves P) P (body τ) (after_turn (iterate l n body)) (h τ) (λ turn ν p. turned P (iterate l n body) turn ν p (gives-iterate P l n body h ν)))
 
 module _ (limit : Limit) where
   pub entered : {A : Type 0} (P : A → Type 0) (m : Computation A) → ((σ : State) → Gives P (run limit m σ)) → (σ : State) → Gives P (run limit (enter m) σ)
   unfolding run
-  entered P m h σ = gives_then Any P (runStep limit σ) (λ _ τ. run limit m τ) (any (runStep limit σ)) (λ _ τ _. h τ)
+  entered P m h σ = gives_then Any P (run_step limit σ) (λ _ τ. run limit m τ) (any (run_step limit σ)) (λ _ τ _. h τ)
 
   pub chosen : {A : Type 0} (P : A → Type 0) (test : Bool) (m n : Computation A) → ((σ : State) → Gives P (run limit m σ)) → ((σ : State) → Gives P (run limit n σ)) → (σ : State) → Gives P (run limit (pick test m n) σ)
   chosen P true m n f g σ = f σ

@@ -12,12 +12,12 @@ use Rattle.std.proofs.Math.Arith.{lt_of_le-ne}
 use Rattle.std.proofs.Math.Dec.{eqb}
 use borrow.Author.Tests.{eq-eqb, ne_eqb}
 use Rattle.words.specs.Word.{pick, one}
-use Rattle.words.specs.Table.{rowCount}
+use Rattle.words.specs.Table.{row_count}
 use Rattle.words.specs.Links.{link, target}
-use Rattle.check_structure.specs.Links.{linksAmong, linkCount}
+use Rattle.check_structure.specs.Links.{links_among, link_count}
 use Rattle.check_structure.specs.Structured.{Tree}
 use Rattle.check_grammar.specs.GrammarLaws.{kind-links-none}
-use Rattle.check_structure.specs.LinkLaws.{word_of}
+use Rattle.check_structure.specs.LinkLaws.{word-of}
 
 -- f 0 + .. + f (count − 1)
 unfoldable pub total : (ℕ → ℕ) → ℕ → ℕ
@@ -25,9 +25,9 @@ total f zero = 0
 total f (suc count) = total f count + f count
 
 -- f from + .. + f (from + count − 1)
-unfoldable pub totalFrom : (ℕ → ℕ) → ℕ → ℕ → ℕ
-totalFrom f from zero = 0
-totalFrom f from (suc count) = f from + totalFrom f (from + 1) count
+unfoldable pub total_from : (ℕ → ℕ) → ℕ → ℕ → ℕ
+total_from f from zero = 0
+total_from f from (suc count) = f from + total_from f (from + 1) count
 
 -- What a link brings; "0 means absent".
 unfoldable pub along : (ℕ → ℕ) → ℕ → ℕ
@@ -88,12 +88,12 @@ module _ (weight : ℕ → ℕ) where
 
   module _ (rows : List ℤ) where
     words-bring : (n words : ℕ) → ((word : ℕ) → word < words → target rows word < suc n)
-        → total (λ j. linksAmong rows words (suc j) * weight (suc j)) n ≡ total (λ word. along weight (target rows word)) words
-    unfolding linksAmong total
+        → total (λ j. links_among rows words (suc j) * weight (suc j)) n ≡ total (λ word. along weight (target rows word)) words
+    unfolding links_among total
     words-bring n zero h = total-same _ (λ j. 0) n (λ j k. zero-mul (weight (suc j))) ∙ total-zero n
     words-bring n (suc words) h =
-        total-same _ (λ j. linksAmong rows words (suc j) * weight (suc j) + share_of (target rows words) j) n (λ j k. rw add-mul)
-        ∙ total-add (λ j. linksAmong rows words (suc j) * weight (suc j)) (share_of (target rows words)) n
+        total-same _ (λ j. links_among rows words (suc j) * weight (suc j) + share_of (target rows words) j) n (λ j k. rw add-mul)
+        ∙ total-add (λ j. links_among rows words (suc j) * weight (suc j)) (share_of (target rows words)) n
         ∙ cc (words-bring n words (λ word k. h word (omega arith)), shares n (target rows words) (h words (omega arith)))
 
     -- what the fields of a row bring
@@ -103,7 +103,7 @@ module _ (weight : ℕ → ℕ) where
     module _ (t : Tree rows) where
       word-links : (word row field : ℕ) → word ≡ 6 * row + field → field < 6 → target rows word ≡ link rows row field
       unfolding target
-      word-links word row field e h = let at = word_of row field h in rw (e, at.0, at.1)
+      word-links word row field e h = let at = word-of row field h in rw (e, at.0, at.1)
 
       word-brings : (word row field : ℕ) → word ≡ 6 * row + field → field < 6 → along weight (target rows word) ≡ brought row field
       word-brings word row field e h = ap (along weight) (word-links word row field e h)
@@ -112,8 +112,8 @@ module _ (weight : ℕ → ℕ) where
       unfolding along
       kind-brings row = rw (kind-links-none rows row)
 
-      rows-bring : (n : ℕ) → total (λ word. along weight (target rows word)) (6 * n) ≡ total (λ row. totalFrom (brought row) 1 5) n
-      unfolding total totalFrom
+      rows-bring : (n : ℕ) → total (λ word. along weight (target rows word)) (6 * n) ≡ total (λ row. total_from (brought row) 1 5) n
+      unfolding total total_from
       rows-bring zero = refl
       rows-bring (suc n) =
           let w : ℕ = 6 * n in
@@ -130,28 +130,28 @@ module _ (weight : ℕ → ℕ) where
             word-brings (suc (suc (suc (suc (suc w))))) n 5 (omega arith) (omega arith),
           ))
 
-      target-inside : (word : ℕ) → word < 6 * rowCount rows → target rows word < rowCount rows
+      target-inside : (word : ℕ) → word < 6 * row_count rows → target rows word < row_count rows
       unfolding target
       target-inside word h = go (link rows (word / 6) (word % 6)) refl
         where
-          go : (l : ℕ) → link rows (word / 6) (word % 6) ≡ l → link rows (word / 6) (word % 6) < rowCount rows
-          go zero e = let some = t.some-rows in omega arith
+          go : (l : ℕ) → link rows (word / 6) (word % 6) ≡ l → link rows (word / 6) (word % 6) < row_count rows
+          go zero e = let some = t.some_rows in omega arith
           go (suc l) e = (t.forward (word / 6) (word % 6) (omega arith) (omega arith) (omega arith)).inside
 
       -- Row 0 gathers the whole table: where each row's weight is its own and what its links bring.
-      pub gathers : (own : ℕ → ℕ) → ((row : ℕ) → row < rowCount rows → weight row ≡ own row + totalFrom (brought row) 1 5) → weight 0 ≡ total own (rowCount rows)
-      unfolding linkCount
-      gathers own adds = go (rowCount rows) refl
+      pub gathers : (own : ℕ → ℕ) → ((row : ℕ) → row < row_count rows → weight row ≡ own row + total_from (brought row) 1 5) → weight 0 ≡ total own (row_count rows)
+      unfolding link_count
+      gathers own adds = go (row_count rows) refl
         where
-          go : (count : ℕ) → rowCount rows ≡ count → weight 0 ≡ total own (rowCount rows)
-          go zero e = absurd (let some = t.some-rows in omega arith)
+          go : (count : ℕ) → row_count rows ≡ count → weight 0 ≡ total own (row_count rows)
+          go zero e = absurd (let some = t.some_rows in omega arith)
           go (suc n) e =
-              let all : total weight (suc n) ≡ total own (suc n) + total (λ row. totalFrom (brought row) 1 5) (suc n) =
-              total-same weight (λ row. own row + totalFrom (brought row) 1 5) (suc n) (λ row k. adds row (omega arith)) ∙ total-add own (λ row. totalFrom (brought row) 1 5) (suc n) in
-              let once : total (λ j. linksAmong rows (6 * suc n) (suc j) * weight (suc j)) n ≡ total (λ j. weight (suc j)) n =
+              let all : total weight (suc n) ≡ total own (suc n) + total (λ row. total_from (brought row) 1 5) (suc n) =
+              total-same weight (λ row. own row + total_from (brought row) 1 5) (suc n) (λ row k. adds row (omega arith)) ∙ total-add own (λ row. total_from (brought row) 1 5) (suc n) in
+              let once : total (λ j. links_among rows (6 * suc n) (suc j) * weight (suc j)) n ≡ total (λ j. weight (suc j)) n =
               total-same _ _ n (λ j k. rw (linked j k) (one-mul (weight (suc j)))) in
               let brings = words-bring n (6 * suc n) (λ word k. let below = target-inside word (omega arith) in omega arith) in
               rw e (omega (arith, all, once, brings, rows-bring (suc n), first-apart weight n))
             where
-              linked : (j : ℕ) → j < n → linksAmong rows (6 * suc n) (suc j) ≡ 1
+              linked : (j : ℕ) → j < n → links_among rows (6 * suc n) (suc j) ≡ 1
               linked j k = rw e at (t.once (suc j) (omega arith) (omega arith))

@@ -1,7 +1,7 @@
 -- Worded trees: constants and case values are words.
 use Rattle.std.specs.Prelude.{◌^◌, ◌<◌, ℤ}
 use Rattle.std.specs.Int.Signed.{mag}
-use Rattle.language.specs.Trees.{Expression, constant, read, minus, not, binary, and, or, comma, conditional, assign, compound, prefix, postfix, call, Place, variable, element, Arguments, no_more, ◌also◌, Part, absent, present, Mark, case, default, label, Statement, empty, express, block, ifThen, ifElse, while, doWhile, for, switch, break, continue, goto, guardedIf, guardedDo, abort, declare, giveBack, Arms, no_arm, arm, Items, none, ◌then◌, ◌here◌, define}
+use Rattle.language.specs.Trees.{Expression, constant, read, minus, not, binary, and, or, comma, conditional, assign, compound, prefix, postfix, call, Place, variable, element, Arguments, no_more, ◌also◌, Part, absent, present, Mark, case, default, label, Statement, empty, express, block, if_then, if_else, while, do_while, for, switch, break, continue, goto, guarded_if, guarded_do, abort, declare, give_back, Arms, no_arm, arm, Items, none, ◌then◌, ◌here◌, define}
 
 -- Every constant and every case value of a tree satisfies Value.
 module _ (Value : ℤ → Type 0) where
@@ -44,20 +44,20 @@ module _ (Value : ℤ → Type 0) where
     ValuedStatement empty = Unit {0}
     ValuedStatement (express e) = ValuedExpression e
     ValuedStatement (block is) = ValuedItems is
-    ValuedStatement (ifThen e onTrue) = ValuedExpression e × ValuedStatement onTrue
-    ValuedStatement (ifElse e onTrue onFalse) = ValuedExpression e × ValuedStatement onTrue × ValuedStatement onFalse
+    ValuedStatement (if_then e on_true) = ValuedExpression e × ValuedStatement on_true
+    ValuedStatement (if_else e on_true on_false) = ValuedExpression e × ValuedStatement on_true × ValuedStatement on_false
     ValuedStatement (while e body) = ValuedExpression e × ValuedStatement body
-    ValuedStatement (doWhile body e) = ValuedStatement body × ValuedExpression e
+    ValuedStatement (do_while body e) = ValuedStatement body × ValuedExpression e
     ValuedStatement (for first test action body) = ValuedPart first × ValuedPart test × ValuedPart action × ValuedStatement body
     ValuedStatement (switch e is) = ValuedExpression e × ValuedItems is
     ValuedStatement break = Unit {0}
     ValuedStatement continue = Unit {0}
     ValuedStatement (goto l) = Unit {0}
-    ValuedStatement (guardedIf arms) = ValuedArms arms
-    ValuedStatement (guardedDo arms) = ValuedArms arms
+    ValuedStatement (guarded_if arms) = ValuedArms arms
+    ValuedStatement (guarded_do arms) = ValuedArms arms
     ValuedStatement abort = Unit {0}
     ValuedStatement (declare word e) = ValuedExpression e
-    ValuedStatement (giveBack value) = ValuedPart value
+    ValuedStatement (give_back value) = ValuedPart value
 
     pub ValuedArms : Arms → Type 0
     ValuedArms no_arm = Unit {0}

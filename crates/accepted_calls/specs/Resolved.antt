@@ -3,28 +3,28 @@
 use Rattle.std.specs.Prelude.{◌≡◌, refl, true, false, List, ℕ, ◌+◌, ◌<◌, eqb, ℤ}
 use Rattle.std.proofs.Common.{sym, subst, ◌∙◌, arith}
 use borrow.Author.Tests.{eqb-true}
-use Rattle.words.specs.Table.{rowCount, number_at}
+use Rattle.words.specs.Table.{row_count, number_at}
 use Rattle.words.specs.Word.{natural}
 use Rattle.words.specs.Links.{link}
-use Rattle.words.specs.Declarations.{isDeclaration}
+use Rattle.words.specs.Declarations.{is_declaration}
 use Rattle.check_structure.specs.Structured.{Leads}
-use Rattle.names.specs.Names.{isName, resolved}
-use Rattle.names.specs.ResolvedLaws.{resolved-other, resolved-kind, resolved-link, resolved-count}
-use Rattle.check_function_causes.specs.Functions.{isDefinition, is_call}
-use Rattle.check_function_causes.specs.Demands.{InFront, foremost, behind, Within, functionPart, functionAlong, Listed, ended, counted, Called, WellCalled}
-use Rattle.check_function_causes.specs.FrontLaws.{front-defines, front-inside}
+use Rattle.names.specs.Names.{is_name, resolved}
+use Rattle.names.proofs.ResolvedLaws.{resolved-other, resolved-kind, resolved-link, resolved-count}
+use Rattle.check_function_causes.specs.Functions.{is_definition, is_call}
+use Rattle.check_function_causes.specs.Demands.{InFront, foremost, behind, Within, function_part, function_along, Listed, ended, counted, Called, WellCalled}
+use Rattle.check_function_causes.proofs.FrontLaws.{front-defines, front-inside}
 
 -- The same rows, as far as functions go.
 pub record Alike (rows other : List ℤ) : Type 0 where
-  pub count : rowCount other ≡ rowCount rows
+  pub count : row_count other ≡ row_count rows
   pub kind : (row : ℕ) → number_at other row 0 ≡ number_at rows row 0
   pub linked : (row field : ℕ) → field < 6 → link other row field ≡ link rows row field
-  pub defined : (row : ℕ) → isDefinition rows row ≡ true → number_at other row 1 ≡ number_at rows row 1
+  pub defined : (row : ℕ) → is_definition rows row ≡ true → number_at other row 1 ≡ number_at rows row 1
   pub called : (row : ℕ) → is_call rows row ≡ true → number_at other row 1 ≡ number_at rows row 1
 
 module _ {rows other : List ℤ} (a : Alike rows other) where
-  pub same-definition : (row : ℕ) → isDefinition other row ≡ isDefinition rows row
-  unfolding isDefinition
+  pub same-definition : (row : ℕ) → is_definition other row ≡ is_definition rows row
+  unfolding is_definition
   same-definition row = rw (a.kind row)
 
   same-call : (row : ℕ) → is_call other row ≡ is_call rows row
@@ -52,10 +52,10 @@ module _ {rows other : List ℤ} (a : Alike rows other) where
       subst (λ (x : ℕ). InFront other x (place + 1)) is (behind (same-front f) (same-leads (omega arith) leads) (same-definition (link other row 5) ∙ (rw is d)))
 
   same-within : {definition row : ℕ} → Within rows definition row → Within other definition row
-  same-within {definition} (functionPart {field} h d leads) =
-      subst (Within other definition) (a.linked definition field (omega arith)) (functionPart h (same-definition definition ∙ d) (same-leads (omega arith) leads))
-  same-within {definition} (functionAlong {row} {field} h leads w) =
-      subst (Within other definition) (a.linked row field h) (functionAlong h (same-leads h leads) (same-within w))
+  same-within {definition} (function_part {field} h d leads) =
+      subst (Within other definition) (a.linked definition field (omega arith)) (function_part h (same-definition definition ∙ d) (same-leads (omega arith) leads))
+  same-within {definition} (function_along {row} {field} h leads w) =
+      subst (Within other definition) (a.linked row field h) (function_along h (same-leads h leads) (same-within w))
 
   same-listed : {row count : ℕ} → Listed rows row count → Listed other row count
   same-listed ended = ended
@@ -76,9 +76,9 @@ module _ {rows other : List ℤ} (a : Alike rows other) where
         parameters = subst (λ (x : ℕ). Listed other x c.count) (sym (a.linked c.definition 2 (omega arith))) (same-listed a c.parameters);
       }
     where
-      within-definition : {definition row : ℕ} → Within rows definition row → isDefinition rows definition ≡ true
-      within-definition (functionPart h d leads) = d
-      within-definition (functionAlong h leads w) = within-definition w
+      within-definition : {definition row : ℕ} → Within rows definition row → is_definition rows definition ≡ true
+      within-definition (function_part h d leads) = d
+      within-definition (function_along h leads w) = within-definition w
 
   pub well-called-alike : WellCalled rows → WellCalled other
   well-called-alike w = record {
@@ -93,12 +93,12 @@ module _ {rows other : List ℤ} (a : Alike rows other) where
 -- ---- the resolved table
 
 module _ (S : ℕ) (rows : List ℤ) where
-  kept : (row : ℕ) → isDeclaration rows row ≡ false → isName rows row ≡ false → number_at (resolved S rows) row 1 ≡ number_at rows row 1
+  kept : (row : ℕ) → is_declaration rows row ≡ false → is_name rows row ≡ false → number_at (resolved S rows) row 1 ≡ number_at rows row 1
   unfolding number_at
   kept row d n = rw (resolved-other S rows row 1 (omega arith) d n)
 
   pub resolved-alike : Alike rows (resolved S rows)
-  unfolding isDefinition is_call isDeclaration isName
+  unfolding is_definition is_call is_declaration is_name
   resolved-alike = record {
     count = resolved-count S rows;
     kind = resolved-kind S rows;

@@ -13,7 +13,5 @@ pub mod Definitions
 pub mod Forms
 -- Lists: the lists of a legal kernel program have kernel form, and so has the program.
 pub mod Lists
--- Kernel: what a legal kernel program gives to its users.
-pub mod Kernel
 -- Parameters name declared words.
 pub mod Parameters

@@ -8,6 +8,6 @@ use Rattle.check_parameter_causes.specs.Demands.{Parameter}
 -- The header's variables, the words of the declarations in whose scope the row stands, and those of the parameters of its function. S: the words of
 -- the header's variables and arrays.
 pub data Known (variables S : ℕ) (rows : List ℤ) (row : ℕ) : ℕ → Type 0 where
-  of-header : {word : ℕ} → word < variables → Known variables S rows row word
-  of-declaration : {word declaration : ℕ} → InScopeOf rows declaration row → word ≡ word_of S rows declaration → Known variables S rows row word
-  of-parameter : {word definition parameter : ℕ} → Within rows definition row → Parameter rows definition parameter → word ≡ word_of S rows parameter → Known variables S rows row word
+  of_header : {word : ℕ} → word < variables → Known variables S rows row word
+  of_declaration : {word declaration : ℕ} → InScopeOf rows declaration row → word ≡ word_of S rows declaration → Known variables S rows row word
+  of_parameter : {word definition parameter : ℕ} → Within rows definition row → Parameter rows definition parameter → word ≡ word_of S rows parameter → Known variables S rows row word

@@ -10,11 +10,3 @@ pub mod Known
 pub mod KnownLaws
 -- Lists: a row is an item of one list, so that no mark stands behind a declaration.
 pub mod Lists
--- Scoped programs: every name in the tree of a resolved table is known where it stands.
-pub mod Scoped
--- Scoped functions: every name in a function's block is known where it stands.
-pub mod Functions
--- Independence: a resolved source program runs alike from stores that agree on the first S words.
-pub mod Independent
--- Legal source programs: both of them.
-pub mod Accepted

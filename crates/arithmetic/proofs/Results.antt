@@ -11,10 +11,10 @@ use mir.Syntax.{w32, w64}
 use mir.Val.{SFits, to_z, of_z}
 use mir.Facts.{to_z-of_z, sfits_widen}
 use borrow.Author.Tests.{lt-ltb, ltb-true, eqb-true, eq-eqb, ne_eqb, not-true, not-false}
-use Rattle.words.specs.Word.{isWord, sameWord}
-use Rattle.arithmetic.specs.Arithmetic.{Outcome, value, fault, in_word, isTrue, bit, minus, dividing, remainderBy, apply}
-use Rattle.words.specs.Laws.{sameWord-bits, below-least-word, above-greatest-word, between-words}
-use Rattle.arithmetic.specs.Laws.{inWord-fits, inWord-overflows}
+use Rattle.words.specs.Word.{is_word, same_word}
+use Rattle.arithmetic.specs.Arithmetic.{Outcome, value, fault, in_word, is_true, bit, minus, dividing, remainder_by, apply}
+use Rattle.words.specs.Laws.{same_word-bits, below-least-word, above-greatest-word, between-words}
+use Rattle.arithmetic.proofs.Laws.{in_word-fits, in_word-overflows}
 use Rattle.words.specs.declared.FaultSort.TheVariants.{Overflow, ZeroDivisor}
 use Rattle.words.specs.declared.Operator.TheVariants.{Divide, Remainder}
 use Rattle.words.specs.declared.Operator.{Operator}
@@ -74,17 +74,17 @@ module _ (operation : ℤ → ℤ → ℤ) (holds : Holds64 operation) {x y : �
   pub operation-fits : SFits w64 (operation (wide x) (wide y))
   operation-fits = rw (wide_is x h, wide_is y k) (holds x y h k)
 
-  pub operation-is : to_z w64 (of_z w64 (operation (wide x) (wide y))) ≡ operation x y
-  operation-is = to_z-of_z operation-fits ∙ ap₂ operation (wide_is x h) (wide_is y k)
+  pub operation_is : to_z w64 (of_z w64 (operation (wide x) (wide y))) ≡ operation x y
+  operation_is = to_z-of_z operation-fits ∙ ap₂ operation (wide_is x h) (wide_is y k)
 
 -- ---- narrow: a 64-bit result, if it is a word
 
 module _ {z : ℤ} (h : SFits w64 z) where
   pub narrow_below : lt_z (to_z w64 (of_z w64 z)) (negsuc 2147483647) ≡ true → fault Overflow ≡ in_word z
-  narrow_below e = sym (inWord-overflows z (below-least-word z (rw (to_z-of_z {z = z} h) at e)))
+  narrow_below e = sym (in_word-overflows z (below-least-word z (rw (to_z-of_z {z = z} h) at e)))
 
   pub narrow-above : lt_z (pos 2147483647) (to_z w64 (of_z w64 z)) ≡ true → fault Overflow ≡ in_word z
-  narrow-above e = sym (inWord-overflows z (above-greatest-word z (rw (to_z-of_z {z = z} h) at e)))
+  narrow-above e = sym (in_word-overflows z (above-greatest-word z (rw (to_z-of_z {z = z} h) at e)))
 
   module _ (e : lt_z (to_z w64 (of_z w64 z)) (negsuc 2147483647) ≡ false) (g : lt_z (pos 2147483647) (to_z w64 (of_z w64 z)) ≡ false) where
     pub narrow-fits : SFits w32 (to_z w64 (of_z w64 z))
@@ -93,18 +93,18 @@ module _ {z : ℤ} (h : SFits w64 z) where
     pub narrow-is : value (again (to_z w64 (of_z w64 z))) ≡ in_word z
     narrow-is =
         let same = to_z-of_z {z = z} h in
-        ap value (to_z-of_z narrow-fits ∙ same) ∙ sym (inWord-fits z (rw same at narrow-fits.sfits))
+        ap value (to_z-of_z narrow-fits ∙ same) ∙ sym (in_word-fits z (rw same at narrow-fits.sfits))
 
 -- ---- truth
 
-not-zero : (z : ℤ) → not (sameWord z (pos 0)) ≡ isTrue z
-unfolding sameWord isTrue
+not-zero : (z : ℤ) → not (same_word z (pos 0)) ≡ is_true z
+unfolding same_word is_true
 not-zero (pos zero) = refl
 not-zero (pos (suc n)) = rw eqb-suc-zero
 not-zero (negsuc n) = refl
 
-pub true-bits : {z : ℤ} → SFits w32 z → not (eqb (of_z w32 z) 0) ≡ isTrue z
-true-bits {z} h = ap not (sameWord-bits z (pos 0) h.sfits (omega arith)) ∙ not-zero z
+pub true-bits : {z : ℤ} → SFits w32 z → not (eqb (of_z w32 z) 0) ≡ is_true z
+true-bits {z} h = ap not (same_word-bits z (pos 0) h.sfits (omega arith)) ∙ not-zero z
 
 -- what a test gives, handed on
 pub bit-again : (b : Bool) {z : ℤ} → z ≡ bit b → again z ≡ bit b
@@ -116,7 +116,7 @@ bit-again false e = ap again e
 
 pub minus-least : {z : ℤ} → SFits w32 z → of_z w32 z ≡ 2147483648 → fault Overflow ≡ minus z
 unfolding minus
-minus-least {z} h e = rw (of-bits z 2147483648 h e) (sym (inWord-overflows (pos 2147483648) (omega arith)))
+minus-least {z} h e = rw (of-bits z 2147483648 h e) (sym (in_word-overflows (pos 2147483648) (omega arith)))
 
 negation-word : (z : ℤ) → mag z < 2 ^ 31 → (z ≡ negsuc 2147483647 → ⊥) → mag (neg_ℤ z) < 2 ^ 31
 negation-word (pos zero) h q = omega arith
@@ -135,7 +135,7 @@ module _ {z : ℤ} (h : SFits w32 z) (ne : of_z w32 z ≡ 2147483648 → ⊥) wh
 
   pub minus_is : value (again (pos 0 -ℤ again z)) ≡ minus z
   unfolding minus
-  minus_is = ap value (to_z-of_z minus-fits ∙ negation) ∙ sym (inWord-fits (neg_ℤ z) negated)
+  minus_is = ap value (to_z-of_z minus-fits ∙ negation) ∙ sym (in_word-fits (neg_ℤ z) negated)
 
 -- ---- quotients and remainders
 
@@ -157,24 +157,24 @@ unfolding dividing
 divisor q h n = rw (← true-bits h, ne_eqb _ _ n)
 
 module _ {x y : ℤ} (h : SFits w32 x) (k : SFits w32 y) where
-  quotient-is-word : (of_z w32 x ≡ 2147483648 → of_z w32 y ≡ 4294967295 → ⊥) → false ≡ not (isWord (quot_z x y))
-  unfolding isWord
+  quotient-is-word : (of_z w32 x ≡ 2147483648 → of_z w32 y ≡ 4294967295 → ⊥) → false ≡ not (is_word (quot_z x y))
+  unfolding is_word
   quotient-is-word m = rw (lt-ltb (mag (quot_z x y)) (2 ^ 31) (quotient-word x y h.sfits (λ e g. m (ap (of_z w32) e) (ap (of_z w32) g))))
 
   -- the test of the quotient: where the left operand is the least word, and where it is not
-  pub overflows-by-minus-one : of_z w32 x ≡ 2147483648 → eqb (of_z w32 y) 4294967295 ≡ not (isWord (quot_z x y))
-  unfolding isWord
+  pub overflows-by-minus-one : of_z w32 x ≡ 2147483648 → eqb (of_z w32 y) 4294967295 ≡ not (is_word (quot_z x y))
+  unfolding is_word
   overflows-by-minus-one e = go (eqb (of_z w32 y) 4294967295) refl
     where
-      go : (t : Bool) → eqb (of_z w32 y) 4294967295 ≡ t → t ≡ not (isWord (quot_z x y))
+      go : (t : Bool) → eqb (of_z w32 y) 4294967295 ≡ t → t ≡ not (is_word (quot_z x y))
       go true t = rw (of-bits x 2147483648 h e, of-bits y 4294967295 k (eqb-true (of_z w32 y) 4294967295 t))
       go false t = quotient-is-word (λ _ g. false≢true (sym t ∙ eq-eqb (of_z w32 y) 4294967295 g))
 
-  pub overflows-not : (of_z w32 x ≡ 2147483648 → ⊥) → false ≡ not (isWord (quot_z x y))
+  pub overflows-not : (of_z w32 x ≡ 2147483648 → ⊥) → false ≡ not (is_word (quot_z x y))
   overflows-not n = quotient-is-word (λ e _. n e)
 
   -- what the test told, of operands handed on to it
-  pub quotient-told : {result test : Bool} → result ≡ not (isWord (quot_z (again x) (again y))) → result ≡ test → not (isWord (quot_z x y)) ≡ test
+  pub quotient-told : {result test : Bool} → result ≡ not (is_word (quot_z (again x) (again y))) → result ≡ test → not (is_word (quot_z x y)) ≡ test
   quotient-told e t = rw (to_z-of_z {z = x} h, to_z-of_z {z = y} k) at (sym e ∙ t)
 
   pub divide-zero : of_z w32 y ≡ 0 → fault ZeroDivisor ≡ apply Divide x y
@@ -186,17 +186,17 @@ module _ {x y : ℤ} (h : SFits w32 x) (k : SFits w32 y) where
   remainder-zero = zero-divisor _ k
 
   module _ (n : of_z w32 y ≡ 0 → ⊥) where
-    pub divide-overflows : not (isWord (quot_z x y)) ≡ true → fault Overflow ≡ apply Divide x y
+    pub divide-overflows : not (is_word (quot_z x y)) ≡ true → fault Overflow ≡ apply Divide x y
     unfolding apply in_word
-    divide-overflows t = rw (divisor (in_word (quot_z x y)) k n, not-true (isWord (quot_z x y)) t)
+    divide-overflows t = rw (divisor (in_word (quot_z x y)) k n, not-true (is_word (quot_z x y)) t)
 
-    pub remainder-overflows : not (isWord (quot_z x y)) ≡ true → fault Overflow ≡ apply Remainder x y
-    unfolding apply remainderBy
-    remainder-overflows t = rw (divisor (remainderBy x y) k n, not-true (isWord (quot_z x y)) t)
+    pub remainder-overflows : not (is_word (quot_z x y)) ≡ true → fault Overflow ≡ apply Remainder x y
+    unfolding apply remainder_by
+    remainder-overflows t = rw (divisor (remainder_by x y) k n, not-true (is_word (quot_z x y)) t)
 
-    module _ (t : not (isWord (quot_z x y)) ≡ false) where
+    module _ (t : not (is_word (quot_z x y)) ≡ false) where
       quotient_fits : SFits w32 (quot_z x y)
-      unfolding isWord
+      unfolding is_word
       quotient_fits = record { sfits = ltb-true (mag (quot_z x y)) (2 ^ 31) (not-false _ t) }
 
       -- what the code asks at a quotient and at a remainder
@@ -207,12 +207,12 @@ module _ {x y : ℤ} (h : SFits w32 x) (k : SFits w32 y) where
       unfolding apply
       divide_is =
           rw (to_z-of_z {z = x} h, to_z-of_z {z = y} k)
-          (ap value (to_z-of_z quotient_fits) ∙ sym (inWord-fits (quot_z x y) quotient_fits.sfits) ∙ sym (divisor _ k n))
+          (ap value (to_z-of_z quotient_fits) ∙ sym (in_word-fits (quot_z x y) quotient_fits.sfits) ∙ sym (divisor _ k n))
 
       pub remainder_is : value (again (rem_z (again x) (again y))) ≡ apply Remainder x y
-      unfolding apply remainderBy
+      unfolding apply remainder_by
       remainder_is =
-          rw (to_z-of_z {z = x} h, to_z-of_z {z = y} k, not-false (isWord (quot_z x y)) t)
+          rw (to_z-of_z {z = x} h, to_z-of_z {z = y} k, not-false (is_word (quot_z x y)) t)
           (ap value (to_z-of_z (record { sfits = omega (arith, mag_rem x y, h.sfits) })) ∙ sym (divisor _ k n))
 
 -- ---- every operator, on words handed on to the function for it
@@ -225,5 +225,5 @@ module _ {x y : ℤ} (h : SFits w32 x) (k : SFits w32 y) where
   pub compared : {operator o : Operator} (test : Bool) {r : ℤ} → operator ≡ o → r ≡ bit test → value (bit test) ≡ apply o (again x) (again y) → value (again r) ≡ apply operator x y
   compared test e g t = ap value (bit-again test g) ∙ t ∙ handed-on e
 
-  pub equal-bits : eqb (of_z w32 x) (of_z w32 y) ≡ sameWord (again x) (again y)
-  equal-bits = rw (to_z-of_z {z = x} h, to_z-of_z {z = y} k) (sameWord-bits x y h.sfits k.sfits)
+  pub equal-bits : eqb (of_z w32 x) (of_z w32 y) ≡ same_word (again x) (again y)
+  equal-bits = rw (to_z-of_z {z = x} h, to_z-of_z {z = y} k) (same_word-bits x y h.sfits k.sfits)

@@ -1,7 +1,7 @@
 -- Arithmetic: the operations on words, with their faults, "after ISO C".
 use Rattle.std.specs.Prelude.{Bool, true, false, not, ℕ, zero, suc, ◌+◌, ltb, ℤ, pos, negsuc, neg_ℤ, ◌+ℤ◌, ◌-ℤ◌, ◌*ℤ◌}
 use Rattle.std.specs.Int.Signed.{quot_z, rem_z, lt_z, le_z}
-use Rattle.words.specs.Word.{isWord, sameWord, natural, pick}
+use Rattle.words.specs.Word.{is_word, same_word, natural, pick}
 use Rattle.words.specs.declared.FaultSort.{FaultSort}
 use Rattle.words.specs.declared.FaultSort.TheVariants.{Overflow, ZeroDivisor, Index}
 use Rattle.words.specs.declared.Operator.{Operator}
@@ -14,13 +14,13 @@ pub data Outcome (A : Type 0) : Type 0 where
 
 -- "Overflow": a result that is no word.
 unfoldable pub in_word : ℤ → Outcome ℤ
-in_word z = pick (isWord z) (value z) (fault Overflow)
+in_word z = pick (is_word z) (value z) (fault Overflow)
 
 -- A value is true unless it is 0.
-unfoldable pub isTrue : ℤ → Bool
-isTrue (pos zero) = false
-isTrue (pos (suc n)) = true
-isTrue (negsuc n) = true
+unfoldable pub is_true : ℤ → Bool
+is_true (pos zero) = false
+is_true (pos (suc n)) = true
+is_true (negsuc n) = true
 
 -- "The result is 0 or 1."
 unfoldable pub bit : Bool → ℤ
@@ -28,10 +28,10 @@ bit b = pick b (pos 1) (pos 0)
 
 -- The truth of a value, 0 or 1. "Not gives 0 or 1."
 unfoldable pub truth : ℤ → ℤ
-truth v = bit (isTrue v)
+truth v = bit (is_true v)
 
-unfoldable pub logicalNot : ℤ → ℤ
-logicalNot v = bit (not (isTrue v))
+unfoldable pub logical_not : ℤ → ℤ
+logical_not v = bit (not (is_true v))
 
 -- "Overflow (also minus of −2147483648 ..)".
 unfoldable pub minus : ℤ → Outcome ℤ
@@ -39,11 +39,11 @@ minus v = in_word (neg_ℤ v)
 
 -- "Zero divisor": for every dividend.
 unfoldable pub dividing : ℤ → Outcome ℤ → Outcome ℤ
-dividing divisor quotient = pick (isTrue divisor) quotient (fault ZeroDivisor)
+dividing divisor quotient = pick (is_true divisor) quotient (fault ZeroDivisor)
 
 -- "ISO C 2011 leaves a % b undefined: a / b can't be represented": a remainder whose quotient is no word.
-unfoldable pub remainderBy : ℤ → ℤ → Outcome ℤ
-remainderBy left right = pick (isWord (quot_z left right)) (value (rem_z left right)) (fault Overflow)
+unfoldable pub remainder_by : ℤ → ℤ → Outcome ℤ
+remainder_by left right = pick (is_word (quot_z left right)) (value (rem_z left right)) (fault Overflow)
 
 -- "Division truncates toward zero; the remainder takes the dividend's sign." Change 4: "−2147483648 % −1 is an overflow fault, as the
 -- division is; any other dividend gives 0." (`quot_z` and `rem_z` are the quotient rounded toward zero and its remainder.)
@@ -52,13 +52,13 @@ apply Add left right = in_word (left +ℤ right)
 apply Subtract left right = in_word (left -ℤ right)
 apply Multiply left right = in_word (left *ℤ right)
 apply Divide left right = dividing right (in_word (quot_z left right))
-apply Remainder left right = dividing right (remainderBy left right)
+apply Remainder left right = dividing right (remainder_by left right)
 apply Less left right = value (bit (lt_z left right))
 apply Greater left right = value (bit (lt_z right left))
 apply LessOrEqual left right = value (bit (le_z left right))
 apply GreaterOrEqual left right = value (bit (le_z right left))
-apply Equal left right = value (bit (sameWord left right))
-apply NotEqual left right = value (bit (not (sameWord left right)))
+apply Equal left right = value (bit (same_word left right))
+apply NotEqual left right = value (bit (not (same_word left right)))
 
 -- The bounds test: the store position of an element of the array of `length` words from `base` on.
 unfoldable pub element : ℕ → ℕ → ℤ → Outcome ℕ

@@ -5,6 +5,3 @@
 pub mod Arithmetic
 -- Answers: what the code's answers to arithmetic and to the bounds test say.
 pub mod Answers
--- ---- laws
--- Laws: results of operations are words; elements that the bounds test lets through.
-pub mod Laws

@@ -1,8 +1,10 @@
 // The operations on words, and the bounds test.
+#![tactic(auto)]
+
 ghost use Rattle.std.specs.Prelude.{◌≡◌, not, ◌+◌, ◌<◌};
 ghost use Rattle.std.specs.Int.Signed.{quot_z};
-ghost use Rattle.words.specs.Word.{isWord};
-ghost use Rattle.arithmetic.specs.Arithmetic.{in_word, apply as applyOf, minus as minusOf, element as elementOf, bit as bit_of, isTrue, logicalNot};
+ghost use Rattle.words.specs.Word.{is_word};
+ghost use Rattle.arithmetic.specs.Arithmetic.{in_word, apply as apply_of, minus as minus_of, element as element_of, bit as bit_of, is_true, logical_not};
 ghost use Rattle.arithmetic.specs.Answers.{computed, located};
 ghost use Rattle.words.specs.declared.Operator.TheVariants.{Add, Subtract, Multiply, Divide, Remainder};
 
@@ -10,14 +12,14 @@ use words::table::natural;
 use words::{FaultSort, Operator};
 
 // What an operation on words gives.
-#[derive(Drop)]
+#[derive(Clone, Copy)]
 pub enum Computed {
     Value(i32),
     Fails(FaultSort),
 }
 
 // Where an element lies in the store; outside its array it lies nowhere.
-#[derive(Drop)]
+#[derive(Clone, Copy)]
 pub enum Located {
     At(usize),
     Outside,
@@ -37,26 +39,26 @@ fn narrow(res: i64) -> Computed
 }
 
 pub fn add(left: i32, right: i32) -> Computed
-    ensures { computed result ≡ applyOf Add left right }
+    ensures { computed result ≡ apply_of Add left right }
 {
     narrow(left as i64 + right as i64)
 }
 
 pub fn subtract(left: i32, right: i32) -> Computed
-    ensures { computed result ≡ applyOf Subtract left right }
+    ensures { computed result ≡ apply_of Subtract left right }
 {
     narrow(left as i64 - right as i64)
 }
 
 pub fn multiply(left: i32, right: i32) -> Computed
-    ensures { computed result ≡ applyOf Multiply left right }
+    ensures { computed result ≡ apply_of Multiply left right }
 {
     narrow((left as i64) * (right as i64))
 }
 
 // Whether the quotient is no word. The only one is that of the least word by -1.
 fn quotient_overflows(left: i32, right: i32) -> bool
-    ensures { result ≡ not (isWord (quot_z left right)) }
+    ensures { result ≡ not (is_word (quot_z left right)) }
 {
     if left == -2147483648 {
         return right == -1;
@@ -65,7 +67,7 @@ fn quotient_overflows(left: i32, right: i32) -> bool
 }
 
 pub fn divide(left: i32, right: i32) -> Computed
-    ensures { computed result ≡ applyOf Divide left right }
+    ensures { computed result ≡ apply_of Divide left right }
 {
     if right == 0 {
         return Computed::Fails(FaultSort::ZeroDivisor);
@@ -78,7 +80,7 @@ pub fn divide(left: i32, right: i32) -> Computed
 
 // The remainder is defined where the quotient is a word.
 pub fn remainder(left: i32, right: i32) -> Computed
-    ensures { computed result ≡ applyOf Remainder left right }
+    ensures { computed result ≡ apply_of Remainder left right }
 {
     if right == 0 {
         return Computed::Fails(FaultSort::ZeroDivisor);
@@ -100,19 +102,19 @@ pub fn bit(test: bool) -> i32
 }
 
 pub fn is_true(value: i32) -> bool
-    ensures { result ≡ isTrue value }
+    ensures { result ≡ is_true value }
 {
     value != 0
 }
 
 pub fn logical_not(value: i32) -> i32
-    ensures { result ≡ logicalNot value }
+    ensures { result ≡ logical_not value }
 {
     bit(!is_true(value))
 }
 
 pub fn minus(value: i32) -> Computed
-    ensures { computed result ≡ minusOf value }
+    ensures { computed result ≡ minus_of value }
 {
     if value == -2147483648 {
         return Computed::Fails(FaultSort::Overflow);
@@ -122,7 +124,7 @@ pub fn minus(value: i32) -> Computed
 
 // Kinds 6 to 16.
 pub fn apply(operator: Operator, left: i32, right: i32) -> Computed
-    ensures { computed result ≡ applyOf operator left right }
+    ensures { computed result ≡ apply_of operator left right }
 {
     match operator {
         Operator::Add => add(left, right),
@@ -142,7 +144,7 @@ pub fn apply(operator: Operator, left: i32, right: i32) -> Computed
 // The bounds test, for the array of `length` words from `base` on.
 pub fn element(base: usize, length: usize, index: i32) -> Located
     requires { (base < 65536) × (length < 65536) }
-    ensures { located result ≡ elementOf base length index }
+    ensures { located result ≡ element_of base length index }
 {
     let at = natural(index);
     if at < length {

@@ -4,8 +4,8 @@ use Rattle.words.specs.declared.Verdict.TheVariants.{Accepted}
 use Rattle.check_answers.specs.Sample.{Sample, sample, row, refused}
 
 -- Causes 4 to 6 of kind 58, and programs that have none of them.
-abbrev pub declarationRows : List Sample
-declarationRows =
+abbrev pub declaration_rows : List Sample
+declaration_rows =
     sample (pos 1 ∷ []) (row 42 1 0 0 0 0 ++ row 58 0 2 0 0 3 ++ row 1 1 0 0 0 0 ++ row 44 4 5 0 0 8 ++ row 2 0 0 0 0 0 ++ row 42 6 0 0 0 0 ++ row 58 0 7 0 0 0 ++ row 1 2 0 0 0 0 ++ row 54 9 0 0 0 14 ++ row 56 10 11 0 0 0 ++ row 2 0 0 0 0 0 ++ row 42 12 0 0 0 0 ++ row 58 0 13 0 0 0 ++ row 1 3 0 0 0 0 ++ row 47 15 16 0 0 0 ++ row 2 0 0 0 0 0 ++ row 42 17 0 0 0 0 ++ row 58 0 18 0 0 0 ++ row 1 4 0 0 0 0) Accepted ∷  -- in row 0, in the blocks of a body, an arm and a switch
     sample (pos 2 ∷ []) (row 42 1 0 0 0 0 ++ row 40 0 0 0 0 2 ++ row 58 1 3 0 0 0 ++ row 2 0 0 0 0 0) Accepted ∷  -- the last variable, the last item
     sample (pos 1 ∷ []) (row 42 1 0 0 0 0 ++ row 58 0 0 0 0 0) (refused 4 1) ∷  -- no initial expression
@@ -23,8 +23,8 @@ declarationRows =
     []
 
 -- Cause 7, "It is an item of a block (elsewhere 7)": with that of document 01, the lowest row.
-abbrev pub declarationPlaces : List Sample
-declarationPlaces =
+abbrev pub declaration_places : List Sample
+declaration_places =
     sample (pos 1 ∷ []) (row 42 1 0 0 0 0 ++ row 44 2 3 0 0 0 ++ row 1 0 0 0 0 0 ++ row 58 0 4 0 0 0 ++ row 1 0 0 0 0 0) (refused 7 3) ∷  -- a body
     sample (pos 1 ∷ []) (row 42 1 0 0 0 0 ++ row 43 2 3 4 0 0 ++ row 1 0 0 0 0 0 ++ row 40 0 0 0 0 0 ++ row 58 0 5 0 0 0 ++ row 1 0 0 0 0 0) (refused 7 4) ∷  -- a branch
     sample (pos 1 ∷ []) (row 42 1 0 0 0 0 ++ row 46 0 0 0 2 0 ++ row 58 0 3 0 0 0 ++ row 1 0 0 0 0 0) (refused 7 2) ∷  -- of a for
@@ -39,8 +39,8 @@ declarationPlaces =
     []
 
 -- Cause 18, "An initial expression naming its own number".
-abbrev pub initialNames : List Sample
-initialNames =
+abbrev pub initial_names : List Sample
+initial_names =
     sample (pos 1 ∷ []) (row 42 1 0 0 0 0 ++ row 58 0 2 0 0 0 ++ row 2 0 0 0 0 0) (refused 18 1) ∷  -- the value
     sample (pos 1 ∷ []) (row 42 1 0 0 0 0 ++ row 58 0 2 0 0 0 ++ row 6 3 4 0 0 0 ++ row 1 0 0 0 0 0 ++ row 4 5 0 0 0 0 ++ row 2 0 0 0 0 0) (refused 18 1) ∷  -- below an operand
     sample (pos 1 ∷ []) (row 42 1 0 0 0 0 ++ row 58 0 2 0 0 0 ++ row 21 3 4 0 0 0 ++ row 2 0 0 0 0 0 ++ row 1 0 0 0 0 0) (refused 18 1) ∷  -- a place
@@ -55,8 +55,8 @@ initialNames =
     []
 
 -- Cause 19, "a number declared twice in one block". For cause 20 see `count-answers` (check_declaration_causes/Examples) and program check_trial.
-abbrev pub declaredNumbers : List Sample
-declaredNumbers =
+abbrev pub declared_numbers : List Sample
+declared_numbers =
     sample (pos 1 ∷ []) (row 42 1 0 0 0 0 ++ row 58 0 2 0 0 3 ++ row 1 0 0 0 0 0 ++ row 58 0 4 0 0 0 ++ row 1 0 0 0 0 0) (refused 19 3) ∷  -- in one list
     sample (pos 2 ∷ []) (row 42 1 0 0 0 0 ++ row 58 0 2 0 0 3 ++ row 1 0 0 0 0 0 ++ row 42 0 0 0 0 4 ++ row 58 1 5 0 0 6 ++ row 1 0 0 0 0 0 ++ row 58 0 7 0 0 0 ++ row 1 0 0 0 0 0) (refused 19 6) ∷  -- a block and another declaration between
     sample (pos 1 ∷ []) (row 42 1 0 0 0 0 ++ row 42 2 0 0 0 0 ++ row 58 0 3 0 0 4 ++ row 1 0 0 0 0 0 ++ row 58 0 5 0 0 0 ++ row 1 0 0 0 0 0) (refused 19 4) ∷  -- in an inner block
@@ -65,5 +65,5 @@ declaredNumbers =
     sample (pos 1 ∷ []) (row 42 1 0 0 0 0 ++ row 42 2 0 0 0 4 ++ row 58 0 3 0 0 0 ++ row 1 0 0 0 0 0 ++ row 58 0 5 0 0 0 ++ row 1 0 0 0 0 0) Accepted ∷  -- behind a block that declares it
     []
 
-abbrev pub declarationSamples : List Sample
-declarationSamples = declarationRows ++ declarationPlaces ++ initialNames ++ declaredNumbers
+abbrev pub declaration_samples : List Sample
+declaration_samples = declaration_rows ++ declaration_places ++ initial_names ++ declared_numbers

@@ -1,90 +1,90 @@
 -- Function answers: the checks answer each sample with functions as they must, by computing brief tests that answer the same.
 use Rattle.std.specs.Prelude.{◌≡◌, refl, List, map, ℤ}
 use Rattle.std.proofs.Common.{ap, ◌∙◌}
-use Rattle.words.specs.Word.{sameWord, natural}
+use Rattle.words.specs.Word.{same_word, natural}
 use Rattle.words.specs.Table.{word_at, number_at}
-use Rattle.words.specs.Layout.{layout_of, sum, storeSize, headerStore, allWithin, headerFits, countFits}
+use Rattle.words.specs.Layout.{layout_of, sum, store_size, header_store, all_within, header_fits, count_fits}
 use Rattle.words.specs.declared.Verdict.{Verdict}
-use Rattle.words.specs.Links.{fits, isExpression, isPlace, isStatement, isBlock, isArm, isArgument, link, target, linker, received, noteBy, note}
-use Rattle.words.specs.Kinds.{kind_of, kindIn, kinds, sortIn, kindRow, expressionFields, statementFields, markFields, definitionFields, memberFields, parameterFields, sortOf, sortAt, inLanguage, isLink, isRequired}
-use Rattle.words.specs.Search.{lowest, some, lowestRow, someField}
-use Rattle.words.specs.Declarations.{isDeclaration, declarationsBefore}
-use Rattle.words_roles.specs.Roles.{isDefinition, linksParameter, isParameterBy, isParameter, parameterSort, roleSort}
-use Rattle.check_fields.specs.Fields.{foreign, leadsRight, mislinked, bounds_of, numberFits, outside}
-use Rattle.check_structure.specs.Links.{loneBlock, notOnce}
+use Rattle.words.specs.Links.{fits, is_expression, is_place, is_statement, is_block, is_arm, is_argument, link, target, linker, received, note_by, note}
+use Rattle.words.specs.Kinds.{kind_of, kind_in, kinds, sort_in, kind_row, expression_fields, statement_fields, mark_fields, definition_fields, member_fields, parameter_fields, sort_of, sort_at, in_language, is_link, is_required}
+use Rattle.words.specs.Search.{lowest, some, lowest_row, some_field}
+use Rattle.words.specs.Declarations.{is_declaration, declarations_before}
+use Rattle.words_roles.specs.Roles.{is_definition, links_parameter, is_parameter_by, is_parameter, parameter_sort, role_sort}
+use Rattle.check_fields.specs.Fields.{foreign, leads_right, mislinked, bounds_of, number_fits, outside}
+use Rattle.check_structure.specs.Links.{lone_block, not_once}
 use Rattle.check_structure.specs.Refusal.{at, unless, ◌next◌}
-use Rattle.names.specs.Names.{isName}
-use Rattle.check_items.specs.Items.{item_of, item_at, earlierOf, earlierAt, someFrom, someEarlier}
-use Rattle.check_marks.specs.Marks.{sameMark, repeated}
-use Rattle.check_notes.specs.RowNotes.{handed, noteAt}
-use Rattle.check_places.specs.Places.{outOfPlace, misplaced}
-use Rattle.check_declaration_causes.specs.Causes.{outsideBlock, namesNumber, namedWithin, namedFrom, namesItself, sameNumber, declaredBefore, oneTooMany, declarationRefusal, declaredTwice}
-use Rattle.check_parameter_causes.specs.Parameters.{body_of, body_at, someOfList, declaredAsParameter}
-use Rattle.check_function_causes.specs.Functions.{is_call, isReturn, definitionFrom, functionAt, around_of, functionAround, rows_from, listLength}
-use Rattle.check_function_causes.specs.Causes.{returnsOutside, outOfOrder, notLower, wrongCount, wrongCallOf, wrongCall, functionRefusal}
-use Rattle.check_source.specs.Refusal.{wronglyPlaced, refusal as sourceRefusal}
-use Rattle.check_kernel_statements.specs.Statements.{isAtom, isAtomMinus, isAtomOperation, isAtomElement, atomArguments, isAtomCall, fitsVariable, isAssignment, isBlock as isKernelBlock, isKernelIf, isKernelWhile, isKernelExpression, isKernelReturn, isKernelParameter, isOfFunction, isKernelStatement, notKernelForm}
-use Rattle.check_labels.specs.Labels.{isLabel, repeatedLabel, owning, ownerAt, aroundAt, labelBehind, labelAhead, gotoWithoutLabel, labelFault}
-use Rattle.check_kernel.specs.Refusal.{refusal as kernelRefusal}
-use Rattle.check_plain.specs.Refusal.{plainRefusal}
-use Rattle.check_brief.specs.Brief.{targets, times, briefCauses, briefStructure, briefDepth, briefSource, briefKernel}
+use Rattle.names.specs.Names.{is_name}
+use Rattle.check_items.specs.Items.{item_of, item_at, earlier_of, earlier_at, some_from, some_earlier}
+use Rattle.check_marks.specs.Marks.{same_mark, repeated}
+use Rattle.check_notes.specs.RowNotes.{handed, note_at}
+use Rattle.check_places.specs.Places.{out_of_place, misplaced}
+use Rattle.check_declaration_causes.specs.Causes.{outside_block, names_number, named_within, named_from, names_itself, same_number, declared_before, one_too_many, declaration_refusal, declared_twice}
+use Rattle.check_parameter_causes.specs.Parameters.{body_of, body_at, some_of_list, declared_as_parameter}
+use Rattle.check_function_causes.specs.Functions.{is_call, is_return, definition_from, function_at, around_of, function_around, rows_from, list_length}
+use Rattle.check_function_causes.specs.Causes.{returns_outside, out_of_order, not_lower, wrong_count, wrong_call_of, wrong_call, function_refusal}
+use Rattle.check_source.specs.Refusal.{wrongly_placed, refusal as source_refusal}
+use Rattle.check_kernel_statements.specs.Statements.{is_atom, is_atom_minus, is_atom_operation, is_atom_element, atom_arguments, is_atom_call, fits_variable, is_assignment, is_block as is_kernel_block, is_kernel_if, is_kernel_while, is_kernel_expression, is_kernel_return, is_kernel_parameter, is_of_function, is_kernel_statement, not_kernel_form}
+use Rattle.check_labels.specs.Labels.{is_label, repeated_label, owning, owner_at, around_at, label_behind, label_ahead, goto_without_label, label_fault}
+use Rattle.check_kernel.specs.Refusal.{refusal as kernel_refusal}
+use Rattle.check_plain.specs.Refusal.{plain_refusal}
+use Rattle.check_brief.specs.Brief.{targets, times, brief_causes, brief_structure, brief_depth, brief_source, brief_kernel}
 use Rattle.check_brief.specs.BriefLaws.{same_source, same-kernel, map_same}
 use Rattle.check_answers.specs.Sample.{Sample}
-use Rattle.check_answers.specs.FunctionSamples.{functionSamples}
-use Rattle.check_answers.specs.KernelFunctionSamples.{kernelFunctionSamples, plainSamples}
+use Rattle.check_answers.specs.FunctionSamples.{function_samples}
+use Rattle.check_answers.specs.KernelFunctionSamples.{kernel_function_samples, plain_samples}
 
 abbrev pub expected : Sample → Verdict
 expected sample = sample.answer
 
 -- ---- source programs
 
-abbrev pub sourceChecked : Sample → Verdict
-sourceChecked sample = sourceRefusal sample.header sample.rows
+abbrev pub source_checked : Sample → Verdict
+source_checked sample = source_refusal sample.header sample.rows
 
-abbrev sourceTested : Sample → Verdict
-sourceTested sample = briefSource sample.header sample.rows
+abbrev source_tested : Sample → Verdict
+source_tested sample = brief_source sample.header sample.rows
 
-source-tested : map sourceTested functionSamples ≡ map expected functionSamples
-unfolding sameWord natural word_at number_at layout_of sum storeSize headerStore allWithin headerFits countFits foreign fits leadsRight mislinked bounds_of numberFits outside kind_of kindIn kinds sortIn kindRow expressionFields statementFields markFields definitionFields memberFields sortOf sortAt inLanguage isExpression isPlace isStatement isBlock isArm isLink isRequired link target loneBlock notOnce linker received noteBy note at unless ◌next◌ lowest some lowestRow someField targets times briefCauses briefStructure briefDepth briefSource sameMark item_of item_at earlierOf earlierAt someFrom someEarlier repeated handed noteAt outOfPlace misplaced isDeclaration declarationsBefore isName outsideBlock namesNumber namedWithin namedFrom namesItself sameNumber declaredBefore oneTooMany declarationRefusal isDefinition is_call isReturn returnsOutside outOfOrder wrongCall functionRefusal wronglyPlaced roleSort isParameter isParameterBy linksParameter declaredTwice declaredAsParameter isArgument parameterSort parameterFields functionAround around_of functionAt definitionFrom notLower wrongCount wrongCallOf rows_from listLength body_of body_at someOfList
+source-tested : map source_tested function_samples ≡ map expected function_samples
+unfolding same_word natural word_at number_at layout_of sum store_size header_store all_within header_fits count_fits foreign fits leads_right mislinked bounds_of number_fits outside kind_of kind_in kinds sort_in kind_row expression_fields statement_fields mark_fields definition_fields member_fields sort_of sort_at in_language is_expression is_place is_statement is_block is_arm is_link is_required link target lone_block not_once linker received note_by note at unless ◌next◌ lowest some lowest_row some_field targets times brief_causes brief_structure brief_depth brief_source same_mark item_of item_at earlier_of earlier_at some_from some_earlier repeated handed note_at out_of_place misplaced is_declaration declarations_before is_name outside_block names_number named_within named_from names_itself same_number declared_before one_too_many declaration_refusal is_definition is_call is_return returns_outside out_of_order wrong_call function_refusal wrongly_placed role_sort is_parameter is_parameter_by links_parameter declared_twice declared_as_parameter is_argument parameter_sort parameter_fields function_around around_of function_at definition_from not_lower wrong_count wrong_call_of rows_from list_length body_of body_at some_of_list
 source-tested = refl
 
-pub source-functions-answer : map sourceChecked functionSamples ≡ map expected functionSamples
-source-functions-answer = map_same sourceChecked sourceTested (λ sample. same_source sample.header sample.rows) functionSamples ∙ source-tested
+pub source-functions-answer : map source_checked function_samples ≡ map expected function_samples
+source-functions-answer = map_same source_checked source_tested (λ sample. same_source sample.header sample.rows) function_samples ∙ source-tested
 
 -- ---- kernel programs
 
-abbrev pub kernelChecked : Sample → Verdict
-kernelChecked sample = kernelRefusal sample.header sample.rows
+abbrev pub kernel_checked : Sample → Verdict
+kernel_checked sample = kernel_refusal sample.header sample.rows
 
-abbrev kernelTested : Sample → Verdict
-kernelTested sample = briefKernel sample.header sample.rows
+abbrev kernel_tested : Sample → Verdict
+kernel_tested sample = brief_kernel sample.header sample.rows
 
-kernel-tested : map kernelTested kernelFunctionSamples ≡ map expected kernelFunctionSamples
-unfolding natural word_at number_at layout_of sum storeSize headerStore allWithin headerFits countFits foreign fits leadsRight mislinked roleSort isParameter isParameterBy linksParameter bounds_of numberFits outside kind_of kindIn kinds sortIn kindRow expressionFields statementFields markFields memberFields sortOf sortAt inLanguage isExpression isPlace isStatement isLink isRequired link target loneBlock notOnce linker received noteBy note at unless ◌next◌ lowest some lowestRow someField targets times briefCauses briefStructure briefDepth briefKernel isLabel repeatedLabel owning ownerAt aroundAt labelBehind labelAhead gotoWithoutLabel labelFault isDeclaration declaredBefore isDefinition is_call isReturn returnsOutside outOfOrder wrongCall functionRefusal isAtom isAtomMinus isAtomOperation isAtomElement isAtomCall isKernelReturn isKernelParameter isOfFunction fitsVariable isAssignment isKernelBlock isKernelIf isKernelWhile isKernelExpression isKernelStatement notKernelForm atomArguments isArgument parameterSort parameterFields functionAround around_of functionAt definitionFrom notLower wrongCount wrongCallOf rows_from listLength definitionFields isBlock sameNumber earlierOf earlierAt someFrom someEarlier
+kernel-tested : map kernel_tested kernel_function_samples ≡ map expected kernel_function_samples
+unfolding natural word_at number_at layout_of sum store_size header_store all_within header_fits count_fits foreign fits leads_right mislinked role_sort is_parameter is_parameter_by links_parameter bounds_of number_fits outside kind_of kind_in kinds sort_in kind_row expression_fields statement_fields mark_fields member_fields sort_of sort_at in_language is_expression is_place is_statement is_link is_required link target lone_block not_once linker received note_by note at unless ◌next◌ lowest some lowest_row some_field targets times brief_causes brief_structure brief_depth brief_kernel is_label repeated_label owning owner_at around_at label_behind label_ahead goto_without_label label_fault is_declaration declared_before is_definition is_call is_return returns_outside out_of_order wrong_call function_refusal is_atom is_atom_minus is_atom_operation is_atom_element is_atom_call is_kernel_return is_kernel_parameter is_of_function fits_variable is_assignment is_kernel_block is_kernel_if is_kernel_while is_kernel_expression is_kernel_statement not_kernel_form atom_arguments is_argument parameter_sort parameter_fields function_around around_of function_at definition_from not_lower wrong_count wrong_call_of rows_from list_length definition_fields is_block same_number earlier_of earlier_at some_from some_earlier
 kernel-tested = refl
 
-pub kernel-functions-answer : map kernelChecked kernelFunctionSamples ≡ map expected kernelFunctionSamples
-kernel-functions-answer = map_same kernelChecked kernelTested (λ sample. same-kernel sample.header sample.rows) kernelFunctionSamples ∙ kernel-tested
+pub kernel-functions-answer : map kernel_checked kernel_function_samples ≡ map expected kernel_function_samples
+kernel-functions-answer = map_same kernel_checked kernel_tested (λ sample. same-kernel sample.header sample.rows) kernel_function_samples ∙ kernel-tested
 
 -- ---- before a flat list
 
-abbrev pub plainChecked : Sample → Verdict
-plainChecked sample = plainRefusal sample.header sample.rows
+abbrev pub plain_checked : Sample → Verdict
+plain_checked sample = plain_refusal sample.header sample.rows
 
 -- 25 behind the brief test.
-abbrev briefPlain : List ℤ → List ℤ → Verdict
-briefPlain header rows = briefKernel header rows next at 25 (lowestRow rows (isDefinition rows))
+abbrev brief_plain : List ℤ → List ℤ → Verdict
+brief_plain header rows = brief_kernel header rows next at 25 (lowest_row rows (is_definition rows))
 
-same-plain : (header rows : List ℤ) → plainRefusal header rows ≡ briefPlain header rows
-unfolding plainRefusal
-same-plain header rows = ap (λ (verdict : Verdict). verdict next at 25 (lowestRow rows (isDefinition rows))) (same-kernel header rows)
+same-plain : (header rows : List ℤ) → plain_refusal header rows ≡ brief_plain header rows
+unfolding plain_refusal
+same-plain header rows = ap (λ (verdict : Verdict). verdict next at 25 (lowest_row rows (is_definition rows))) (same-kernel header rows)
 
-abbrev plainTested : Sample → Verdict
-plainTested sample = briefPlain sample.header sample.rows
+abbrev plain_tested : Sample → Verdict
+plain_tested sample = brief_plain sample.header sample.rows
 
-plain-tested : map plainTested plainSamples ≡ map expected plainSamples
-unfolding natural word_at number_at layout_of sum storeSize headerStore allWithin headerFits countFits foreign fits leadsRight mislinked roleSort isParameter isParameterBy linksParameter bounds_of numberFits outside kind_of kindIn kinds sortIn kindRow expressionFields statementFields markFields memberFields sortOf sortAt inLanguage isExpression isPlace isStatement isLink isRequired link target loneBlock notOnce linker received noteBy note at unless ◌next◌ lowest some lowestRow someField targets times briefCauses briefStructure briefDepth briefKernel isLabel repeatedLabel owning ownerAt aroundAt labelBehind labelAhead gotoWithoutLabel labelFault isDeclaration declaredBefore isDefinition is_call isReturn returnsOutside outOfOrder wrongCall functionRefusal isAtom isAtomMinus isAtomOperation isAtomElement isAtomCall isKernelReturn isKernelParameter isOfFunction fitsVariable isAssignment isKernelBlock isKernelIf isKernelWhile isKernelExpression isKernelStatement notKernelForm atomArguments isArgument parameterSort parameterFields functionAround around_of functionAt definitionFrom notLower wrongCount wrongCallOf rows_from listLength definitionFields isBlock sameNumber earlierOf earlierAt someFrom someEarlier
+plain-tested : map plain_tested plain_samples ≡ map expected plain_samples
+unfolding natural word_at number_at layout_of sum store_size header_store all_within header_fits count_fits foreign fits leads_right mislinked role_sort is_parameter is_parameter_by links_parameter bounds_of number_fits outside kind_of kind_in kinds sort_in kind_row expression_fields statement_fields mark_fields member_fields sort_of sort_at in_language is_expression is_place is_statement is_link is_required link target lone_block not_once linker received note_by note at unless ◌next◌ lowest some lowest_row some_field targets times brief_causes brief_structure brief_depth brief_kernel is_label repeated_label owning owner_at around_at label_behind label_ahead goto_without_label label_fault is_declaration declared_before is_definition is_call is_return returns_outside out_of_order wrong_call function_refusal is_atom is_atom_minus is_atom_operation is_atom_element is_atom_call is_kernel_return is_kernel_parameter is_of_function fits_variable is_assignment is_kernel_block is_kernel_if is_kernel_while is_kernel_expression is_kernel_statement not_kernel_form atom_arguments is_argument parameter_sort parameter_fields function_around around_of function_at definition_from not_lower wrong_count wrong_call_of rows_from list_length definition_fields is_block same_number earlier_of earlier_at some_from some_earlier
 plain-tested = refl
 
-pub plain-functions-answer : map plainChecked plainSamples ≡ map expected plainSamples
-plain-functions-answer = map_same plainChecked plainTested (λ sample. same-plain sample.header sample.rows) plainSamples ∙ plain-tested
+pub plain-functions-answer : map plain_checked plain_samples ≡ map expected plain_samples
+plain-functions-answer = map_same plain_checked plain_tested (λ sample. same-plain sample.header sample.rows) plain_samples ∙ plain-tested

@@ -1,11 +1,11 @@
 -- Function samples: small source programs with functions, and what the check must answer of each, worked out from document 02.
 use Rattle.std.specs.Prelude.{List, [], ◌∷◌, ◌++◌, ℤ, pos}
 use Rattle.words.specs.declared.Verdict.TheVariants.{Accepted}
-use Rattle.check_answers.specs.Sample.{Sample, sample, row, unusedFrom, refused}
+use Rattle.check_answers.specs.Sample.{Sample, sample, row, unused_from, refused}
 
 -- Causes 4 to 6 of the kinds of functions, and programs that have none of them. Kind 58 by its role.
-abbrev pub functionRows : List Sample
-functionRows =
+abbrev pub function_rows : List Sample
+function_rows =
     sample (pos 1 ∷ []) (row 42 1 0 0 0 0 ++ row 59 0 2 3 0 6 ++ row 58 0 0 0 0 0 ++ row 42 4 0 0 0 0 ++ row 60 5 0 0 0 0 ++ row 2 0 0 0 0 0 ++ row 41 7 0 0 0 0 ++ row 21 8 9 0 0 0 ++ row 2 0 0 0 0 0 ++ row 31 0 10 0 0 0 ++ row 32 11 0 0 0 0 ++ row 1 1 0 0 0 0) Accepted ∷  -- a function with a parameter, and its call
     sample (pos 1 ∷ []) (row 42 1 0 0 0 0 ++ row 59 0 0 2 0 0 ++ row 42 0 0 0 0 0) Accepted ∷  -- a definition only
     sample (pos 1 ∷ []) (row 42 1 0 0 0 0 ++ row 59 0 2 3 0 0 ++ row 40 0 0 0 0 0 ++ row 42 0 0 0 0 0) (refused 4 1) ∷  -- a statement for the first parameter
@@ -28,8 +28,8 @@ functionRows =
     []
 
 -- Cause 7, "A return outside a function gets 7".
-abbrev pub returnPlaces : List Sample
-returnPlaces =
+abbrev pub return_places : List Sample
+return_places =
     sample (pos 1 ∷ []) (row 42 1 0 0 0 0 ++ row 60 0 0 0 0 0) (refused 7 1) ∷  -- in the program
     sample (pos 1 ∷ []) (row 42 1 0 0 0 0 ++ row 44 2 3 0 0 0 ++ row 1 1 0 0 0 0 ++ row 42 4 0 0 0 0 ++ row 60 0 0 0 0 0) (refused 7 4) ∷  -- in a loop of it
     sample (pos 1 ∷ []) (row 42 1 0 0 0 0 ++ row 59 0 0 2 0 3 ++ row 42 0 0 0 0 0 ++ row 60 0 0 0 0 0) (refused 7 3) ∷  -- behind a definition
@@ -39,8 +39,8 @@ returnPlaces =
     []
 
 -- Cause 19: "Parameters count .. for .. 19 as c's first items".
-abbrev pub parameterNumbers : List Sample
-parameterNumbers =
+abbrev pub parameter_numbers : List Sample
+parameter_numbers =
     sample (pos 1 ∷ []) (row 42 1 0 0 0 0 ++ row 59 0 2 4 0 0 ++ row 58 0 0 0 0 3 ++ row 58 0 0 0 0 0 ++ row 42 0 0 0 0 0) (refused 19 3) ∷  -- two parameters with one number
     sample (pos 1 ∷ []) (row 42 1 0 0 0 0 ++ row 59 0 2 3 0 0 ++ row 58 0 0 0 0 0 ++ row 42 4 0 0 0 0 ++ row 58 0 5 0 0 0 ++ row 1 0 0 0 0 0) (refused 19 4) ∷  -- a parameter, and a declaration of the block
     sample (pos 1 ∷ []) (row 42 1 0 0 0 0 ++ row 59 0 5 2 0 0 ++ row 42 3 0 0 0 0 ++ row 58 0 4 0 0 0 ++ row 1 0 0 0 0 0 ++ row 58 0 0 0 0 0) (refused 19 3) ∷  -- the declaration is the later of the two, also in the lower row
@@ -50,8 +50,8 @@ parameterNumbers =
     []
 
 -- Cause 23, "A definition out of order or not at the front".
-abbrev pub definitionOrder : List Sample
-definitionOrder =
+abbrev pub definition_order : List Sample
+definition_order =
     sample (pos 1 ∷ []) (row 42 1 0 0 0 0 ++ row 59 1 0 2 0 0 ++ row 42 0 0 0 0 0) (refused 23 1) ∷  -- the first has number 1
     sample (pos 1 ∷ []) (row 42 1 0 0 0 0 ++ row 59 0 0 2 0 3 ++ row 42 0 0 0 0 0 ++ row 59 0 0 4 0 0 ++ row 42 0 0 0 0 0) (refused 23 3) ∷  -- two with number 0
     sample (pos 1 ∷ []) (row 42 1 0 0 0 0 ++ row 59 0 0 2 0 3 ++ row 42 0 0 0 0 0 ++ row 59 1 0 4 0 0 ++ row 42 0 0 0 0 0) Accepted ∷  -- 0 and 1
@@ -65,8 +65,8 @@ definitionOrder =
     []
 
 -- Cause 24, "a call to no function, to its own or a higher one, or with the wrong number of arguments".
-abbrev pub wrongCalls : List Sample
-wrongCalls =
+abbrev pub wrong_calls : List Sample
+wrong_calls =
     sample (pos 1 ∷ []) (row 42 1 0 0 0 0 ++ row 41 2 0 0 0 0 ++ row 31 0 0 0 0 0) (refused 24 2) ∷  -- no function
     sample (pos 1 ∷ []) (row 42 1 0 0 0 0 ++ row 59 0 0 2 0 3 ++ row 42 0 0 0 0 0 ++ row 41 4 0 0 0 0 ++ row 31 1 0 0 0 0) (refused 24 4) ∷  -- the number behind the last
     sample (pos 1 ∷ []) (row 42 1 0 0 0 0 ++ row 59 0 0 2 0 3 ++ row 42 0 0 0 0 0 ++ row 41 4 0 0 0 0 ++ row 31 0 0 0 0 0) Accepted ∷  -- the last
@@ -81,8 +81,8 @@ wrongCalls =
     []
 
 -- Cause 3 for each field that the table of kinds does not name.
-abbrev pub unusedFunctionFields : List ℤ → List Sample
-unusedFunctionFields header = unusedFrom header 3 3 (31 ∷ []) ++ unusedFrom header 2 3 (32 ∷ 60 ∷ []) ++ unusedFrom header 4 1 (59 ∷ [])
+abbrev pub unused_function_fields : List ℤ → List Sample
+unused_function_fields header = unused_from header 3 3 (31 ∷ []) ++ unused_from header 2 3 (32 ∷ 60 ∷ []) ++ unused_from header 4 1 (59 ∷ [])
 
-abbrev pub functionSamples : List Sample
-functionSamples = functionRows ++ returnPlaces ++ parameterNumbers ++ definitionOrder ++ wrongCalls ++ unusedFunctionFields (pos 1 ∷ [])
+abbrev pub function_samples : List Sample
+function_samples = function_rows ++ return_places ++ parameter_numbers ++ definition_order ++ wrong_calls ++ unused_function_fields (pos 1 ∷ [])

@@ -3,11 +3,11 @@
 use Rattle.std.specs.Prelude.{List, [], ◌∷◌, ◌++◌, pos}
 use Rattle.words.specs.declared.Verdict.TheVariants.{Accepted}
 use Rattle.check_answers.specs.Sample.{Sample, sample, row, refused}
-use Rattle.check_answers.specs.FunctionSamples.{unusedFunctionFields}
+use Rattle.check_answers.specs.FunctionSamples.{unused_function_fields}
 
 -- Causes 4, 6 and 19: "in the kernel they name their words, S to S+D−1 (else 6)".
-abbrev pub kernelParameters : List Sample
-kernelParameters =
+abbrev pub kernel_parameters : List Sample
+kernel_parameters =
     sample (pos 1 ∷ pos 1 ∷ pos 0 ∷ []) (row 42 1 0 0 0 0 ++ row 59 0 2 3 0 6 ++ row 58 1 0 0 0 0 ++ row 42 4 0 0 0 0 ++ row 60 5 0 0 0 0 ++ row 2 1 0 0 0 0 ++ row 41 7 0 0 0 0 ++ row 21 8 9 0 0 0 ++ row 2 0 0 0 0 0 ++ row 31 0 10 0 0 0 ++ row 32 11 0 0 0 0 ++ row 1 1 0 0 0 0) Accepted ∷  -- a function with a parameter, and its call
     sample (pos 1 ∷ pos 1 ∷ pos 0 ∷ []) (row 42 1 0 0 0 0 ++ row 59 0 2 3 0 6 ++ row 58 0 0 0 0 0 ++ row 42 4 0 0 0 0 ++ row 60 5 0 0 0 0 ++ row 2 1 0 0 0 0 ++ row 41 7 0 0 0 0 ++ row 21 8 9 0 0 0 ++ row 2 0 0 0 0 0 ++ row 31 0 10 0 0 0 ++ row 32 11 0 0 0 0 ++ row 1 1 0 0 0 0) (refused 6 2) ∷  -- a variable for its word
     sample (pos 1 ∷ pos 1 ∷ pos 0 ∷ []) (row 42 1 0 0 0 0 ++ row 59 0 2 3 0 6 ++ row 58 2 0 0 0 0 ++ row 42 4 0 0 0 0 ++ row 60 5 0 0 0 0 ++ row 2 1 0 0 0 0 ++ row 41 7 0 0 0 0 ++ row 21 8 9 0 0 0 ++ row 2 0 0 0 0 0 ++ row 31 0 10 0 0 0 ++ row 32 11 0 0 0 0 ++ row 1 1 0 0 0 0) (refused 6 2) ∷  -- word S+D
@@ -22,8 +22,8 @@ kernelParameters =
     []
 
 -- Causes 7, 12 and 13: "Kernel calls assign to a variable and take atoms"; "a kernel return takes an atom, and a goto stays inside its function".
-abbrev pub kernelFunctions : List Sample
-kernelFunctions =
+abbrev pub kernel_functions : List Sample
+kernel_functions =
     sample (pos 1 ∷ pos 1 ∷ pos 0 ∷ []) (row 42 1 0 0 0 0 ++ row 60 2 0 0 0 0 ++ row 1 0 0 0 0 0) (refused 7 1) ∷  -- a return in the program
     sample (pos 1 ∷ pos 1 ∷ pos 0 ∷ []) (row 42 1 0 0 0 0 ++ row 59 0 0 2 0 0 ++ row 42 3 0 0 0 0 ++ row 60 0 0 0 0 0) (refused 12 3) ∷  -- a return without its atom
     sample (pos 1 ∷ pos 1 ∷ pos 0 ∷ []) (row 42 1 0 0 0 0 ++ row 59 0 0 2 0 0 ++ row 42 3 0 0 0 0 ++ row 60 4 0 0 0 0 ++ row 4 5 0 0 0 0 ++ row 1 0 0 0 0 0) (refused 12 3) ∷  -- a return of minus an atom
@@ -42,12 +42,12 @@ kernelFunctions =
     sample (pos 1 ∷ pos 1 ∷ pos 0 ∷ []) (row 42 1 0 0 0 0 ++ row 59 0 2 3 0 4 ++ row 58 1 0 0 0 0 ++ row 42 0 0 0 0 0 ++ row 41 5 0 0 0 0 ++ row 21 6 7 0 0 0 ++ row 2 0 0 0 0 0 ++ row 31 0 0 0 0 0) (refused 24 7) ∷  -- one argument missing
     []
 
-abbrev pub kernelFunctionSamples : List Sample
-kernelFunctionSamples = kernelParameters ++ kernelFunctions ++ unusedFunctionFields (pos 1 ∷ pos 1 ∷ pos 0 ∷ [])
+abbrev pub kernel_function_samples : List Sample
+kernel_function_samples = kernel_parameters ++ kernel_functions ++ unused_function_fields (pos 1 ∷ pos 1 ∷ pos 0 ∷ [])
 
 -- Cause 25, "The flat list refuses functions with 25 and the first one's row, just before its 10".
-abbrev pub plainSamples : List Sample
-plainSamples =
+abbrev pub plain_samples : List Sample
+plain_samples =
     sample (pos 1 ∷ pos 1 ∷ pos 0 ∷ []) (row 42 1 0 0 0 0 ++ row 59 0 2 3 0 6 ++ row 58 1 0 0 0 0 ++ row 42 4 0 0 0 0 ++ row 60 5 0 0 0 0 ++ row 2 1 0 0 0 0 ++ row 41 7 0 0 0 0 ++ row 21 8 9 0 0 0 ++ row 2 0 0 0 0 0 ++ row 31 0 10 0 0 0 ++ row 32 11 0 0 0 0 ++ row 1 1 0 0 0 0) (refused 25 1) ∷  -- a function
     sample (pos 1 ∷ pos 1 ∷ pos 0 ∷ []) (row 42 1 0 0 0 0 ++ row 59 0 0 4 0 2 ++ row 59 1 0 3 0 0 ++ row 42 0 0 0 0 0 ++ row 42 0 0 0 0 0) (refused 25 1) ∷  -- two functions: the first row
     sample (pos 1 ∷ pos 1 ∷ pos 0 ∷ []) (row 42 1 0 0 0 0 ++ row 59 0 0 2 0 0 ++ row 42 3 0 0 0 0 ++ row 41 4 0 0 0 0 ++ row 21 5 6 0 0 0 ++ row 2 0 0 0 0 0 ++ row 31 0 0 0 0 0) (refused 24 6) ∷  -- 24 before 25

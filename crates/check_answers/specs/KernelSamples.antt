@@ -1,11 +1,11 @@
 -- Kernel samples: small kernel programs, and what the kernel check must answer of each, worked out from documents 01 and 02.
 use Rattle.std.specs.Prelude.{List, [], ◌∷◌, ◌++◌, pos, negsuc, replicate}
 use Rattle.words.specs.declared.Verdict.TheVariants.{Accepted}
-use Rattle.check_answers.specs.Sample.{Sample, sample, row, unusedFrom, refused}
+use Rattle.check_answers.specs.Sample.{Sample, sample, row, unused_from, refused}
 
 -- Causes 1, 3 and 6: the header with D and T, the kinds, temporaries and labels.
-abbrev pub kernelHeaders : List Sample
-kernelHeaders =
+abbrev pub kernel_headers : List Sample
+kernel_headers =
     sample (pos 256 ∷ pos 0 ∷ pos 8192 ∷ []) (row 42 0 0 0 0 0) Accepted ∷  -- 256 variables, 8,192 temporaries
     sample (pos 257 ∷ pos 0 ∷ pos 0 ∷ []) (row 42 0 0 0 0 0) (refused 1 0) ∷  -- 257 variables
     sample (pos 0 ∷ pos 0 ∷ pos 8193 ∷ []) (row 42 0 0 0 0 0) (refused 1 0) ∷  -- 8,193 temporaries
@@ -105,8 +105,8 @@ labels =
     []
 
 -- Cause 3 for each field that the table of kinds does not name, of the kinds that only the kernel has.
-abbrev pub unusedKernelFields : List Sample
-unusedKernelFields = unusedFrom (pos 0 ∷ pos 0 ∷ pos 0 ∷ []) 2 3 (52 ∷ 53 ∷ []) ++ unusedFrom (pos 0 ∷ pos 0 ∷ pos 0 ∷ []) 1 4 (57 ∷ [])
+abbrev pub unused_kernel_fields : List Sample
+unused_kernel_fields = unused_from (pos 0 ∷ pos 0 ∷ pos 0 ∷ []) 2 3 (52 ∷ 53 ∷ []) ++ unused_from (pos 0 ∷ pos 0 ∷ pos 0 ∷ []) 1 4 (57 ∷ [])
 
-abbrev pub kernelSamples : List Sample
-kernelSamples = kernelHeaders ++ assignments ++ statements ++ labels ++ unusedKernelFields
+abbrev pub kernel_samples : List Sample
+kernel_samples = kernel_headers ++ assignments ++ statements ++ labels ++ unused_kernel_fields

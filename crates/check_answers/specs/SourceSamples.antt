@@ -4,8 +4,8 @@ use Rattle.std.specs.Prelude.{List, [], ◌∷◌, ◌++◌, map, ℕ, ℤ, pos,
 use Rattle.words.specs.Layout.{zeros}
 use Rattle.words.specs.declared.Verdict.{Verdict}
 use Rattle.words.specs.declared.Verdict.TheVariants.{Accepted}
-use Rattle.check_answers.specs.Sample.{Sample, sample, row, unusedFrom, refused}
-use Rattle.check_answers.specs.DeclarationSamples.{declarationSamples}
+use Rattle.check_answers.specs.Sample.{Sample, sample, row, unused_from, refused}
+use Rattle.check_answers.specs.DeclarationSamples.{declaration_samples}
 
 -- Cause 1, "header outside its limits"; cause 2, "no rows, too many, or words not a multiple of 6".
 abbrev pub headers : List Sample
@@ -90,8 +90,8 @@ links =
     []
 
 -- Cause 5, "row 0 not a lone block, or a row not linked exactly once".
-abbrev pub rowsOnce : List Sample
-rowsOnce =
+abbrev pub rows_once : List Sample
+rows_once =
     sample (pos 0 ∷ []) (row 40 0 0 0 0 0) (refused 5 0) ∷  -- row 0 no block
     sample (pos 0 ∷ []) (row 42 0 0 0 0 1 ++ row 40 0 0 0 0 0) (refused 5 0) ∷  -- row 0 with next
     sample (pos 0 ∷ []) (row 42 0 0 0 0 0 ++ row 40 0 0 0 0 0) (refused 5 1) ∷  -- not linked
@@ -173,8 +173,8 @@ arms =
     []
 
 -- Cause 7: "Neither form counts as a loop for break and continue."
-abbrev pub guardedPlaces : List Sample
-guardedPlaces =
+abbrev pub guarded_places : List Sample
+guarded_places =
     sample (pos 0 ∷ []) (row 42 1 0 0 0 0 ++ row 54 2 0 0 0 0 ++ row 56 3 4 0 0 0 ++ row 1 0 0 0 0 0 ++ row 42 5 0 0 0 0 ++ row 50 0 0 0 0 0) (refused 7 5) ∷  -- break in a guarded if
     sample (pos 0 ∷ []) (row 42 1 0 0 0 0 ++ row 55 2 0 0 0 0 ++ row 56 3 4 0 0 0 ++ row 1 0 0 0 0 0 ++ row 42 5 0 0 0 0 ++ row 50 0 0 0 0 0) (refused 7 5) ∷  -- break in a guarded do
     sample (pos 0 ∷ []) (row 42 1 0 0 0 0 ++ row 55 2 0 0 0 0 ++ row 56 3 4 0 0 0 ++ row 1 0 0 0 0 0 ++ row 42 5 0 0 0 0 ++ row 51 0 0 0 0 0) (refused 7 5) ∷  -- continue in a guarded do
@@ -216,15 +216,15 @@ operands =
     ++ map (valued (refused 4 2) (row 1 0 0 0 0 0) (λ kind. row kind 3 0 0 0 0)) increments
 
 -- Cause 3 for each field that the table of kinds does not name, by how many it names, from a on. Next is unused in expressions.
-abbrev pub unusedFields : List Sample
-unusedFields =
-    unusedFrom (pos 0 ∷ []) 2 4 (1 ∷ 2 ∷ 4 ∷ 5 ∷ 27 ∷ 28 ∷ 29 ∷ 30 ∷ [])
-    ++ unusedFrom (pos 0 ∷ []) 3 3 (3 ∷ 6 ∷ 7 ∷ 8 ∷ 9 ∷ 10 ∷ 11 ∷ 12 ∷ 13 ∷ 14 ∷ 15 ∷ 16 ∷ 17 ∷ 18 ∷ 20 ∷ 21 ∷ 22 ∷ 23 ∷ 24 ∷ 25 ∷ 26 ∷ [])
-    ++ unusedFrom (pos 0 ∷ []) 4 2 (19 ∷ [])
-    ++ unusedFrom (pos 0 ∷ []) 1 4 (40 ∷ 49 ∷ 50 ∷ 51 ∷ [])
-    ++ unusedFrom (pos 0 ∷ []) 2 3 (41 ∷ 42 ∷ 48 ∷ 54 ∷ 55 ∷ [])
-    ++ unusedFrom (pos 0 ∷ []) 3 2 (44 ∷ 45 ∷ 47 ∷ 56 ∷ 58 ∷ [])
-    ++ unusedFrom (pos 0 ∷ []) 4 1 (43 ∷ [])
+abbrev pub unused_fields : List Sample
+unused_fields =
+    unused_from (pos 0 ∷ []) 2 4 (1 ∷ 2 ∷ 4 ∷ 5 ∷ 27 ∷ 28 ∷ 29 ∷ 30 ∷ [])
+    ++ unused_from (pos 0 ∷ []) 3 3 (3 ∷ 6 ∷ 7 ∷ 8 ∷ 9 ∷ 10 ∷ 11 ∷ 12 ∷ 13 ∷ 14 ∷ 15 ∷ 16 ∷ 17 ∷ 18 ∷ 20 ∷ 21 ∷ 22 ∷ 23 ∷ 24 ∷ 25 ∷ 26 ∷ [])
+    ++ unused_from (pos 0 ∷ []) 4 2 (19 ∷ [])
+    ++ unused_from (pos 0 ∷ []) 1 4 (40 ∷ 49 ∷ 50 ∷ 51 ∷ [])
+    ++ unused_from (pos 0 ∷ []) 2 3 (41 ∷ 42 ∷ 48 ∷ 54 ∷ 55 ∷ [])
+    ++ unused_from (pos 0 ∷ []) 3 2 (44 ∷ 45 ∷ 47 ∷ 56 ∷ 58 ∷ [])
+    ++ unused_from (pos 0 ∷ []) 4 1 (43 ∷ [])
 
-abbrev pub sourceSamples : List Sample
-sourceSamples = headers ++ fields ++ links ++ rowsOnce ++ numbers ++ places ++ marks ++ arms ++ guardedPlaces ++ operands ++ unusedFields ++ declarationSamples
+abbrev pub source_samples : List Sample
+source_samples = headers ++ fields ++ links ++ rows_once ++ numbers ++ places ++ marks ++ arms ++ guarded_places ++ operands ++ unused_fields ++ declaration_samples

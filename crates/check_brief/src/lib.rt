@@ -1,1 +1,2 @@
 // Both checks by tests that cost less to compute. Definitions and laws alone, in specs/.
+#![tactic(auto)]

@@ -2,8 +2,8 @@
 use Rattle.std.specs.Prelude.{◌≡◌, refl, Bool, true, false, ◌||◌, List, ℕ, zero, suc, ◌+◌, ◌≤◌, min, ℤ}
 use Rattle.std.proofs.Common.{sym, ap, ◌∙◌, arith}
 use Rattle.words.specs.Word.{pick}
-use Rattle.words.specs.Table.{rowCount}
-use Rattle.words.specs.Search.{lowest, lowestRow}
+use Rattle.words.specs.Table.{row_count}
+use Rattle.words.specs.Search.{lowest, lowest_row}
 use Rattle.words.specs.declared.Found.{Found}
 use Rattle.words.specs.declared.Found.TheVariants.{At, Nothing}
 use Rattle.check_declarations.specs.Lower.{lower}
@@ -44,6 +44,6 @@ lowest-either p q (suc d) j = go (p j) (q j) (lowest-either p q d (j + 1))
     go false true rest = sym (lower-right j (lowest p (j + 1) d) (not-below p d (j + 1) j (omega arith)))
     go false false rest = rest
 
-pub lowestRow-either : (rows : List ℤ) (p q : ℕ → Bool) → lowestRow rows (λ (row : ℕ). p row || q row) ≡ lower (lowestRow rows p) (lowestRow rows q)
-unfolding lowestRow
-lowestRow-either rows p q = lowest-either p q (rowCount rows) 0
+pub lowest_row-either : (rows : List ℤ) (p q : ℕ → Bool) → lowest_row rows (λ (row : ℕ). p row || q row) ≡ lower (lowest_row rows p) (lowest_row rows q)
+unfolding lowest_row
+lowest_row-either rows p q = lowest-either p q (row_count rows) 0

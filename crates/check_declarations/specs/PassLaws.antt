@@ -6,14 +6,14 @@ use Rattle.std.proofs.lemmas.Bool.{eqb-false}
 use Rattle.words.specs.Table.{number_at}
 use Rattle.words.specs.Kinds.{between}
 use Rattle.words.specs.Laws.{by_cases}
-use Rattle.words.specs.Declarations.{isDeclaration}
+use Rattle.words.specs.Declarations.{is_declaration}
 use Rattle.check_structure.specs.Passes.{Notes}
-use Rattle.check_items.specs.Items.{earlierAt}
-use Rattle.check_notes.specs.RowNotes.{noteAt}
+use Rattle.check_items.specs.Items.{earlier_at}
+use Rattle.check_notes.specs.RowNotes.{note_at}
 use Rattle.check_notes.specs.RowNoteLaws.{before-note, same-notes}
 use Rattle.check_notes.specs.declared.Note.TheVariants.{Before}
-use Rattle.check_parameter_causes.specs.Parameters.{declaredAsParameter}
-use Rattle.check_declaration_causes.specs.Causes.{outsideBlock, namesItself, declaredBefore, oneTooMany}
+use Rattle.check_parameter_causes.specs.Parameters.{declared_as_parameter}
+use Rattle.check_declaration_causes.specs.Causes.{outside_block, names_itself, declared_before, one_too_many}
 use Rattle.check_declarations.specs.Passes.{breaks}
 use Rattle.check_declarations.specs.declared.Cause.{Cause}
 use Rattle.check_declarations.specs.declared.Cause.TheVariants.{OutsideBlock, NamesItself, DeclaredBefore, DeclaredAsParameter, OneTooMany}
@@ -27,12 +27,12 @@ lone-kind kind =
     (λ most. rw (e, least, most)))
     (λ least. rw (e, least)))
 
-pub declaration-notes : {rows : List ℤ} {notes : List ℕ} → Notes rows (noteAt (Before 58 58) rows) notes → Notes rows (earlierAt (isDeclaration rows) rows) notes
-unfolding isDeclaration
-declaration-notes {rows} n = same-notes (λ row. before-note 58 58 rows row ∙ ap (λ (sort : ℕ → Bool). earlierAt sort rows row) (fun_ext (λ other. lone-kind (number_at rows other 0)))) n
+pub declaration-notes : {rows : List ℤ} {notes : List ℕ} → Notes rows (note_at (Before 58 58) rows) notes → Notes rows (earlier_at (is_declaration rows) rows) notes
+unfolding is_declaration
+declaration-notes {rows} n = same-notes (λ row. before-note 58 58 rows row ∙ ap (λ (sort : ℕ → Bool). earlier_at sort rows row) (fun_ext (λ other. lone-kind (number_at rows other 0)))) n
 
-pub none-breaks : (cause : Cause) (rows : List ℤ) (row : ℕ) → isDeclaration rows row ≡ false → breaks cause rows row ≡ false
-unfolding breaks outsideBlock namesItself declaredBefore declaredAsParameter oneTooMany
+pub none-breaks : (cause : Cause) (rows : List ℤ) (row : ℕ) → is_declaration rows row ≡ false → breaks cause rows row ≡ false
+unfolding breaks outside_block names_itself declared_before declared_as_parameter one_too_many
 none-breaks OutsideBlock rows row d = rw d
 none-breaks NamesItself rows row d = rw d
 none-breaks DeclaredBefore rows row d = rw d

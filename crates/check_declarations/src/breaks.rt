@@ -1,16 +1,16 @@
 // The lowest row that breaks a cause, with what the cause looks up of each row.
 ghost use Rattle.std.specs.Prelude.{◌≡◌, true, not, ◌&&◌, ◌+◌, ◌*◌, ◌/◌, ◌<◌, eqb, length, get_or};
-ghost use Rattle.words.specs.Table.{rowCount, number_at};
+ghost use Rattle.words.specs.Table.{row_count, number_at};
 ghost use Rattle.words.specs.Links.{link as link_of};
-ghost use Rattle.words.specs.Search.{lowestRow};
+ghost use Rattle.words.specs.Search.{lowest_row};
 ghost use Rattle.check_grammar.specs.Grammar.{grammar};
 ghost use Rattle.check_structure.specs.Structured.{Tree};
 ghost use Rattle.check_structure.specs.Passes.{Notes};
-ghost use Rattle.words.specs.Declarations.{isDeclaration};
-ghost use Rattle.check_items.specs.Items.{earlierAt, someEarlier};
-ghost use Rattle.check_parameter_causes.specs.Parameters.{someOfList};
-ghost use Rattle.check_declaration_causes.specs.Causes.{sameNumber};
-ghost use Rattle.check_declarations.specs.Passes.{breaks, lookedUp};
+ghost use Rattle.words.specs.Declarations.{is_declaration};
+ghost use Rattle.check_items.specs.Items.{earlier_at, some_earlier};
+ghost use Rattle.check_parameter_causes.specs.Parameters.{some_of_list};
+ghost use Rattle.check_declaration_causes.specs.Causes.{same_number};
+ghost use Rattle.check_declarations.specs.Passes.{breaks, looked_up};
 
 use super::Cause;
 use super::initial::named_from;
@@ -26,8 +26,8 @@ const LIMIT: usize = 64;
 // A declaration before the row in its list has its number: a search back through them. Where none is repeated before the row, there are
 // no more of them than variables.
 fn number_before(rows: &[i32], earlier: &[u16], row: usize) -> bool
-    requires { Tree rows.now × (row < length rows.now / 6) × Notes rows.now (earlierAt (isDeclaration rows.now) rows.now) earlier.now }
-    ensures { result ≡ someEarlier (isDeclaration rows.now) (sameNumber rows.now row) rows.now row }
+    requires { Tree rows.now × (row < length rows.now / 6) × Notes rows.now (earlier_at (is_declaration rows.now) rows.now) earlier.now }
+    ensures { result ≡ some_earlier (is_declaration rows.now) (same_number rows.now row) rows.now row }
 {
     let number = number_at(rows, row, 1);
     let mut item = wide(earlier[row]);
@@ -45,7 +45,7 @@ fn number_before(rows: &[i32], earlier: &[u16], row: usize) -> bool
 // A row of the list from this one on has the number.
 fn listed(kinds: &KindTable, rows: &[i32], first: usize, row: usize) -> bool
     requires { Tree rows.now × (first < length rows.now / 6) × (row < length rows.now / 6) × (kinds.now ≡ grammar) }
-    ensures { result ≡ someOfList (rowCount rows.now) (sameNumber rows.now row) rows.now first }
+    ensures { result ≡ some_of_list (row_count rows.now) (same_number rows.now row) rows.now first }
 {
     let number = number_at(rows, row, 1);
     let mut parameter = first;
@@ -64,7 +64,7 @@ fn listed(kinds: &KindTable, rows: &[i32], first: usize, row: usize) -> bool
 // list it stands.
 fn as_parameter(kinds: &KindTable, rows: &[i32], function: usize, row: usize) -> bool
     requires { Tree rows.now × (function < length rows.now / 6) × (row < length rows.now / 6) × (kinds.now ≡ grammar) }
-    ensures { result ≡ not (eqb (link_of rows.now function 3) row) && someOfList (rowCount rows.now) (sameNumber rows.now row) rows.now (link_of rows.now function 2) }
+    ensures { result ≡ not (eqb (link_of rows.now function 3) row) && some_of_list (row_count rows.now) (same_number rows.now row) rows.now (link_of rows.now function 2) }
 {
     if link(kinds, rows, function, 3) == row {
         return false;
@@ -91,7 +91,7 @@ fn declaration_breaks(
     notes: &[u16],
     row: usize,
 ) -> bool
-    requires { Tree rows.now × (row < length rows.now / 6) × (isDeclaration rows.now row ≡ true) × Notes rows.now (lookedUp cause rows.now) notes.now × (kinds.now ≡ grammar) }
+    requires { Tree rows.now × (row < length rows.now / 6) × (is_declaration rows.now row ≡ true) × Notes rows.now (looked_up cause rows.now) notes.now × (kinds.now ≡ grammar) }
     ensures { result ≡ breaks cause rows.now row }
 {
     match cause {
@@ -110,7 +110,7 @@ fn declaration_breaks(
 
 // A row breaks the cause.
 fn row_breaks(cause: Cause, kinds: &KindTable, rows: &[i32], notes: &[u16], row: usize) -> bool
-    requires { Tree rows.now × (row < length rows.now / 6) × Notes rows.now (lookedUp cause rows.now) notes.now × (kinds.now ≡ grammar) }
+    requires { Tree rows.now × (row < length rows.now / 6) × Notes rows.now (looked_up cause rows.now) notes.now × (kinds.now ≡ grammar) }
     ensures { result ≡ breaks cause rows.now row }
 {
     if is_declaration(rows, row) {
@@ -121,8 +121,8 @@ fn row_breaks(cause: Cause, kinds: &KindTable, rows: &[i32], notes: &[u16], row:
 
 // The lowest row that does.
 pub fn lowest_breaking(cause: Cause, kinds: &KindTable, rows: &[i32], notes: &[u16]) -> Found
-    requires { Tree rows.now × Notes rows.now (lookedUp cause rows.now) notes.now × (kinds.now ≡ grammar) }
-    ensures { result ≡ lowestRow rows.now (breaks cause rows.now) }
+    requires { Tree rows.now × Notes rows.now (looked_up cause rows.now) notes.now × (kinds.now ≡ grammar) }
+    ensures { result ≡ lowest_row rows.now (breaks cause rows.now) }
 {
     let count = rows.len() / 6;
     let mut row: usize = 0;

@@ -2,7 +2,7 @@
 ghost use Rattle.std.specs.Prelude.{◌≡◌, ◌+◌, ◌*◌, ◌/◌, ◌<◌, length};
 ghost use Rattle.check_grammar.specs.Grammar.{grammar};
 ghost use Rattle.check_structure.specs.Structured.{Tree};
-ghost use Rattle.check_declaration_causes.specs.Causes.{namesNumber, namedFrom};
+ghost use Rattle.check_declaration_causes.specs.Causes.{names_number, named_from};
 
 use check_grammar::{KindTable, link};
 use words::table::number_at;
@@ -10,7 +10,7 @@ use words::table::number_at;
 // The row names the variable with this number.
 fn names_number(rows: &[i32], number: usize, row: usize) -> bool
     requires { 6 * row + 5 < length rows.now }
-    ensures { result ≡ namesNumber rows.now number row }
+    ensures { result ≡ names_number rows.now number row }
 {
     if number_at(rows, row, 0) == 2 {
         return number_at(rows, row, 1) == number;
@@ -22,7 +22,7 @@ fn names_number(rows: &[i32], number: usize, row: usize) -> bool
 // expression holds a declaration, so all walks together meet each row once.
 pub fn named_from(kinds: &KindTable, rows: &[i32], number: usize, row: usize) -> bool
     requires { Tree rows.now × (row < length rows.now / 6) × (kinds.now ≡ grammar) }
-    ensures { result ≡ namedFrom rows.now number row }
+    ensures { result ≡ named_from rows.now number row }
 {
     if row == 0 {
         return false;

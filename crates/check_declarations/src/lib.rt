@@ -1,4 +1,6 @@
 // The causes that declarations add to the check, in code: 18, 19 and 20 in order, and 7 for a declaration.
+#![tactic(auto)]
+
 use breaks::lowest_breaking;
 use check_grammar::KindTable;
 use check_structure::causes::at;
@@ -14,17 +16,17 @@ pub mod lower; // lower.rt: the lower of the rows that two searches found
 pub mod notes; // notes.rt: the notes of each row that the causes look up
 
 ghost use Rattle.std.specs.Prelude.{◌≡◌, ◌/◌, ◌≤◌, length};
-ghost use Rattle.words.specs.Search.{lowestRow};
+ghost use Rattle.words.specs.Search.{lowest_row};
 ghost use Rattle.check_grammar.specs.Grammar.{grammar};
 ghost use Rattle.check_structure.specs.Structured.{Tree};
 ghost use Rattle.check_structure.specs.Passes.{Notes};
-ghost use Rattle.words.specs.Declarations.{isDeclaration, declarationCount, declarationsBefore};
-ghost use Rattle.check_items.specs.Items.{earlierAt};
+ghost use Rattle.words.specs.Declarations.{is_declaration, declaration_count, declarations_before};
+ghost use Rattle.check_items.specs.Items.{earlier_at};
 ghost use Rattle.check_parameter_causes.specs.Parameters.{body_at};
-ghost use Rattle.check_declaration_causes.specs.Causes.{outsideBlock, declaredTwice, declarationRefusal};
+ghost use Rattle.check_declaration_causes.specs.Causes.{outside_block, declared_twice, declaration_refusal};
 
 // What a declaration can break.
-#[derive(Drop)]
+#[derive(Clone, Copy)]
 pub enum Cause {
     // 7
     OutsideBlock,
@@ -40,8 +42,8 @@ pub enum Cause {
 
 // Cause 19, with the notes of the rows.
 fn lowest_twice(kinds: &KindTable, rows: &[i32], earlier: &[u16], bodies: &[u16]) -> Found
-    requires { Tree rows.now × Notes rows.now (earlierAt (isDeclaration rows.now) rows.now) earlier.now × Notes rows.now (body_at rows.now) bodies.now × (kinds.now ≡ grammar) }
-    ensures { result ≡ lowestRow rows.now (declaredTwice rows.now) }
+    requires { Tree rows.now × Notes rows.now (earlier_at (is_declaration rows.now) rows.now) earlier.now × Notes rows.now (body_at rows.now) bodies.now × (kinds.now ≡ grammar) }
+    ensures { result ≡ lowest_row rows.now (declared_twice rows.now) }
 {
     let before = lowest_breaking(Cause::DeclaredBefore, kinds, rows, earlier);
     let parameter = lowest_breaking(Cause::DeclaredAsParameter, kinds, rows, bodies);
@@ -56,8 +58,8 @@ fn noted_refusal(
     bodies: &[u16],
     counts: &[u16],
 ) -> Verdict
-    requires { Tree rows.now × Notes rows.now (earlierAt (isDeclaration rows.now) rows.now) earlier.now × Notes rows.now (body_at rows.now) bodies.now × Notes rows.now (declarationsBefore rows.now) counts.now × (kinds.now ≡ grammar) }
-    ensures { result ≡ declarationRefusal rows.now }
+    requires { Tree rows.now × Notes rows.now (earlier_at (is_declaration rows.now) rows.now) earlier.now × Notes rows.now (body_at rows.now) bodies.now × Notes rows.now (declarations_before rows.now) counts.now × (kinds.now ≡ grammar) }
+    ensures { result ≡ declaration_refusal rows.now }
 {
     let own = lowest_breaking(Cause::NamesItself, kinds, rows, counts);
     if let Found::At(row) = own {
@@ -79,7 +81,7 @@ fn noted_refusal(
 // The same, with room for the notes and the counts.
 fn declared_refusal(kinds: &KindTable, rows: &[i32]) -> Verdict
     requires { Tree rows.now × (length rows.now / 6 ≤ 2048) × (kinds.now ≡ grammar) }
-    ensures { result ≡ declarationRefusal rows.now }
+    ensures { result ≡ declaration_refusal rows.now }
 {
     let mut earlier = [0u16; 2048];
     let mut bodies = [0u16; 2048];
@@ -92,8 +94,8 @@ fn declared_refusal(kinds: &KindTable, rows: &[i32]) -> Verdict
 
 // Causes 18 to 20, in a tree of rows, with the number of its declarations. Most tables have none, and cost no pass along the links.
 pub fn declaration_refusal(kinds: &KindTable, rows: &[i32], declared: usize) -> Verdict
-    requires { Tree rows.now × (length rows.now / 6 ≤ 2048) × (kinds.now ≡ grammar) × (declared ≡ declarationCount rows.now) }
-    ensures { result ≡ declarationRefusal rows.now }
+    requires { Tree rows.now × (length rows.now / 6 ≤ 2048) × (kinds.now ≡ grammar) × (declared ≡ declaration_count rows.now) }
+    ensures { result ≡ declaration_refusal rows.now }
 {
     if declared == 0 {
         return Verdict::Accepted;
@@ -104,7 +106,7 @@ pub fn declaration_refusal(kinds: &KindTable, rows: &[i32], declared: usize) -> 
 // Cause 7, with room for the notes.
 fn lowest_declared_outside(kinds: &KindTable, rows: &[i32]) -> Found
     requires { Tree rows.now × (length rows.now / 6 ≤ 2048) × (kinds.now ≡ grammar) }
-    ensures { result ≡ lowestRow rows.now (outsideBlock rows.now) }
+    ensures { result ≡ lowest_row rows.now (outside_block rows.now) }
 {
     let mut items = [0u16; 2048];
     write_block_items(kinds, rows, &mut items);
@@ -113,8 +115,8 @@ fn lowest_declared_outside(kinds: &KindTable, rows: &[i32]) -> Found
 
 // Cause 7 for declarations: the lowest that is no item of a block, in a tree of rows, with their number.
 pub fn lowest_outside_block(kinds: &KindTable, rows: &[i32], declared: usize) -> Found
-    requires { Tree rows.now × (length rows.now / 6 ≤ 2048) × (kinds.now ≡ grammar) × (declared ≡ declarationCount rows.now) }
-    ensures { result ≡ lowestRow rows.now (outsideBlock rows.now) }
+    requires { Tree rows.now × (length rows.now / 6 ≤ 2048) × (kinds.now ≡ grammar) × (declared ≡ declaration_count rows.now) }
+    ensures { result ≡ lowest_row rows.now (outside_block rows.now) }
 {
     if declared == 0 {
         return Found::Nothing;

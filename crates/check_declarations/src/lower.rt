@@ -1,13 +1,13 @@
 // The lower of the rows that two searches found.
 ghost use Rattle.std.specs.Prelude.{◌≡◌};
 ghost use Rattle.words.specs.declared.Found.TheVariants.{At};
-ghost use Rattle.check_declarations.specs.Lower.{lower as lowerOf};
+ghost use Rattle.check_declarations.specs.Lower.{lower as lower_of};
 
 use words::Found;
 
 // The lower of a row and of one that a search found.
 fn lower_than(row: usize, other: Found) -> Found
-    ensures { result ≡ lowerOf (At row) other }
+    ensures { result ≡ lower_of (At row) other }
 {
     match other {
         Found::At(found) => {
@@ -22,7 +22,7 @@ fn lower_than(row: usize, other: Found) -> Found
 
 // The lower of the rows that two searches found.
 pub fn lower_of(one: Found, other: Found) -> Found
-    ensures { result ≡ lowerOf one other }
+    ensures { result ≡ lower_of one other }
 {
     match one {
         Found::At(row) => lower_than(row, other),

@@ -3,8 +3,8 @@ ghost use Rattle.std.specs.Prelude.{◌≡◌, ◌/◌, ◌≤◌, length, get_o
 ghost use Rattle.check_grammar.specs.Grammar.{grammar};
 ghost use Rattle.check_structure.specs.Structured.{Tree};
 ghost use Rattle.check_structure.specs.Passes.{Notes};
-ghost use Rattle.words.specs.Declarations.{isDeclaration};
-ghost use Rattle.check_items.specs.Items.{item_at, earlierAt};
+ghost use Rattle.words.specs.Declarations.{is_declaration};
+ghost use Rattle.check_items.specs.Items.{item_at, earlier_at};
 ghost use Rattle.check_parameter_causes.specs.Parameters.{body_at};
 
 use check_grammar::KindTable;
@@ -21,7 +21,7 @@ pub fn write_block_items(kinds: &KindTable, rows: &[i32], notes: &mut [u16])
 // The nearest declaration before the row in its own list, or 0.
 pub fn write_earlier(kinds: &KindTable, rows: &[i32], notes: &mut [u16])
     requires { Tree rows.now × (length rows.now / 6 ≤ length notes.old) × (get_or notes.old 0 0 ≡ 0) × (kinds.now ≡ grammar) }
-    ensures { Notes rows.now (earlierAt (isDeclaration rows.now) rows.now) notes.new }
+    ensures { Notes rows.now (earlier_at (is_declaration rows.now) rows.now) notes.new }
 {
     write_notes(Note::Before(58, 58), kinds, rows, notes);
 }

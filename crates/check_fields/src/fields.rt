@@ -1,13 +1,13 @@
 // The causes that lie in one field of a row: 3, 4 and 6. Each test is true where the field breaks the cause.
 ghost use Rattle.std.specs.Prelude.{◌≡◌, true, ◌+◌, ◌*◌, ◌<◌, eqb, length};
 ghost use Rattle.words.specs.Word.{pick};
-ghost use Rattle.words.specs.Layout.{headerFits};
-ghost use Rattle.words.specs.Kinds.{bodyBlock};
+ghost use Rattle.words.specs.Layout.{header_fits};
+ghost use Rattle.words.specs.Kinds.{body_block};
 ghost use Rattle.check_grammar.specs.Grammar.{grammar};
-ghost use Rattle.words.specs.Links.{isStatement, isBlock, fitsPart, fits as fits_of};
-ghost use Rattle.words_roles.specs.Roles.{parameterSort, roleSort};
+ghost use Rattle.words.specs.Links.{is_statement, is_block, fits_part, fits as fits_of};
+ghost use Rattle.words_roles.specs.Roles.{parameter_sort, role_sort};
 ghost use Rattle.words_roles.specs.Passes.{Parameters};
-ghost use Rattle.check_fields.specs.Fields.{foreign, leadsRight, mislinked, declaredRange, bounds_of, variableFits, declaredFits, numberFits, outside};
+ghost use Rattle.check_fields.specs.Fields.{foreign, leads_right, mislinked, declared_range, bounds_of, variable_fits, declared_fits, number_fits, outside};
 
 use super::{Bounds, NumberRange};
 use check_grammar::{
@@ -38,7 +38,7 @@ pub fn is_foreign(kinds: &KindTable, form: Form, rows: &[i32], row: usize, field
 // What a branch or body may be: a statement, or a block where the sort asks for one.
 fn is_body(kinds: &KindTable, rows: &[i32], sort: u8, row: usize) -> bool
     requires { (6 * row < length rows.now) × (kinds.now ≡ grammar) }
-    ensures { result ≡ pick (eqb sort bodyBlock) (isBlock rows.now row) (isStatement rows.now row) }
+    ensures { result ≡ pick (eqb sort body_block) (is_block rows.now row) (is_statement rows.now row) }
 {
     if sort == BODY_BLOCK {
         return is_block(rows, row);
@@ -49,7 +49,7 @@ fn is_body(kinds: &KindTable, rows: &[i32], sort: u8, row: usize) -> bool
 // The row is of the sort that a link to a member, a branch or a body asks for.
 fn fits_part(kinds: &KindTable, rows: &[i32], sort: u8, row: usize) -> bool
     requires { (6 * row + 5 < length rows.now) × (kinds.now ≡ grammar) }
-    ensures { result ≡ fitsPart rows.now sort row }
+    ensures { result ≡ fits_part rows.now sort row }
 {
     if sort == ARM {
         return is_arm(kinds, rows, row);
@@ -91,7 +91,7 @@ fn fits(kinds: &KindTable, rows: &[i32], sort: u8, row: usize) -> bool
 
 fn leads_right(kinds: &KindTable, rows: &[i32], row: usize, sort: u8, link: usize) -> bool
     requires { kinds.now ≡ grammar }
-    ensures { result ≡ leadsRight rows.now row sort link }
+    ensures { result ≡ leads_right rows.now row sort link }
 {
     if row < link {
         if link < rows.len() / 6 {
@@ -107,7 +107,7 @@ const PARAMETER_FIELDS: [u8; 6] = [STATEMENT, DECLARED, ABSENT, NONE, NONE, PARA
 
 fn parameter_sort(field: usize) -> u8
     requires { field < 6 }
-    ensures { result ≡ parameterSort field }
+    ensures { result ≡ parameter_sort field }
 {
     PARAMETER_FIELDS[field]
 }
@@ -115,7 +115,7 @@ fn parameter_sort(field: usize) -> u8
 // What a field of a row holds, by the row's role. `parameters` marks the parameters.
 fn role_sort(kinds: &KindTable, rows: &[i32], parameters: &[u8], row: usize, field: usize) -> u8
     requires { (6 * row + 5 < length rows.now) × (field < 6) × Parameters rows.now parameters.now × (kinds.now ≡ grammar) }
-    ensures { result ≡ roleSort rows.now row field }
+    ensures { result ≡ role_sort rows.now row field }
 {
     if parameters[row] == 1 {
         return parameter_sort(field);
@@ -147,8 +147,8 @@ pub fn is_mislinked(
 
 // The numbers that a header gives to declarations and parameters.
 fn declared_range(form: Form, header: &[i32]) -> NumberRange
-    requires { headerFits form header.now ≡ true }
-    ensures { result ≡ declaredRange form header.now }
+    requires { header_fits form header.now ≡ true }
+    ensures { result ≡ declared_range form header.now }
 {
     match form {
         Form::Source => NumberRange {
@@ -168,7 +168,7 @@ fn declared_range(form: Form, header: &[i32]) -> NumberRange
 
 // The numbers that a header gives.
 pub fn bounds_of(form: Form, header: &[i32]) -> Bounds
-    requires { headerFits form header.now ≡ true }
+    requires { header_fits form header.now ≡ true }
     ensures { result ≡ bounds_of form header.now }
 {
     let variables = natural(header[0]);
@@ -186,7 +186,7 @@ pub fn bounds_of(form: Form, header: &[i32]) -> Bounds
 }
 
 fn variable_fits(bounds: Bounds, number: usize) -> bool
-    ensures { result ≡ variableFits bounds number }
+    ensures { result ≡ variable_fits bounds number }
 {
     if number < bounds.variables {
         return true;
@@ -198,7 +198,7 @@ fn variable_fits(bounds: Bounds, number: usize) -> bool
 }
 
 fn declared_fits(bounds: Bounds, number: usize) -> bool
-    ensures { result ≡ declaredFits bounds number }
+    ensures { result ≡ declared_fits bounds number }
 {
     let declared = bounds.declared;
     if declared.first <= number {
@@ -208,7 +208,7 @@ fn declared_fits(bounds: Bounds, number: usize) -> bool
 }
 
 pub fn number_fits(bounds: Bounds, sort: u8, number: usize) -> bool
-    ensures { result ≡ numberFits bounds sort number }
+    ensures { result ≡ number_fits bounds sort number }
 {
     if sort == VARIABLE {
         return variable_fits(bounds, number);

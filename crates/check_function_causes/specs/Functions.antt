@@ -2,46 +2,46 @@
 -- and how many rows a list has.
 use Rattle.std.specs.Prelude.{Bool, ◌||◌, List, ℕ, zero, suc, eqb, ℤ}
 use Rattle.words.specs.Word.{pick}
-use Rattle.words.specs.Table.{rowCount, number_at}
+use Rattle.words.specs.Table.{row_count, number_at}
 use Rattle.words.specs.Links.{link, note}
 use Rattle.words.specs.Search.{some}
-unfoldable pub use Rattle.words_roles.specs.Roles.{isDefinition}
+unfoldable pub use Rattle.words_roles.specs.Roles.{is_definition}
 
 -- "Kind 31, an expression, calls", "Kind 60 returns". The rows that define functions are told by words_roles.
 unfoldable pub is_call : List ℤ → ℕ → Bool
 is_call rows row = eqb (number_at rows row 0) 31
 
-unfoldable pub isReturn : List ℤ → ℕ → Bool
-isReturn rows row = eqb (number_at rows row 0) 60
+unfoldable pub is_return : List ℤ → ℕ → Bool
+is_return rows row = eqb (number_at rows row 0) 60
 
-unfoldable pub isOfFunctions : List ℤ → ℕ → Bool
-isOfFunctions rows row = isDefinition rows row || (is_call rows row || isReturn rows row)
+unfoldable pub is_of_functions : List ℤ → ℕ → Bool
+is_of_functions rows row = is_definition rows row || (is_call rows row || is_return rows row)
 
-unfoldable pub hasFunctions : List ℤ → Bool
-hasFunctions rows = some (isOfFunctions rows) 0 (rowCount rows)
+unfoldable pub has_functions : List ℤ → Bool
+has_functions rows = some (is_of_functions rows) 0 (row_count rows)
 
 -- ---- the definitions at the front
 
 -- The definition so many places behind this row, where the run of definitions from this row on goes so far; else 0. Row 0 is a block.
-unfoldable pub definitionFrom : ℕ → List ℤ → ℕ → ℕ
-definitionFrom zero rows row = pick (isDefinition rows row) row 0
-definitionFrom (suc places) rows row =
-    let behind = definitionFrom places rows (link rows row 5) in
-    pick (isDefinition rows row) behind 0
+unfoldable pub definition_from : ℕ → List ℤ → ℕ → ℕ
+definition_from zero rows row = pick (is_definition rows row) row 0
+definition_from (suc places) rows row =
+    let behind = definition_from places rows (link rows row 5) in
+    pick (is_definition rows row) behind 0
 
 -- "Definitions come first in row 0's list, numbered from 0 in order": the definition with this number; 0 where there is none.
-unfoldable pub functionAt : List ℤ → ℕ → ℕ
-functionAt rows number = definitionFrom number rows (link rows 0 1)
+unfoldable pub function_at : List ℤ → ℕ → ℕ
+function_at rows number = definition_from number rows (link rows 0 1)
 
 -- ---- inside a function
 
 -- A definition hands itself to its parts; every other row hands on what it has, and so does a definition to its next item.
 unfoldable pub around_of : List ℤ → ℕ → ℕ → ℕ → ℕ
-around_of rows owner field own = pick (eqb field 5) own (pick (isDefinition rows owner) owner own)
+around_of rows owner field own = pick (eqb field 5) own (pick (is_definition rows owner) owner own)
 
 -- The definition of the function that a row stands in; 0 where it stands in none.
-unfoldable pub functionAround : List ℤ → ℕ → ℕ
-functionAround rows row = note (around_of rows) 0 rows row
+unfoldable pub function_around : List ℤ → ℕ → ℕ
+function_around rows row = note (around_of rows) 0 rows row
 
 -- ---- lists of arguments, and of parameters
 
@@ -53,5 +53,5 @@ rows_from (suc most) rows row =
     pick (eqb row 0) 0 (suc rest)
 
 -- Links lead to later rows, so as many as there are rows are enough.
-unfoldable pub listLength : List ℤ → ℕ → ℕ
-listLength rows row = rows_from (rowCount rows) rows row
+unfoldable pub list_length : List ℤ → ℕ → ℕ
+list_length rows row = rows_from (row_count rows) rows row

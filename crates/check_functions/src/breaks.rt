@@ -1,10 +1,10 @@
 // The lowest row that breaks a cause, with what the cause looks up of each row.
 ghost use Rattle.std.specs.Prelude.{◌≡◌, false, ◌/◌, ◌<◌, length};
-ghost use Rattle.words.specs.Search.{lowestRow};
+ghost use Rattle.words.specs.Search.{lowest_row};
 ghost use Rattle.check_grammar.specs.Grammar.{grammar};
 ghost use Rattle.check_structure.specs.Structured.{Tree};
-ghost use Rattle.check_function_causes.specs.Functions.{isDefinition};
-ghost use Rattle.check_function_causes.specs.Causes.{returnsOutside, outOfOrder, wrongCall};
+ghost use Rattle.check_function_causes.specs.Functions.{is_definition};
+ghost use Rattle.check_function_causes.specs.Causes.{returns_outside, out_of_order, wrong_call};
 ghost use Rattle.check_functions.specs.Passes.{breaks, Known};
 
 use super::Cause;
@@ -19,7 +19,7 @@ use words_roles::is_definition;
 // Cause 7: a return outside a function.
 fn returns_outside(rows: &[i32], around: &[u16], functions: &[u16], row: usize) -> bool
     requires { (row < length rows.now / 6) × Known rows.now around.now functions.now }
-    ensures { result ≡ returnsOutside rows.now row }
+    ensures { result ≡ returns_outside rows.now row }
 {
     if number_at(rows, row, 0) == 60 {
         return around[row] == 0;
@@ -29,8 +29,8 @@ fn returns_outside(rows: &[i32], around: &[u16], functions: &[u16], row: usize) 
 
 // Cause 23: a definition that is not the one with its number.
 fn is_out_of_order(rows: &[i32], around: &[u16], functions: &[u16], row: usize) -> bool
-    requires { Tree rows.now × (isDefinition rows.now 0 ≡ false) × (row < length rows.now / 6) × Known rows.now around.now functions.now }
-    ensures { result ≡ outOfOrder rows.now row }
+    requires { Tree rows.now × (is_definition rows.now 0 ≡ false) × (row < length rows.now / 6) × Known rows.now around.now functions.now }
+    ensures { result ≡ out_of_order rows.now row }
 {
     if is_definition(rows, row) {
         return function_of(rows, functions, number_at(rows, row, 1)) != row;
@@ -46,8 +46,8 @@ fn calls_wrongly(
     functions: &[u16],
     row: usize,
 ) -> bool
-    requires { Tree rows.now × (isDefinition rows.now 0 ≡ false) × (row < length rows.now / 6) × Known rows.now around.now functions.now × (kinds.now ≡ grammar) }
-    ensures { result ≡ wrongCall rows.now row }
+    requires { Tree rows.now × (is_definition rows.now 0 ≡ false) × (row < length rows.now / 6) × Known rows.now around.now functions.now × (kinds.now ≡ grammar) }
+    ensures { result ≡ wrong_call rows.now row }
 {
     if number_at(rows, row, 0) == 31 {
         let definition = function_of(rows, functions, number_at(rows, row, 1));
@@ -65,7 +65,7 @@ fn row_breaks(
     functions: &[u16],
     row: usize,
 ) -> bool
-    requires { Tree rows.now × (isDefinition rows.now 0 ≡ false) × (row < length rows.now / 6) × Known rows.now around.now functions.now × (kinds.now ≡ grammar) }
+    requires { Tree rows.now × (is_definition rows.now 0 ≡ false) × (row < length rows.now / 6) × Known rows.now around.now functions.now × (kinds.now ≡ grammar) }
     ensures { result ≡ breaks cause rows.now row }
 {
     match cause {
@@ -83,8 +83,8 @@ pub fn lowest_breaking(
     around: &[u16],
     functions: &[u16],
 ) -> Found
-    requires { Tree rows.now × (isDefinition rows.now 0 ≡ false) × Known rows.now around.now functions.now × (kinds.now ≡ grammar) }
-    ensures { result ≡ lowestRow rows.now (breaks cause rows.now) }
+    requires { Tree rows.now × (is_definition rows.now 0 ≡ false) × Known rows.now around.now functions.now × (kinds.now ≡ grammar) }
+    ensures { result ≡ lowest_row rows.now (breaks cause rows.now) }
 {
     let count = rows.len() / 6;
     let mut row: usize = 0;

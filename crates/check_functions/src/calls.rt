@@ -2,8 +2,8 @@
 ghost use Rattle.std.specs.Prelude.{◌≡◌, ◌/◌, ◌<◌, eqb, length};
 ghost use Rattle.check_grammar.specs.Grammar.{grammar};
 ghost use Rattle.check_structure.specs.Structured.{Tree};
-ghost use Rattle.check_function_causes.specs.Functions.{listLength};
-ghost use Rattle.check_function_causes.specs.Causes.{notLower, wrongCount, wrongCallOf};
+ghost use Rattle.check_function_causes.specs.Functions.{list_length};
+ghost use Rattle.check_function_causes.specs.Causes.{not_lower, wrong_count, wrong_call_of};
 
 use check_grammar::{KindTable, link};
 use words::table::number_at;
@@ -11,7 +11,7 @@ use words::table::number_at;
 // Two lists have as many rows. Both are gone through together, so that no call costs more than its arguments.
 fn same_length(kinds: &KindTable, rows: &[i32], one: usize, other: usize) -> bool
     requires { Tree rows.now × (one < length rows.now / 6) × (other < length rows.now / 6) × (kinds.now ≡ grammar) }
-    ensures { result ≡ eqb (listLength rows.now one) (listLength rows.now other) }
+    ensures { result ≡ eqb (list_length rows.now one) (list_length rows.now other) }
 {
     let mut row = one;
     let mut beside = other;
@@ -30,7 +30,7 @@ fn same_length(kinds: &KindTable, rows: &[i32], one: usize, other: usize) -> boo
 // In the function that a row defines, a call of this number; row 0 defines none.
 fn is_not_lower(rows: &[i32], around: usize, number: usize) -> bool
     requires { around < length rows.now / 6 }
-    ensures { result ≡ notLower rows.now around number }
+    ensures { result ≡ not_lower rows.now around number }
 {
     if around == 0 {
         return false;
@@ -41,7 +41,7 @@ fn is_not_lower(rows: &[i32], around: usize, number: usize) -> bool
 // Not as many arguments as the definition has parameters.
 fn is_wrong_count(kinds: &KindTable, rows: &[i32], definition: usize, row: usize) -> bool
     requires { Tree rows.now × (definition < length rows.now / 6) × (row < length rows.now / 6) × (kinds.now ≡ grammar) }
-    ensures { result ≡ wrongCount rows.now definition row }
+    ensures { result ≡ wrong_count rows.now definition row }
 {
     let arguments = link(kinds, rows, row, 2);
     let parameters = link(kinds, rows, definition, 2);
@@ -57,7 +57,7 @@ pub fn is_wrong_call(
     row: usize,
 ) -> bool
     requires { Tree rows.now × (definition < length rows.now / 6) × (around < length rows.now / 6) × (row < length rows.now / 6) × (kinds.now ≡ grammar) }
-    ensures { result ≡ wrongCallOf rows.now definition around row }
+    ensures { result ≡ wrong_call_of rows.now definition around row }
 {
     if definition == 0 {
         return true;

@@ -1,4 +1,6 @@
 // The causes that functions add to the checks of both forms, in code: 23 and 24 in order, and 7 for a return.
+#![tactic(auto)]
+
 use breaks::lowest_breaking;
 use check_grammar::KindTable;
 use check_notes::{Note, write_notes};
@@ -12,15 +14,15 @@ pub mod calls; // calls.rt: cause 24, what is wrong with a call
 pub mod front; // front.rt: the definitions at the front, by their numbers
 
 ghost use Rattle.std.specs.Prelude.{◌≡◌, false, ◌*◌, ◌/◌, ◌<◌, ◌≤◌, length};
-ghost use Rattle.words.specs.Search.{lowestRow};
+ghost use Rattle.words.specs.Search.{lowest_row};
 ghost use Rattle.check_grammar.specs.Grammar.{grammar};
 ghost use Rattle.check_structure.specs.Structured.{Tree};
-ghost use Rattle.check_function_causes.specs.Functions.{isDefinition, isOfFunctions, hasFunctions};
-ghost use Rattle.check_function_causes.specs.Causes.{returnsOutside, functionRefusal};
+ghost use Rattle.check_function_causes.specs.Functions.{is_definition, is_of_functions, has_functions};
+ghost use Rattle.check_function_causes.specs.Causes.{returns_outside, function_refusal};
 ghost use Rattle.check_functions.specs.Passes.{Blank, Known};
 
 // What a row of a function can break.
-#[derive(Drop)]
+#[derive(Clone, Copy)]
 pub enum Cause {
     // 7
     ReturnsOutside,
@@ -33,7 +35,7 @@ pub enum Cause {
 // A row that defines, calls or returns.
 fn is_of_functions(rows: &[i32], row: usize) -> bool
     requires { 6 * row < length rows.now }
-    ensures { result ≡ isOfFunctions rows.now row }
+    ensures { result ≡ is_of_functions rows.now row }
 {
     let kind = number_at(rows, row, 0);
     if kind == 59 {
@@ -47,7 +49,7 @@ fn is_of_functions(rows: &[i32], row: usize) -> bool
 
 // Some row defines, calls or returns. Most tables have none, and cost no pass along the links.
 pub fn has_functions(rows: &[i32]) -> bool
-    ensures { result ≡ hasFunctions rows.now }
+    ensures { result ≡ has_functions rows.now }
 {
     let count = rows.len() / 6;
     let mut row: usize = 0;
@@ -62,7 +64,7 @@ pub fn has_functions(rows: &[i32]) -> bool
 
 // Where each row stands, and the definition of each number.
 fn write_known(kinds: &KindTable, rows: &[i32], around: &mut [u16], functions: &mut [u16])
-    requires { Tree rows.now × (isDefinition rows.now 0 ≡ false) × Blank rows.now around.old × Blank rows.now functions.old × (kinds.now ≡ grammar) }
+    requires { Tree rows.now × (is_definition rows.now 0 ≡ false) × Blank rows.now around.old × Blank rows.now functions.old × (kinds.now ≡ grammar) }
     ensures { Known rows.now around.new functions.new }
 {
     write_notes(Note::Around(59), kinds, rows, around);
@@ -76,8 +78,8 @@ pub fn lowest_outside_function(
     around: &mut [u16],
     functions: &mut [u16],
 ) -> Found
-    requires { Tree rows.now × (isDefinition rows.now 0 ≡ false) × Blank rows.now around.old × Blank rows.now functions.old × (kinds.now ≡ grammar) }
-    ensures { result ≡ lowestRow rows.now (returnsOutside rows.now) }
+    requires { Tree rows.now × (is_definition rows.now 0 ≡ false) × Blank rows.now around.old × Blank rows.now functions.old × (kinds.now ≡ grammar) }
+    ensures { result ≡ lowest_row rows.now (returns_outside rows.now) }
 {
     write_known(kinds, rows, around, functions);
     lowest_breaking(Cause::ReturnsOutside, kinds, rows, around, functions)
@@ -85,8 +87,8 @@ pub fn lowest_outside_function(
 
 // Causes 23 and 24, with what is known of the rows.
 fn known_refusal(kinds: &KindTable, rows: &[i32], around: &[u16], functions: &[u16]) -> Verdict
-    requires { Tree rows.now × (isDefinition rows.now 0 ≡ false) × Known rows.now around.now functions.now × (kinds.now ≡ grammar) }
-    ensures { result ≡ functionRefusal rows.now }
+    requires { Tree rows.now × (is_definition rows.now 0 ≡ false) × Known rows.now around.now functions.now × (kinds.now ≡ grammar) }
+    ensures { result ≡ function_refusal rows.now }
 {
     let disordered = lowest_breaking(Cause::OutOfOrder, kinds, rows, around, functions);
     if let Found::At(row) = disordered {
@@ -108,8 +110,8 @@ pub fn function_refusal(
     around: &mut [u16],
     functions: &mut [u16],
 ) -> Verdict
-    requires { Tree rows.now × (isDefinition rows.now 0 ≡ false) × Blank rows.now around.old × Blank rows.now functions.old × (kinds.now ≡ grammar) }
-    ensures { result ≡ functionRefusal rows.now }
+    requires { Tree rows.now × (is_definition rows.now 0 ≡ false) × Blank rows.now around.old × Blank rows.now functions.old × (kinds.now ≡ grammar) }
+    ensures { result ≡ function_refusal rows.now }
 {
     write_known(kinds, rows, around, functions);
     known_refusal(kinds, rows, around, functions)

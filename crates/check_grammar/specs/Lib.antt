@@ -8,5 +8,3 @@ pub mod Papers
 -- ---- laws
 -- Laws of the grammar: what holds of every kind is tested over the table.
 pub mod GrammarLaws
--- Laws of the papers: the table of kinds, and the code's array of it, are what documents 01 and 02 say.
-pub mod PaperLaws

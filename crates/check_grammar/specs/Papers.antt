@@ -1,7 +1,7 @@
 -- Papers: what documents 01 and 02 say of each kind, in their own lines and ranges. The table of kinds says the same (PaperLaws).
 use Rattle.std.specs.Prelude.{Bool, ◌||◌, List, [], ◌∷◌, ℕ}
 use Rattle.words.specs.Word.{pick}
-use Rattle.words.specs.Kinds.{unused, value, variable, array, label, declaredNumber, functionNumber, expression, optionalExpression, place, branch, optionalBranch, optionalItem, bodyBlock, optionalArm, optionalArgument, optionalParameter, expressionRow, placeRow, statementRow, arm_row, argumentRow, between, Forms, inBoth, inSource, inKernel, KindRow, kindRow}
+use Rattle.words.specs.Kinds.{unused, value, variable, array, label, declared_number, function_number, expression, optional_expression, place, branch, optional_branch, optional_item, body_block, optional_arm, optional_argument, optional_parameter, expression_row, place_row, statement_row, arm_row, argument_row, between, Forms, in_both, in_source, in_kernel, KindRow, kind_row}
 use Rattle.words.specs.declared.Kind.TheVariants.{Other}
 
 -- A line is about the kinds from one number to another, and says what a, b, c and d hold.
@@ -31,62 +31,62 @@ lines =
     line 40 40 unused unused unused unused ∷  -- "40 empty, 50 break, 51 continue | none"
     line 50 51 unused unused unused unused ∷
     line 41 41 expression unused unused unused ∷  -- "41 expression statement | a"
-    line 42 42 optionalItem unused unused unused ∷  -- "42 block | a first item or 0"
-    line 43 43 expression branch optionalBranch unused ∷  -- "43 if | a test, b then, c else or 0"
+    line 42 42 optional_item unused unused unused ∷  -- "42 block | a first item or 0"
+    line 43 43 expression branch optional_branch unused ∷  -- "43 if | a test, b then, c else or 0"
     line 44 44 expression branch unused unused ∷  -- "44 while | a test, b body"
     line 45 45 branch expression unused unused ∷  -- "45 do | a body, b test"
-    line 46 46 optionalExpression optionalExpression optionalExpression branch ∷  -- "46 for | a start, b test, c step (each may be 0), d body"
-    line 47 47 expression optionalItem unused unused ∷  -- "47 switch | a selector, b first item or 0"
+    line 46 46 optional_expression optional_expression optional_expression branch ∷  -- "46 for | a start, b test, c step (each may be 0), d body"
+    line 47 47 expression optional_item unused unused ∷  -- "47 switch | a selector, b first item or 0"
     line 48 48 value unused unused unused ∷  -- "48 case | a value"
     line 49 49 unused unused unused unused ∷  -- "49 default | none"
     line 52 53 label unused unused unused ∷  -- "52 goto, 53 label (kernel only) | a label number"
-    line 54 55 optionalArm unused unused unused ∷  -- "kind 54 (guarded if) and 55 (guarded do), each with a the first arm or 0"
-    line 56 56 expression bodyBlock unused unused ∷  -- "kind 56 (arm): a guard, b block, next the next arm"
+    line 54 55 optional_arm unused unused unused ∷  -- "kind 54 (guarded if) and 55 (guarded do), each with a the first arm or 0"
+    line 56 56 expression body_block unused unused ∷  -- "kind 56 (arm): a guard, b block, next the next arm"
     line 57 57 unused unused unused unused ∷  -- "the kernel's new kind 57 (abort, no fields)"
-    line 58 58 declaredNumber expression unused unused ∷  -- "Kind 58: a variable number below V, b initial expression"
-    line 59 59 functionNumber optionalParameter bodyBlock unused ∷  -- "Kind 59 defines a function: a its number, b first parameter or 0 .., c a block"
-    line 31 31 functionNumber optionalArgument unused unused ∷  -- "Kind 31, an expression, calls: a number, b first argument or 0"
+    line 58 58 declared_number expression unused unused ∷  -- "Kind 58: a variable number below V, b initial expression"
+    line 59 59 function_number optional_parameter body_block unused ∷  -- "Kind 59 defines a function: a its number, b first parameter or 0 .., c a block"
+    line 31 31 function_number optional_argument unused unused ∷  -- "Kind 31, an expression, calls: a number, b first argument or 0"
     line 32 32 expression unused unused unused ∷  -- "kind 32 is an argument with a an expression and next"
-    line 60 60 optionalExpression unused unused unused ∷  -- "Kind 60 returns a, or 0 where a is 0"
+    line 60 60 optional_expression unused unused unused ∷  -- "Kind 60 returns a, or 0 where a is 0"
     []
 
 -- "'Place' means a row of kind 2 or 3." "Kinds 1 to 30 are expressions, the rest statements." "An arm elsewhere, or another kind among
 -- arms, gets 4": an arm is no statement. "Kind 31, an expression, calls"; of an argument: "elsewhere, or another kind among arguments, 4".
-abbrev pub whatSaid : ℕ → ℕ
-whatSaid number =
-    pick (between 2 3 number) placeRow
-    (pick (between 1 31 number) expressionRow
-    (pick (between 32 32 number) argumentRow (pick (between 56 56 number) arm_row statementRow)))
+abbrev pub what_said : ℕ → ℕ
+what_said number =
+    pick (between 2 3 number) place_row
+    (pick (between 1 31 number) expression_row
+    (pick (between 32 32 number) argument_row (pick (between 56 56 number) arm_row statement_row)))
 
 -- "Items of a block or switch are linked by next. Expressions have next 0 (it counts as an unused field)". Of an arm: "next the next arm"; of
 -- an argument: "and next".
-abbrev pub nextSaid : ℕ → ℕ
-nextSaid number =
+abbrev pub next_said : ℕ → ℕ
+next_said number =
     pick (between 1 31 number) unused
-    (pick (between 32 32 number) optionalArgument (pick (between 56 56 number) optionalArm optionalItem))
+    (pick (between 32 32 number) optional_argument (pick (between 56 56 number) optional_arm optional_item))
 
 -- The kinds that the paragraph on the kernel form names: constant, variable, element, minus; "kinds 6 to 16"; "assigns"; empty,
 -- expression statement, block, if, while; goto, label.
-abbrev pub inParagraph : ℕ → Bool
-inParagraph number = between 1 4 number || (between 6 16 number || (between 21 21 number || (between 40 44 number || between 52 53 number)))
+abbrev pub in_paragraph : ℕ → Bool
+in_paragraph number = between 1 4 number || (between 6 16 number || (between 21 21 number || (between 40 44 number || between 52 53 number)))
 
 -- Functions, in the source and, as "kernel calls", "a kernel return" and parameters that "in the kernel .. name their words", there too.
-abbrev pub ofFunctions : ℕ → Bool
-ofFunctions number = between 31 32 number || between 58 60 number
+abbrev pub of_functions : ℕ → Bool
+of_functions number = between 31 32 number || between 58 60 number
 
 -- "(kernel only)". "The kernel's new kind 57". "Kinds not named in this paragraph are not in the kernel language."
-abbrev pub formsSaid : ℕ → Forms
-formsSaid number =
-    pick (between 52 53 number || between 57 57 number) inKernel (pick (inParagraph number || ofFunctions number) inBoth inSource)
+abbrev pub forms_said : ℕ → Forms
+forms_said number =
+    pick (between 52 53 number || between 57 57 number) in_kernel (pick (in_paragraph number || of_functions number) in_both in_source)
 
-abbrev pub rowSaid : ℕ → KindLine → KindRow
-rowSaid number l =
-    record { what = whatSaid number; a = l.a; b = l.b; c = l.c; d = l.d; next = nextSaid number; forms = formsSaid number }
+abbrev pub row_said : ℕ → KindLine → KindRow
+row_said number l =
+    record { what = what_said number; a = l.a; b = l.b; c = l.c; d = l.d; next = next_said number; forms = forms_said number }
 
-unfoldable pub saidBy : List KindLine → ℕ → KindRow
-saidBy [] number = kindRow Other
-saidBy (l ∷ ls) number = pick (between l.least l.most number) (rowSaid number l) (saidBy ls number)
+unfoldable pub said_by : List KindLine → ℕ → KindRow
+said_by [] number = kind_row Other
+said_by (l ∷ ls) number = pick (between l.least l.most number) (row_said number l) (said_by ls number)
 
 -- What the papers say of a number; a number on no line is no kind.
 unfoldable pub said : ℕ → KindRow
-said number = saidBy lines number
+said number = said_by lines number

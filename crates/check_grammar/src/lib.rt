@@ -1,10 +1,12 @@
 // How a table of kinds is read: the names of its sorts, and what a row's number says of its fields.
+#![tactic(auto)]
+
 pub mod kinds; // kinds.rt: the table of kinds as a constant array
 
 ghost use Rattle.std.specs.Prelude.{◌≡◌, ◌+◌, ◌*◌, ◌<◌, length};
-ghost use Rattle.words.specs.Kinds.{sortOf, sortAt, between as betweenOf, inLanguage, isLink, isRequired};
-ghost use Rattle.words.specs.Links.{isExpression, isPlace, isStatement, isBlock, isArm, isArgument, link as link_of};
-ghost use Rattle.check_grammar.specs.Grammar.{grammar, formsOf};
+ghost use Rattle.words.specs.Kinds.{sort_of, sort_at, between as between_of, in_language, is_link, is_required};
+ghost use Rattle.words.specs.Links.{is_expression, is_place, is_statement, is_block, is_arm, is_argument, link as link_of};
+ghost use Rattle.check_grammar.specs.Grammar.{grammar, forms_of};
 
 use words::Form;
 use words::table::number_at;
@@ -77,7 +79,7 @@ pub type KindTable = [[u8; 7]; KIND_LIMIT];
 // be built anew at each look.
 pub fn sort_of(kinds: &KindTable, kind: usize, field: usize) -> u8
     requires { (field < 6) × (kinds.now ≡ grammar) }
-    ensures { result ≡ sortOf kind field }
+    ensures { result ≡ sort_of kind field }
 {
     if kind < KIND_LIMIT {
         return kinds[kind][field];
@@ -88,7 +90,7 @@ pub fn sort_of(kinds: &KindTable, kind: usize, field: usize) -> u8
 // The forms that have a kind.
 fn forms_of(kinds: &KindTable, kind: usize) -> u8
     requires { kinds.now ≡ grammar }
-    ensures { result ≡ formsOf kind }
+    ensures { result ≡ forms_of kind }
 {
     if kind < KIND_LIMIT {
         return kinds[kind][6];
@@ -98,13 +100,13 @@ fn forms_of(kinds: &KindTable, kind: usize) -> u8
 
 pub fn sort_at(kinds: &KindTable, rows: &[i32], row: usize, field: usize) -> u8
     requires { (6 * row < length rows.now) × (field < 6) × (kinds.now ≡ grammar) }
-    ensures { result ≡ sortAt rows.now row field }
+    ensures { result ≡ sort_at rows.now row field }
 {
     sort_of(kinds, number_at(rows, row, 0), field)
 }
 
 pub fn between(least: usize, most: usize, number: usize) -> bool
-    ensures { result ≡ betweenOf least most number }
+    ensures { result ≡ between_of least most number }
 {
     if least <= number {
         return number <= most;
@@ -114,7 +116,7 @@ pub fn between(least: usize, most: usize, number: usize) -> bool
 
 // The source is among these forms.
 fn source_has(forms: u8) -> bool
-    ensures { result ≡ betweenOf 1 2 forms }
+    ensures { result ≡ between_of 1 2 forms }
 {
     if SOURCE <= forms {
         return forms <= BOTH;
@@ -125,7 +127,7 @@ fn source_has(forms: u8) -> bool
 // The kind is in the language of the form.
 pub fn in_language(kinds: &KindTable, form: Form, kind: usize) -> bool
     requires { kinds.now ≡ grammar }
-    ensures { result ≡ inLanguage form kind }
+    ensures { result ≡ in_language form kind }
 {
     let forms = forms_of(kinds, kind);
     match form {
@@ -136,7 +138,7 @@ pub fn in_language(kinds: &KindTable, form: Form, kind: usize) -> bool
 
 pub fn is_expression(kinds: &KindTable, rows: &[i32], row: usize) -> bool
     requires { (6 * row < length rows.now) × (kinds.now ≡ grammar) }
-    ensures { result ≡ isExpression rows.now row }
+    ensures { result ≡ is_expression rows.now row }
 {
     let sort = sort_at(kinds, rows, row, 0);
     if EXPRESSION <= sort {
@@ -147,41 +149,41 @@ pub fn is_expression(kinds: &KindTable, rows: &[i32], row: usize) -> bool
 
 pub fn is_place(kinds: &KindTable, rows: &[i32], row: usize) -> bool
     requires { (6 * row < length rows.now) × (kinds.now ≡ grammar) }
-    ensures { result ≡ isPlace rows.now row }
+    ensures { result ≡ is_place rows.now row }
 {
     sort_at(kinds, rows, row, 0) == PLACE_ROW
 }
 
 pub fn is_statement(kinds: &KindTable, rows: &[i32], row: usize) -> bool
     requires { (6 * row < length rows.now) × (kinds.now ≡ grammar) }
-    ensures { result ≡ isStatement rows.now row }
+    ensures { result ≡ is_statement rows.now row }
 {
     sort_at(kinds, rows, row, 0) == STATEMENT
 }
 
 pub fn is_block(rows: &[i32], row: usize) -> bool
     requires { 6 * row < length rows.now }
-    ensures { result ≡ isBlock rows.now row }
+    ensures { result ≡ is_block rows.now row }
 {
     number_at(rows, row, 0) == 42
 }
 
 pub fn is_arm(kinds: &KindTable, rows: &[i32], row: usize) -> bool
     requires { (6 * row < length rows.now) × (kinds.now ≡ grammar) }
-    ensures { result ≡ isArm rows.now row }
+    ensures { result ≡ is_arm rows.now row }
 {
     sort_at(kinds, rows, row, 0) == ARM_ROW
 }
 
 pub fn is_argument(kinds: &KindTable, rows: &[i32], row: usize) -> bool
     requires { (6 * row < length rows.now) × (kinds.now ≡ grammar) }
-    ensures { result ≡ isArgument rows.now row }
+    ensures { result ≡ is_argument rows.now row }
 {
     sort_at(kinds, rows, row, 0) == ARGUMENT_ROW
 }
 
 pub fn is_link(sort: u8) -> bool
-    ensures { result ≡ isLink sort }
+    ensures { result ≡ is_link sort }
 {
     if OPERAND <= sort {
         return sort <= ABSENT;
@@ -191,7 +193,7 @@ pub fn is_link(sort: u8) -> bool
 
 // A link that must not be absent.
 pub fn is_required(sort: u8) -> bool
-    ensures { result ≡ isRequired sort }
+    ensures { result ≡ is_required sort }
 {
     if sort == OPERAND {
         return true;

@@ -23,21 +23,21 @@ item_at rows kind part row = note (item_of rows kind part) 0 rows row
 -- ---- earlier items of a list
 
 -- An item of the sort hands itself to its next item, another one hands on what it has; a list begins with none.
-unfoldable pub earlierOf : (ℕ → Bool) → ℕ → ℕ → ℕ → ℕ
-earlierOf sort owner field own = pick (eqb field 5) (pick (sort owner) owner own) 0
+unfoldable pub earlier_of : (ℕ → Bool) → ℕ → ℕ → ℕ → ℕ
+earlier_of sort owner field own = pick (eqb field 5) (pick (sort owner) owner own) 0
 
 -- The nearest item of the sort before the row in its list; 0 where there is none.
-unfoldable pub earlierAt : (ℕ → Bool) → List ℤ → ℕ → ℕ
-earlierAt sort rows row = note (earlierOf sort) 0 rows row
+unfoldable pub earlier_at : (ℕ → Bool) → List ℤ → ℕ → ℕ
+earlier_at sort rows row = note (earlier_of sort) 0 rows row
 
 -- This item has the property, or one of the sort before it in its list. Earlier items stand at lower rows, so as many of them as the
 -- number of the first are enough.
-unfoldable pub someFrom : ℕ → (ℕ → Bool) → (ℕ → Bool) → List ℤ → ℕ → Bool
-someFrom zero sort property rows item = false
-someFrom (suc items) sort property rows item =
-    let rest = someFrom items sort property rows (earlierAt sort rows item) in
+unfoldable pub some_from : ℕ → (ℕ → Bool) → (ℕ → Bool) → List ℤ → ℕ → Bool
+some_from zero sort property rows item = false
+some_from (suc items) sort property rows item =
+    let rest = some_from items sort property rows (earlier_at sort rows item) in
     pick (eqb item 0) false (pick (property item) true rest)
 
 -- Some item of the sort before the row in its list has the property.
-unfoldable pub someEarlier : (ℕ → Bool) → (ℕ → Bool) → List ℤ → ℕ → Bool
-someEarlier sort property rows row = someFrom (earlierAt sort rows row) sort property rows (earlierAt sort rows row)
+unfoldable pub some_earlier : (ℕ → Bool) → (ℕ → Bool) → List ℤ → ℕ → Bool
+some_earlier sort property rows row = some_from (earlier_at sort rows row) sort property rows (earlier_at sort rows row)

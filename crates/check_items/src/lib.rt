@@ -1,4 +1,6 @@
 // The items of lists: what a row hands along its links to tell them.
+#![tactic(auto)]
+
 ghost use Rattle.std.specs.Prelude.{◌≡◌, ◌*◌, ◌<◌, eqb, length};
 ghost use Rattle.words.specs.Word.{pick};
 ghost use Rattle.check_items.specs.Items.{item_of};

@@ -2,23 +2,23 @@
 use Rattle.std.specs.Prelude.{◌≡◌, refl, List, [], ◌∷◌, ℕ, ℤ, pos, set}
 use Rattle.words.specs.Word.{natural}
 use Rattle.words.specs.Table.{word_at, number_at}
-use Rattle.words.specs.Layout.{layout_of, sum, storeSize, headerStore, allWithin, headerFits, countFits}
+use Rattle.words.specs.Layout.{layout_of, sum, store_size, header_store, all_within, header_fits, count_fits}
 use Rattle.words.specs.declared.Verdict.TheVariants.{Accepted}
-use Rattle.words.specs.Links.{fits, isExpression, isPlace, isStatement, isBlock, isArgument, link, target, linker, received, noteBy, note}
-use Rattle.words.specs.Kinds.{sortOf, sortAt, inLanguage, isLink, isRequired, sortIn, kind_of, kindIn, kinds, kindRow, expressionFields, statementFields, markFields, definitionFields, memberFields, parameterFields}
-use Rattle.words.specs.Search.{lowest, some, lowestRow, someField}
-use Rattle.words.specs.Declarations.{isDeclaration}
-use Rattle.words_roles.specs.Roles.{isDefinition, linksParameter, isParameterBy, isParameter, parameterSort, roleSort}
-use Rattle.check_fields.specs.Fields.{foreign, leadsRight, mislinked, bounds_of, numberFits, outside}
-use Rattle.check_structure.specs.Links.{linksAmong, linkCount, loneBlock, notOnce, deeper, depthAt, tooDeep}
-use Rattle.check_structure.specs.Refusal.{at, unless, ◌next◌, rowCauses, structuralRefusal}
-use Rattle.check_items.specs.Items.{earlierOf, earlierAt, someFrom, someEarlier}
-use Rattle.check_declaration_causes.specs.Causes.{sameNumber, declaredBefore}
-use Rattle.check_function_causes.specs.Functions.{is_call, isReturn, definitionFrom, functionAt, around_of, functionAround, rows_from, listLength}
-use Rattle.check_function_causes.specs.Causes.{returnsOutside, outOfOrder, notLower, wrongCount, wrongCallOf, wrongCall, functionRefusal}
-use Rattle.check_kernel_statements.specs.Statements.{isAtom, isAtomMinus, isAtomOperation, isAtomElement, atomArguments, isAtomCall, fitsVariable, isAssignment, isBlock as isKernelBlock, isKernelIf, isKernelWhile, isKernelExpression, isKernelReturn, isKernelParameter, isOfFunction, isKernelStatement, notKernelForm}
-use Rattle.check_labels.specs.Labels.{isLabel, repeatedLabel, owning, ownerAt, aroundAt, labelBehind, labelAhead, gotoWithoutLabel, labelFault}
-use Rattle.check_kernel.specs.Refusal.{formCauses, kernelCauses, refusal}
+use Rattle.words.specs.Links.{fits, is_expression, is_place, is_statement, is_block, is_argument, link, target, linker, received, note_by, note}
+use Rattle.words.specs.Kinds.{sort_of, sort_at, in_language, is_link, is_required, sort_in, kind_of, kind_in, kinds, kind_row, expression_fields, statement_fields, mark_fields, definition_fields, member_fields, parameter_fields}
+use Rattle.words.specs.Search.{lowest, some, lowest_row, some_field}
+use Rattle.words.specs.Declarations.{is_declaration}
+use Rattle.words_roles.specs.Roles.{is_definition, links_parameter, is_parameter_by, is_parameter, parameter_sort, role_sort}
+use Rattle.check_fields.specs.Fields.{foreign, leads_right, mislinked, bounds_of, number_fits, outside}
+use Rattle.check_structure.specs.Links.{links_among, link_count, lone_block, not_once, deeper, depth_at, too_deep}
+use Rattle.check_structure.specs.Refusal.{at, unless, ◌next◌, row_causes, structural_refusal}
+use Rattle.check_items.specs.Items.{earlier_of, earlier_at, some_from, some_earlier}
+use Rattle.check_declaration_causes.specs.Causes.{same_number, declared_before}
+use Rattle.check_function_causes.specs.Functions.{is_call, is_return, definition_from, function_at, around_of, function_around, rows_from, list_length}
+use Rattle.check_function_causes.specs.Causes.{returns_outside, out_of_order, not_lower, wrong_count, wrong_call_of, wrong_call, function_refusal}
+use Rattle.check_kernel_statements.specs.Statements.{is_atom, is_atom_minus, is_atom_operation, is_atom_element, atom_arguments, is_atom_call, fits_variable, is_assignment, is_block as is_kernel_block, is_kernel_if, is_kernel_while, is_kernel_expression, is_kernel_return, is_kernel_parameter, is_of_function, is_kernel_statement, not_kernel_form}
+use Rattle.check_labels.specs.Labels.{is_label, repeated_label, owning, owner_at, around_at, label_behind, label_ahead, goto_without_label, label_fault}
+use Rattle.check_kernel.specs.Refusal.{form_causes, kernel_causes, refusal}
 use Rattle.check_kernel.specs.Sample.{row, refused}
 
 -- One variable (0), one array of 3, one declared word (4), one temporary (5).
@@ -51,11 +51,11 @@ pub record Answers : Type 0 where
   pub whole : refusal header program ≡ Accepted
   pub initial : refusal header (changed 14 5) ≡ refused 4 2
   pub variable-word : refusal header (changed 13 0) ≡ refused 6 2
-  pub below-S : refusal header (changed 13 3) ≡ refused 6 2
-  pub temporary-word : refusal header (changed 13 5) ≡ refused 6 2
-  pub out_of_order : refusal header (changed 7 1) ≡ refused 23 1
+  pub below_S : refusal header (changed 13 3) ≡ refused 6 2
+  pub temporary_word : refusal header (changed 13 5) ≡ refused 6 2
+  pub out-of-order : refusal header (changed 7 1) ≡ refused 23 1
   pub no-function : refusal header (changed 55 1) ≡ refused 24 9
 
 pub function-answers : Answers
-unfolding natural word_at number_at layout_of sum storeSize headerStore allWithin headerFits countFits foreign fits leadsRight mislinked roleSort parameterSort parameterFields isParameter isParameterBy linksParameter bounds_of numberFits outside sortOf sortIn kind_of kindIn kinds kindRow expressionFields statementFields markFields definitionFields memberFields sortAt inLanguage isExpression isPlace isStatement isBlock isArgument isLink isRequired link target linksAmong linkCount loneBlock notOnce linker received noteBy note deeper depthAt tooDeep at unless ◌next◌ rowCauses structuralRefusal lowest some lowestRow someField isLabel repeatedLabel owning ownerAt aroundAt labelBehind labelAhead gotoWithoutLabel labelFault isDeclaration earlierOf earlierAt someFrom someEarlier sameNumber declaredBefore isReturn isDefinition is_call definitionFrom functionAt around_of functionAround rows_from listLength notLower wrongCount wrongCallOf returnsOutside outOfOrder wrongCall functionRefusal formCauses kernelCauses refusal isAtom isAtomMinus isAtomOperation isAtomElement atomArguments isAtomCall isKernelReturn isKernelParameter isOfFunction fitsVariable isAssignment isKernelBlock isKernelIf isKernelWhile isKernelExpression isKernelStatement notKernelForm
-function-answers = record { whole = refl; initial = refl; variable-word = refl; below-S = refl; temporary-word = refl; out_of_order = refl; no-function = refl }
+unfolding natural word_at number_at layout_of sum store_size header_store all_within header_fits count_fits foreign fits leads_right mislinked role_sort parameter_sort parameter_fields is_parameter is_parameter_by links_parameter bounds_of number_fits outside sort_of sort_in kind_of kind_in kinds kind_row expression_fields statement_fields mark_fields definition_fields member_fields sort_at in_language is_expression is_place is_statement is_block is_argument is_link is_required link target links_among link_count lone_block not_once linker received note_by note deeper depth_at too_deep at unless ◌next◌ row_causes structural_refusal lowest some lowest_row some_field is_label repeated_label owning owner_at around_at label_behind label_ahead goto_without_label label_fault is_declaration earlier_of earlier_at some_from some_earlier same_number declared_before is_return is_definition is_call definition_from function_at around_of function_around rows_from list_length not_lower wrong_count wrong_call_of returns_outside out_of_order wrong_call function_refusal form_causes kernel_causes refusal is_atom is_atom_minus is_atom_operation is_atom_element atom_arguments is_atom_call is_kernel_return is_kernel_parameter is_of_function fits_variable is_assignment is_kernel_block is_kernel_if is_kernel_while is_kernel_expression is_kernel_statement not_kernel_form
+function-answers = record { whole = refl; initial = refl; variable-word = refl; below_S = refl; temporary_word = refl; out-of-order = refl; no-function = refl }

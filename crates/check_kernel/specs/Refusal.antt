@@ -2,31 +2,31 @@
 use Rattle.std.specs.Prelude.{List, ℤ}
 use Rattle.words.specs.declared.Form.TheVariants.{Kernel}
 use Rattle.words.specs.declared.Verdict.{Verdict}
-use Rattle.words.specs.Search.{lowestRow}
-use Rattle.check_structure.specs.Links.{tooDeep}
-use Rattle.check_structure.specs.Refusal.{at, ◌next◌, structuralRefusal}
-use Rattle.check_kernel_statements.specs.Statements.{notKernelForm}
-use Rattle.check_declaration_causes.specs.Causes.{declaredBefore}
-use Rattle.check_function_causes.specs.Causes.{returnsOutside, functionRefusal}
-use Rattle.check_labels.specs.Labels.{labelFault}
+use Rattle.words.specs.Search.{lowest_row}
+use Rattle.check_structure.specs.Links.{too_deep}
+use Rattle.check_structure.specs.Refusal.{at, ◌next◌, structural_refusal}
+use Rattle.check_kernel_statements.specs.Statements.{not_kernel_form}
+use Rattle.check_declaration_causes.specs.Causes.{declared_before}
+use Rattle.check_function_causes.specs.Causes.{returns_outside, function_refusal}
+use Rattle.check_labels.specs.Labels.{label_fault}
 
 -- Causes 9, 12 and 13.
-unfoldable pub formCauses : List ℤ → Verdict
-formCauses rows =
-    at 9 (lowestRow rows (tooDeep Kernel rows))
-    next at 12 (lowestRow rows (notKernelForm rows))
-    next at 13 (lowestRow rows (labelFault rows))
+unfoldable pub form_causes : List ℤ → Verdict
+form_causes rows =
+    at 9 (lowest_row rows (too_deep Kernel rows))
+    next at 12 (lowest_row rows (not_kernel_form rows))
+    next at 13 (lowest_row rows (label_fault rows))
 
 -- The causes after those that both forms share: 7 for a return; 9, 12 and 13; 19 for two parameters of one function; those of functions, 23
 -- and 24.
-unfoldable pub kernelCauses : List ℤ → Verdict
-kernelCauses rows =
-    at 7 (lowestRow rows (returnsOutside rows))
-    next formCauses rows
-    next at 19 (lowestRow rows (declaredBefore rows))
-    next functionRefusal rows
+unfoldable pub kernel_causes : List ℤ → Verdict
+kernel_causes rows =
+    at 7 (lowest_row rows (returns_outside rows))
+    next form_causes rows
+    next at 19 (lowest_row rows (declared_before rows))
+    next function_refusal rows
 
 -- "The check takes causes in order of number, then the lowest row": 1 to 6, which both forms share, then 7, 9, 12, 13, 19, 23 and 24.
 -- (Cause 8, and 7 for other rows, are of kinds that are not in the kernel language.)
 unfoldable pub refusal : List ℤ → List ℤ → Verdict
-refusal header rows = structuralRefusal Kernel header rows next kernelCauses rows
+refusal header rows = structural_refusal Kernel header rows next kernel_causes rows

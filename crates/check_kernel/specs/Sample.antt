@@ -3,25 +3,25 @@
 use Rattle.std.specs.Prelude.{◌≡◌, refl, List, [], ◌∷◌, ℕ, ℤ, pos, set}
 use Rattle.words.specs.Word.{natural}
 use Rattle.words.specs.Table.{word_at, number_at}
-use Rattle.words.specs.Layout.{layout_of, sum, storeSize, headerStore, allWithin, headerFits, countFits}
+use Rattle.words.specs.Layout.{layout_of, sum, store_size, header_store, all_within, header_fits, count_fits}
 use Rattle.words.specs.declared.Verdict.{Verdict}
 use Rattle.words.specs.declared.Verdict.TheVariants.{Accepted, Refused}
-use Rattle.words.specs.Links.{fits, isExpression, isPlace, isStatement, link, target, linker, received, noteBy, note}
-use Rattle.words_roles.specs.Roles.{linksParameter, isParameterBy, isParameter, roleSort}
-use Rattle.check_fields.specs.Fields.{foreign, leadsRight, mislinked, bounds_of, numberFits, outside}
-use Rattle.words.specs.Kinds.{sortOf, sortAt, inLanguage, isLink, isRequired, sortIn, kind_of, kindIn, kinds, kindRow, expressionFields, statementFields, markFields, memberFields}
-use Rattle.check_structure.specs.Links.{linksAmong, linkCount, loneBlock, notOnce, deeper, depthAt, tooDeep}
-use Rattle.check_structure.specs.Refusal.{at, unless, ◌next◌, rowCauses, structuralRefusal}
-use Rattle.words.specs.Search.{lowest, some, lowestRow, someField}
+use Rattle.words.specs.Links.{fits, is_expression, is_place, is_statement, link, target, linker, received, note_by, note}
+use Rattle.words_roles.specs.Roles.{links_parameter, is_parameter_by, is_parameter, role_sort}
+use Rattle.check_fields.specs.Fields.{foreign, leads_right, mislinked, bounds_of, number_fits, outside}
+use Rattle.words.specs.Kinds.{sort_of, sort_at, in_language, is_link, is_required, sort_in, kind_of, kind_in, kinds, kind_row, expression_fields, statement_fields, mark_fields, member_fields}
+use Rattle.check_structure.specs.Links.{links_among, link_count, lone_block, not_once, deeper, depth_at, too_deep}
+use Rattle.check_structure.specs.Refusal.{at, unless, ◌next◌, row_causes, structural_refusal}
+use Rattle.words.specs.Search.{lowest, some, lowest_row, some_field}
 use Rattle.check_kernel.specs.Accepts.{accepted-legal}
-use Rattle.check_labels.specs.Labels.{isLabel, repeatedLabel, owning, ownerAt, aroundAt, labelBehind, labelAhead, gotoWithoutLabel, labelFault}
+use Rattle.check_labels.specs.Labels.{is_label, repeated_label, owning, owner_at, around_at, label_behind, label_ahead, goto_without_label, label_fault}
 use Rattle.check_kernel.specs.Legal.{Legal}
-use Rattle.check_kernel.specs.Refusal.{formCauses, kernelCauses, refusal}
-use Rattle.check_kernel_statements.specs.Statements.{isAtom, isAtomMinus, isAtomOperation, isAtomElement, fitsVariable, isAssignment, isBlock, isKernelIf, isKernelWhile, isKernelExpression, isKernelStatement, notKernelForm, isAtomCall, isKernelReturn, isKernelParameter, isOfFunction}
-use Rattle.words.specs.Declarations.{isDeclaration}
-use Rattle.check_declaration_causes.specs.Causes.{declaredBefore}
-use Rattle.check_function_causes.specs.Functions.{isDefinition, is_call, isReturn}
-use Rattle.check_function_causes.specs.Causes.{returnsOutside, outOfOrder, wrongCall, functionRefusal}
+use Rattle.check_kernel.specs.Refusal.{form_causes, kernel_causes, refusal}
+use Rattle.check_kernel_statements.specs.Statements.{is_atom, is_atom_minus, is_atom_operation, is_atom_element, fits_variable, is_assignment, is_block, is_kernel_if, is_kernel_while, is_kernel_expression, is_kernel_statement, not_kernel_form, is_atom_call, is_kernel_return, is_kernel_parameter, is_of_function}
+use Rattle.words.specs.Declarations.{is_declaration}
+use Rattle.check_declaration_causes.specs.Causes.{declared_before}
+use Rattle.check_function_causes.specs.Functions.{is_definition, is_call, is_return}
+use Rattle.check_function_causes.specs.Causes.{returns_outside, out_of_order, wrong_call, function_refusal}
 
 -- One variable (0), one temporary (4), one array of 3.
 abbrev header : List ℤ
@@ -57,14 +57,14 @@ refused cause place = Refused (record { number = cause; place = place })
 -- label repeated.
 pub record Answers : Type 0 where
   pub whole : refusal header program ≡ Accepted
-  pub variable-V : refusal header (changed 19 1) ≡ refused 6 3
+  pub variable_V : refusal header (changed 19 1) ≡ refused 6 3
   pub no_block : refusal header (changed 54 40) ≡ refused 12 5
   pub no_label : refusal header (changed 49 1) ≡ refused 13 8
-  pub label-twice : refusal header (changed 60 53) ≡ refused 13 11
+  pub label_twice : refusal header (changed 60 53) ≡ refused 13 11
 
 pub sample-answers : Answers
-unfolding natural word_at number_at layout_of sum storeSize headerStore allWithin headerFits countFits foreign fits leadsRight mislinked roleSort isParameter isParameterBy linksParameter bounds_of numberFits outside sortOf sortIn kind_of kindIn kinds kindRow expressionFields statementFields markFields memberFields sortAt inLanguage isExpression isPlace isStatement isLink isRequired link target linksAmong linkCount loneBlock notOnce linker received noteBy note deeper depthAt tooDeep at unless ◌next◌ rowCauses structuralRefusal lowest some lowestRow someField isLabel repeatedLabel owning ownerAt aroundAt labelBehind labelAhead gotoWithoutLabel labelFault isDeclaration declaredBefore isReturn isDefinition is_call returnsOutside outOfOrder wrongCall functionRefusal formCauses kernelCauses refusal isAtom isAtomMinus isAtomOperation isAtomElement isAtomCall isKernelReturn isKernelParameter isOfFunction fitsVariable isAssignment isBlock isKernelIf isKernelWhile isKernelExpression isKernelStatement notKernelForm
-sample-answers = record { whole = refl; variable-V = refl; no_block = refl; no_label = refl; label-twice = refl }
+unfolding natural word_at number_at layout_of sum store_size header_store all_within header_fits count_fits foreign fits leads_right mislinked role_sort is_parameter is_parameter_by links_parameter bounds_of number_fits outside sort_of sort_in kind_of kind_in kinds kind_row expression_fields statement_fields mark_fields member_fields sort_at in_language is_expression is_place is_statement is_link is_required link target links_among link_count lone_block not_once linker received note_by note deeper depth_at too_deep at unless ◌next◌ row_causes structural_refusal lowest some lowest_row some_field is_label repeated_label owning owner_at around_at label_behind label_ahead goto_without_label label_fault is_declaration declared_before is_return is_definition is_call returns_outside out_of_order wrong_call function_refusal form_causes kernel_causes refusal is_atom is_atom_minus is_atom_operation is_atom_element is_atom_call is_kernel_return is_kernel_parameter is_of_function fits_variable is_assignment is_block is_kernel_if is_kernel_while is_kernel_expression is_kernel_statement not_kernel_form
+sample-answers = record { whole = refl; variable_V = refl; no_block = refl; no_label = refl; label_twice = refl }
 
 pub sample-legal : Legal header program
 sample-legal = accepted-legal header program sample-answers.whole

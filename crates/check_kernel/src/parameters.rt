@@ -1,9 +1,9 @@
 // Cause 19 in a kernel program: two parameters of one function with one word. All its rows of kind 58 are parameters.
 ghost use Rattle.std.specs.Prelude.{◌≡◌};
-ghost use Rattle.words.specs.Search.{lowestRow};
+ghost use Rattle.words.specs.Search.{lowest_row};
 ghost use Rattle.check_grammar.specs.Grammar.{grammar};
 ghost use Rattle.check_structure.specs.Structured.{Tree};
-ghost use Rattle.check_declaration_causes.specs.Causes.{declaredBefore};
+ghost use Rattle.check_declaration_causes.specs.Causes.{declared_before};
 
 use check_declarations::Cause;
 use check_declarations::breaks::lowest_breaking;
@@ -16,7 +16,7 @@ use words::declarations::declaration_count;
 // With room for the notes.
 fn lowest_named_twice(kinds: &KindTable, rows: &[i32]) -> Found
     requires { Tree rows.now × (kinds.now ≡ grammar) }
-    ensures { result ≡ lowestRow rows.now (declaredBefore rows.now) }
+    ensures { result ≡ lowest_row rows.now (declared_before rows.now) }
 {
     let mut earlier = [0u16; 40980];
     write_earlier(kinds, rows, &mut earlier);
@@ -26,7 +26,7 @@ fn lowest_named_twice(kinds: &KindTable, rows: &[i32]) -> Found
 // The same; a table without parameters costs no pass along the links.
 pub fn lowest_parameter_twice(rows: &[i32]) -> Found
     requires { Tree rows.now }
-    ensures { result ≡ lowestRow rows.now (declaredBefore rows.now) }
+    ensures { result ≡ lowest_row rows.now (declared_before rows.now) }
 {
     if declaration_count(rows) == 0 {
         return Found::Nothing;

@@ -1,9 +1,11 @@
 // Cause 12: the statements of the kernel language. Each test is true where the row is what it is named after.
+#![tactic(auto)]
+
 ghost use Rattle.std.specs.Prelude.{◌≡◌, ◌+◌, ◌*◌, ◌/◌, ◌<◌, length};
-ghost use Rattle.words.specs.Table.{rowCount, number_at};
-ghost use Rattle.words.specs.Search.{lowestRow};
+ghost use Rattle.words.specs.Table.{row_count, number_at};
+ghost use Rattle.words.specs.Search.{lowest_row};
 ghost use Rattle.check_grammar.specs.Grammar.{grammar};
-ghost use Rattle.check_kernel_statements.specs.Statements.{isAtom, isAtomMinus, isAtomOperation, isAtomElement, atomArguments, isAtomCall, fitsVariable, isAssignment, isBlock, isKernelIf, isKernelWhile, isKernelExpression, isKernelReturn, isKernelParameter, isOfFunction, isKernelStatement, notKernelForm};
+ghost use Rattle.check_kernel_statements.specs.Statements.{is_atom, is_atom_minus, is_atom_operation, is_atom_element, atom_arguments, is_atom_call, fits_variable, is_assignment, is_block, is_kernel_if, is_kernel_while, is_kernel_expression, is_kernel_return, is_kernel_parameter, is_of_function, is_kernel_statement, not_kernel_form};
 
 use check_grammar::kinds::kind_table;
 use check_grammar::{KindTable, between, is_statement};
@@ -24,7 +26,7 @@ pub fn number_or_zero(rows: &[i32], row: usize, field: usize) -> usize
 // A constant or variable.
 fn is_atom(rows: &[i32], row: usize) -> bool
     requires { 6 * (length rows.now / 6) ≡ length rows.now }
-    ensures { result ≡ isAtom rows.now row }
+    ensures { result ≡ is_atom rows.now row }
 {
     between(1, 2, number_or_zero(rows, row, 0))
 }
@@ -32,7 +34,7 @@ fn is_atom(rows: &[i32], row: usize) -> bool
 // Minus an atom.
 fn is_atom_minus(rows: &[i32], row: usize) -> bool
     requires { 6 * (length rows.now / 6) ≡ length rows.now }
-    ensures { result ≡ isAtomMinus rows.now row }
+    ensures { result ≡ is_atom_minus rows.now row }
 {
     if number_or_zero(rows, row, 0) == 4 {
         return is_atom(rows, number_or_zero(rows, row, 1));
@@ -43,7 +45,7 @@ fn is_atom_minus(rows: &[i32], row: usize) -> bool
 // One of kinds 6 to 16 on two atoms.
 fn is_atom_operation(rows: &[i32], row: usize) -> bool
     requires { 6 * (length rows.now / 6) ≡ length rows.now }
-    ensures { result ≡ isAtomOperation rows.now row }
+    ensures { result ≡ is_atom_operation rows.now row }
 {
     if between(6, 16, number_or_zero(rows, row, 0)) {
         if is_atom(rows, number_or_zero(rows, row, 1)) {
@@ -57,7 +59,7 @@ fn is_atom_operation(rows: &[i32], row: usize) -> bool
 // An element with an atom index.
 fn is_atom_element(rows: &[i32], row: usize) -> bool
     requires { 6 * (length rows.now / 6) ≡ length rows.now }
-    ensures { result ≡ isAtomElement rows.now row }
+    ensures { result ≡ is_atom_element rows.now row }
 {
     if number_or_zero(rows, row, 0) == 3 {
         return is_atom(rows, number_or_zero(rows, row, 2));
@@ -68,7 +70,7 @@ fn is_atom_element(rows: &[i32], row: usize) -> bool
 // The arguments of the list that begins at a row are atoms.
 fn atom_arguments(rows: &[i32], first: usize) -> bool
     requires { 6 * (length rows.now / 6) ≡ length rows.now }
-    ensures { result ≡ atomArguments (rowCount rows.now) rows.now first }
+    ensures { result ≡ atom_arguments (row_count rows.now) rows.now first }
 {
     let mut argument = first;
     for _passed in 0..rows.len() / 6 {
@@ -86,7 +88,7 @@ fn atom_arguments(rows: &[i32], first: usize) -> bool
 // A call on atoms.
 fn is_atom_call(rows: &[i32], row: usize) -> bool
     requires { 6 * (length rows.now / 6) ≡ length rows.now }
-    ensures { result ≡ isAtomCall rows.now row }
+    ensures { result ≡ is_atom_call rows.now row }
 {
     if number_or_zero(rows, row, 0) == 31 {
         return atom_arguments(rows, number_or_zero(rows, row, 2));
@@ -97,7 +99,7 @@ fn is_atom_call(rows: &[i32], row: usize) -> bool
 // What may be assigned to a variable.
 fn fits_variable(rows: &[i32], row: usize) -> bool
     requires { 6 * (length rows.now / 6) ≡ length rows.now }
-    ensures { result ≡ fitsVariable rows.now row }
+    ensures { result ≡ fits_variable rows.now row }
 {
     if is_atom(rows, row) {
         return true;
@@ -117,7 +119,7 @@ fn fits_variable(rows: &[i32], row: usize) -> bool
 // An assignment of kernel form.
 fn is_assignment(rows: &[i32], row: usize) -> bool
     requires { 6 * (length rows.now / 6) ≡ length rows.now }
-    ensures { result ≡ isAssignment rows.now row }
+    ensures { result ≡ is_assignment rows.now row }
 {
     if number_or_zero(rows, row, 0) != 21 {
         return false;
@@ -136,7 +138,7 @@ fn is_assignment(rows: &[i32], row: usize) -> bool
 // A branch or body that is a block.
 fn is_block(rows: &[i32], row: usize) -> bool
     requires { 6 * (length rows.now / 6) ≡ length rows.now }
-    ensures { result ≡ isBlock rows.now row }
+    ensures { result ≡ is_block rows.now row }
 {
     if row == 0 {
         return false;
@@ -147,7 +149,7 @@ fn is_block(rows: &[i32], row: usize) -> bool
 // An if with an atom and two blocks.
 fn is_kernel_if(rows: &[i32], row: usize) -> bool
     requires { 6 * (length rows.now / 6) ≡ length rows.now }
-    ensures { result ≡ isKernelIf rows.now row }
+    ensures { result ≡ is_kernel_if rows.now row }
 {
     if number_or_zero(rows, row, 0) != 43 {
         return false;
@@ -164,7 +166,7 @@ fn is_kernel_if(rows: &[i32], row: usize) -> bool
 // A while with an atom and a block.
 fn is_kernel_while(rows: &[i32], row: usize) -> bool
     requires { 6 * (length rows.now / 6) ≡ length rows.now }
-    ensures { result ≡ isKernelWhile rows.now row }
+    ensures { result ≡ is_kernel_while rows.now row }
 {
     if number_or_zero(rows, row, 0) != 44 {
         return false;
@@ -178,7 +180,7 @@ fn is_kernel_while(rows: &[i32], row: usize) -> bool
 // An expression statement that assigns.
 fn is_kernel_expression(rows: &[i32], row: usize) -> bool
     requires { 6 * (length rows.now / 6) ≡ length rows.now }
-    ensures { result ≡ isKernelExpression rows.now row }
+    ensures { result ≡ is_kernel_expression rows.now row }
 {
     if number_or_zero(rows, row, 0) == 41 {
         return is_assignment(rows, number_or_zero(rows, row, 1));
@@ -189,7 +191,7 @@ fn is_kernel_expression(rows: &[i32], row: usize) -> bool
 // A return of an atom.
 fn is_kernel_return(rows: &[i32], row: usize) -> bool
     requires { 6 * (length rows.now / 6) ≡ length rows.now }
-    ensures { result ≡ isKernelReturn rows.now row }
+    ensures { result ≡ is_kernel_return rows.now row }
 {
     if number_or_zero(rows, row, 0) == 60 {
         let atom = number_or_zero(rows, row, 1);
@@ -204,7 +206,7 @@ fn is_kernel_return(rows: &[i32], row: usize) -> bool
 // A parameter, which has no b.
 fn is_kernel_parameter(rows: &[i32], row: usize) -> bool
     requires { 6 * (length rows.now / 6) ≡ length rows.now }
-    ensures { result ≡ isKernelParameter rows.now row }
+    ensures { result ≡ is_kernel_parameter rows.now row }
 {
     if number_or_zero(rows, row, 0) == 58 {
         return number_or_zero(rows, row, 2) == 0;
@@ -215,7 +217,7 @@ fn is_kernel_parameter(rows: &[i32], row: usize) -> bool
 // A definition, a return of an atom or a parameter.
 fn is_of_function(rows: &[i32], row: usize) -> bool
     requires { 6 * (length rows.now / 6) ≡ length rows.now }
-    ensures { result ≡ isOfFunction rows.now row }
+    ensures { result ≡ is_of_function rows.now row }
 {
     if number_or_zero(rows, row, 0) == 59 {
         return true;
@@ -229,7 +231,7 @@ fn is_of_function(rows: &[i32], row: usize) -> bool
 // A statement of the kernel language.
 fn is_kernel_statement(rows: &[i32], row: usize) -> bool
     requires { 6 * (length rows.now / 6) ≡ length rows.now }
-    ensures { result ≡ isKernelStatement rows.now row }
+    ensures { result ≡ is_kernel_statement rows.now row }
 {
     let kind = number_or_zero(rows, row, 0);
     if kind == 40 {
@@ -262,7 +264,7 @@ fn is_kernel_statement(rows: &[i32], row: usize) -> bool
 // Cause 12 at a row.
 fn is_not_kernel_form(kinds: &KindTable, rows: &[i32], row: usize) -> bool
     requires { (6 * (length rows.now / 6) ≡ length rows.now) × (6 * row < length rows.now) × (kinds.now ≡ grammar) }
-    ensures { result ≡ notKernelForm rows.now row }
+    ensures { result ≡ not_kernel_form rows.now row }
 {
     if is_statement(kinds, rows, row) {
         return !is_kernel_statement(rows, row);
@@ -273,7 +275,7 @@ fn is_not_kernel_form(kinds: &KindTable, rows: &[i32], row: usize) -> bool
 // The lowest row that is a statement not of kernel form.
 fn lowest_not_kernel_form_by(kinds: &KindTable, rows: &[i32]) -> Found
     requires { (6 * (length rows.now / 6) ≡ length rows.now) × (kinds.now ≡ grammar) }
-    ensures { result ≡ lowestRow rows.now (notKernelForm rows.now) }
+    ensures { result ≡ lowest_row rows.now (not_kernel_form rows.now) }
 {
     let count = rows.len() / 6;
     let mut row: usize = 0;
@@ -289,7 +291,7 @@ fn lowest_not_kernel_form_by(kinds: &KindTable, rows: &[i32]) -> Found
 // The same, with the table of kinds: it is built here, once, and lent on.
 pub fn lowest_not_kernel_form(rows: &[i32]) -> Found
     requires { 6 * (length rows.now / 6) ≡ length rows.now }
-    ensures { result ≡ lowestRow rows.now (notKernelForm rows.now) }
+    ensures { result ≡ lowest_row rows.now (not_kernel_form rows.now) }
 {
     let kinds = kind_table();
     lowest_not_kernel_form_by(&kinds, rows)

@@ -9,7 +9,7 @@ use lib.Arith.{lt_of_le-ne}
 use lib.IntN.{ℤ}
 use lib.ListN.{get_or, set, length-set, replicate, length-replicate, get_or-replicate}
 use lib.Seq.{get_or-set_same, get_or-set_other}
-use Rattle.words.specs.Table.{rowCount, number_at}
+use Rattle.words.specs.Table.{row_count, number_at}
 use Rattle.words.specs.Kinds.{between}
 use Rattle.check_labels.specs.Passes.{Jump, NextJump, Heads, Chain}
 
@@ -70,8 +70,8 @@ no_jump rows row test e f number j = true≢false (sym j.jump ∙ sym e ∙ f)
 
 -- ---- no row is chained yet: each chain ends past the table
 
-module _ (rows : List ℤ) (room end : ℕ) (past : rowCount rows ≤ end) where
-  pub heads-start : 40980 ≤ room → Heads rows (rowCount rows) (replicate room end)
+module _ (rows : List ℤ) (room end : ℕ) (past : row_count rows ≤ end) where
+  pub heads-start : 40980 ≤ room → Heads rows (row_count rows) (replicate room end)
   heads-start h =
       record {
         room = rw length-replicate h;
@@ -79,5 +79,5 @@ module _ (rows : List ℤ) (room end : ℕ) (past : rowCount rows ≤ end) where
             (record { least = past; none_before = λ row l k j. (let n = j.inside in omega arith); is = λ n. absurd (omega arith) });
       }
 
-  pub chain-start : rowCount rows ≤ room → Chain rows (rowCount rows) (replicate room end)
+  pub chain-start : row_count rows ≤ room → Chain rows (row_count rows) (replicate room end)
   chain-start h = record { room = rw length-replicate h; follows = λ number row l j. absurd (let n = j.inside in omega arith) }

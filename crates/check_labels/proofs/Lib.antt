@@ -7,3 +7,7 @@ pub mod Chaining
 pub mod Marking
 -- The rows that break cause 13, and the lowest of them.
 pub mod Faults
+-- Laws of lists: which rows stand in one list, and who owns them.
+pub mod ListLaws
+-- Laws of labels: the search of cause 13 finds a label exactly where one is ahead.
+pub mod LabelLaws

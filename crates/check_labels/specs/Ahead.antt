@@ -4,7 +4,7 @@ use Rattle.words.specs.Table.{number_at}
 use Rattle.words.specs.Links.{link}
 use Rattle.check_structure.specs.Structured.{Leads}
 use Rattle.check_structure.specs.Lists.{Before}
-use Rattle.check_function_causes.specs.Functions.{isDefinition}
+use Rattle.check_function_causes.specs.Functions.{is_definition}
 
 -- 53 label, with this label number.
 pub record Label (rows : List ℤ) (number row : ℕ) : Type 0 where
@@ -19,4 +19,4 @@ pub data Owner (rows : List ℤ) : ℕ → ℕ → Type 0 where
 -- A label with this number is a later item of the row's own list, or of a list around that, outward to the definition of its function.
 pub data Ahead (rows : List ℤ) (number : ℕ) : ℕ → Type 0 where
   behind : {row item : ℕ} → Before rows row item → Label rows number item → Ahead rows number row
-  outward : {owner row : ℕ} → Owner rows owner row → isDefinition rows owner ≡ false → Ahead rows number owner → Ahead rows number row
+  outward : {owner row : ℕ} → Owner rows owner row → is_definition rows owner ≡ false → Ahead rows number owner → Ahead rows number row

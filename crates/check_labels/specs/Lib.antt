@@ -7,8 +7,3 @@ pub mod Labels
 pub mod Ahead
 -- Passes: what the code's loops for cause 13 compute.
 pub mod Passes
--- ---- laws
--- Laws of lists: which rows stand in one list, and who owns them.
-pub mod ListLaws
--- Laws of labels: the search of cause 13 finds a label exactly where one is ahead.
-pub mod LabelLaws

@@ -1,11 +1,11 @@
 // Cause 13, one label number at a time: its labels mark their lists, and from each of its gotos a climb looks for a marked list.
 ghost use Rattle.std.specs.Prelude.{◌≡◌, ◌+◌, ◌*◌, ◌/◌, ◌<◌, length};
 ghost use Rattle.words.specs.Links.{link};
-ghost use Rattle.words.specs.Search.{some, lowestRow};
+ghost use Rattle.words.specs.Search.{some, lowest_row};
 ghost use Rattle.check_structure.specs.Passes.{Notes};
 ghost use Rattle.check_structure.specs.Structured.{Tree};
-ghost use Rattle.check_labels.specs.Labels.{aroundAt, isLabel, labelBehind, labelAhead, labelFault};
-ghost use Rattle.check_labels.specs.Passes.{noteAt, Noted, Jump, NextJump, LabelNumbers, Heads, Chain, Marks, Marked, LowestAmong, NumberBelow, lower};
+ghost use Rattle.check_labels.specs.Labels.{around_at, is_label, label_behind, label_ahead, label_fault};
+ghost use Rattle.check_labels.specs.Passes.{note_at, Noted, Jump, NextJump, LabelNumbers, Heads, Chain, Marks, Marked, LowestAmong, NumberBelow, lower};
 ghost use Rattle.check_labels.specs.declared.LabelNote.TheVariants.{First, Owner};
 
 use super::LabelNote;
@@ -20,7 +20,7 @@ use words_roles::is_definition;
 // A label with this number.
 fn is_label(rows: &[i32], number: usize, row: usize) -> bool
     requires { 6 * (length rows.now / 6) ≡ length rows.now }
-    ensures { result ≡ isLabel rows.now number row }
+    ensures { result ≡ is_label rows.now number row }
 {
     if number_or_zero(rows, row, 0) == 53 {
         return number_or_zero(rows, row, 1) == number;
@@ -30,7 +30,7 @@ fn is_label(rows: &[i32], number: usize, row: usize) -> bool
 
 // A label marks its list.
 fn mark_label(rows: &[i32], firsts: &[u16], marks: &mut [u16], number: usize, row: usize)
-    requires { Tree rows.now × (row < length rows.now / 6) × Notes rows.now (noteAt First rows.now) firsts.now × Marked rows.now number row marks.old }
+    requires { Tree rows.now × (row < length rows.now / 6) × Notes rows.now (note_at First rows.now) firsts.now × Marked rows.now number row marks.old }
     ensures { Marked rows.now number (row + 1) marks.new }
 {
     if is_label(rows, number, row) {
@@ -48,7 +48,7 @@ pub fn mark_labels(
     number: usize,
     head: usize,
 )
-    requires { Tree rows.now × Notes rows.now (noteAt First rows.now) firsts.now × Chain rows.now 0 chain.now × Marks rows.now marks.old × NextJump rows.now number 0 head }
+    requires { Tree rows.now × Notes rows.now (note_at First rows.now) firsts.now × Chain rows.now 0 chain.now × Marks rows.now marks.old × NextJump rows.now number 0 head }
     ensures { Marked rows.now number (length rows.now / 6) marks.new }
 {
     let count = rows.len() / 6;
@@ -61,8 +61,8 @@ pub fn mark_labels(
 
 // The number's label is a later item of the row's list.
 fn is_behind(rows: &[i32], firsts: &[u16], marks: &[u16], number: usize, row: usize) -> bool
-    requires { Tree rows.now × (row < length rows.now / 6) × Notes rows.now (noteAt First rows.now) firsts.now × Marked rows.now number (length rows.now / 6) marks.now }
-    ensures { result ≡ labelBehind (length rows.now / 6) rows.now number row }
+    requires { Tree rows.now × (row < length rows.now / 6) × Notes rows.now (note_at First rows.now) firsts.now × Marked rows.now number (length rows.now / 6) marks.now }
+    ensures { result ≡ label_behind (length rows.now / 6) rows.now number row }
 {
     let first = wide(firsts[row]);
     let mark = wide(marks[first]);
@@ -74,8 +74,8 @@ fn is_behind(rows: &[i32], firsts: &[u16], marks: &[u16], number: usize, row: us
 
 // The owner of a row, where that is no definition; else 0.
 fn around(rows: &[i32], owners: &[u16], row: usize) -> usize
-    requires { Tree rows.now × (link rows.now 0 5 ≡ 0) × Notes rows.now (noteAt Owner rows.now) owners.now × (row < length rows.now / 6) }
-    ensures { result ≡ aroundAt rows.now row }
+    requires { Tree rows.now × (link rows.now 0 5 ≡ 0) × Notes rows.now (note_at Owner rows.now) owners.now × (row < length rows.now / 6) }
+    ensures { result ≡ around_at rows.now row }
 {
     let owner = wide(owners[row]);
     if is_definition(rows, owner) {
@@ -94,7 +94,7 @@ fn is_ahead(
     goto: usize,
 ) -> bool
     requires { Noted rows.now firsts.now owners.now × Marked rows.now number (length rows.now / 6) marks.now × (goto < length rows.now / 6) }
-    ensures { result ≡ labelAhead goto rows.now number goto }
+    ensures { result ≡ label_ahead goto rows.now number goto }
 {
     let mut row = goto;
     while row != 0 {
@@ -116,8 +116,8 @@ fn is_label_fault(
     seen: bool,
     row: usize,
 ) -> bool
-    requires { Noted rows.now firsts.now owners.now × Marked rows.now number (length rows.now / 6) marks.now × Jump rows.now number row × (seen ≡ some (isLabel rows.now number) 0 row) }
-    ensures { result ≡ labelFault rows.now row }
+    requires { Noted rows.now firsts.now owners.now × Marked rows.now number (length rows.now / 6) marks.now × Jump rows.now number row × (seen ≡ some (is_label rows.now number) 0 row) }
+    ensures { result ≡ label_fault rows.now row }
 {
     if number_at(rows, row, 0) == 53 {
         return seen;
@@ -127,8 +127,8 @@ fn is_label_fault(
 
 // A label with the number stands at the row or before it.
 fn has_seen(rows: &[i32], number: usize, seen: bool, row: usize) -> bool
-    requires { (6 * (length rows.now / 6) ≡ length rows.now) × (seen ≡ some (isLabel rows.now number) 0 row) }
-    ensures { result ≡ some (isLabel rows.now number) 0 (row + 1) }
+    requires { (6 * (length rows.now / 6) ≡ length rows.now) × (seen ≡ some (is_label rows.now number) 0 row) }
+    ensures { result ≡ some (is_label rows.now number) 0 (row + 1) }
 {
     if seen {
         return true;
@@ -160,8 +160,8 @@ pub fn lowest_of_number(
     head: usize,
     found: usize,
 ) -> usize
-    requires { Noted rows.now firsts.now owners.now × Marked rows.now number (length rows.now / 6) marks.now × Chain rows.now 0 chain.now × NextJump rows.now number 0 head × LowestAmong rows.now (NumberBelow rows.now number) (labelFault rows.now) found }
-    ensures { LowestAmong rows.now (NumberBelow rows.now (number + 1)) (labelFault rows.now) result }
+    requires { Noted rows.now firsts.now owners.now × Marked rows.now number (length rows.now / 6) marks.now × Chain rows.now 0 chain.now × NextJump rows.now number 0 head × LowestAmong rows.now (NumberBelow rows.now number) (label_fault rows.now) found }
+    ensures { LowestAmong rows.now (NumberBelow rows.now (number + 1)) (label_fault rows.now) result }
 {
     let count = rows.len() / 6;
     let mut lowest = found;
@@ -186,7 +186,7 @@ fn lowest_of_all(
     marks: &mut [u16],
 ) -> usize
     requires { Noted rows.now firsts.now owners.now × Heads rows.now 0 heads.now × Chain rows.now 0 chain.now × Marks rows.now marks.old }
-    ensures { LowestAmong rows.now (NumberBelow rows.now 40980) (labelFault rows.now) result }
+    ensures { LowestAmong rows.now (NumberBelow rows.now 40980) (label_fault rows.now) result }
 {
     let mut found = rows.len() / 6;
     for number in 0..40980 {
@@ -200,7 +200,7 @@ fn lowest_of_all(
 // The lowest row that is a goto without its label ahead, or a repeated label.
 pub fn lowest_label_fault(rows: &[i32]) -> Found
     requires { Tree rows.now × (link rows.now 0 5 ≡ 0) × LabelNumbers rows.now }
-    ensures { result ≡ lowestRow rows.now (labelFault rows.now) }
+    ensures { result ≡ lowest_row rows.now (label_fault rows.now) }
 {
     let mut firsts = [0u16; 40980];
     write_notes(LabelNote::First, rows, &mut firsts);

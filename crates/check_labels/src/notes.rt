@@ -3,7 +3,7 @@ ghost use Rattle.std.specs.Prelude.{◌≡◌, ◌+◌, ◌*◌, ◌/◌, ◌%�
 ghost use Rattle.check_grammar.specs.Grammar.{grammar};
 ghost use Rattle.check_structure.specs.Passes.{written, Notes};
 ghost use Rattle.check_structure.specs.Structured.{Tree};
-ghost use Rattle.check_labels.specs.Passes.{handed, noteAt};
+ghost use Rattle.check_labels.specs.Passes.{handed, note_at};
 
 use super::LabelNote;
 use check_grammar::kinds::kind_table;
@@ -48,7 +48,7 @@ fn write_note(kinds: &KindTable, which: LabelNote, rows: &[i32], notes: &mut [u1
 // The notes of all rows, in one pass: a row's own note is written before those of the rows that it links.
 fn write_notes_by(kinds: &KindTable, which: LabelNote, rows: &[i32], notes: &mut [u16])
     requires { Tree rows.now × (length rows.now / 6 ≤ length notes.old) × (get_or notes.old 0 0 ≡ 0) × (kinds.now ≡ grammar) }
-    ensures { Notes rows.now (noteAt which rows.now) notes.new }
+    ensures { Notes rows.now (note_at which rows.now) notes.new }
 {
     for word in 0..rows.len() {
         write_note(kinds, which, rows, notes, word);
@@ -58,7 +58,7 @@ fn write_notes_by(kinds: &KindTable, which: LabelNote, rows: &[i32], notes: &mut
 // The same, with the table of kinds: it is built here, once, and lent on.
 pub fn write_notes(which: LabelNote, rows: &[i32], notes: &mut [u16])
     requires { Tree rows.now × (length rows.now / 6 ≤ length notes.old) × (get_or notes.old 0 0 ≡ 0) }
-    ensures { Notes rows.now (noteAt which rows.now) notes.new }
+    ensures { Notes rows.now (note_at which rows.now) notes.new }
 {
     let kinds = kind_table();
     write_notes_by(&kinds, which, rows, notes);

@@ -4,18 +4,18 @@
 use Rattle.std.specs.Prelude.{◌≡◌, Bool, true, false, List, ℕ, ◌+◌, ◌*◌, ◌/◌, ◌%◌, ◌<◌, ◌≤◌, eqb, ℤ, length, get_or, set}
 use Rattle.std.specs.Int.Signed.{mag}
 use Rattle.words.specs.Word.{pick}
-use Rattle.words.specs.Table.{rowCount, word_at, number_at}
+use Rattle.words.specs.Table.{row_count, word_at, number_at}
 use Rattle.words.specs.declared.Found.{Found}
 use Rattle.words.specs.declared.Found.TheVariants.{At, Nothing}
 use Rattle.check_structure.specs.Lists.{Before}
-use Rattle.check_places.specs.Places.{isMark}
-use Rattle.check_marks.specs.Marks.{sameMark, markBefore, repeated}
+use Rattle.check_places.specs.Places.{is_mark}
+use Rattle.check_marks.specs.Marks.{same_mark, mark_before, repeated}
 
 -- ---- roots: the marks of one list share theirs
 
 -- The root of the mark before the row; the row itself where there is none.
-abbrev pub rootBy : ℕ → List ℕ → ℕ → ℕ
-rootBy before roots row = pick (eqb before 0) row (get_or roots before 0)
+abbrev pub root_by : ℕ → List ℕ → ℕ → ℕ
+root_by before roots row = pick (eqb before 0) row (get_or roots before 0)
 
 -- A node stands before the row in its list. (Row 0 is no node: 0 says that a child is absent.)
 pub record NodeBefore (rows : List ℤ) (node row : ℕ) : Type 0 where
@@ -29,9 +29,9 @@ pub data Begins (rows : List ℤ) : ℕ → ℕ → Type 0 where
 
 -- The roots of the first `count` rows are written.
 pub record Roots (rows : List ℤ) (count : ℕ) (roots : List ℕ) : Type 0 where
-  pub room : rowCount rows ≤ length roots
+  pub room : row_count rows ≤ length roots
   pub begins : (row : ℕ) → row < count → Begins rows (get_or roots row 0) row
-  pub shared : (row : ℕ) → row < count → (markBefore rows row ≡ 0 → ⊥) → get_or roots row 0 ≡ get_or roots (markBefore rows row) 0
+  pub shared : (row : ℕ) → row < count → (mark_before rows row ≡ 0 → ⊥) → get_or roots row 0 ≡ get_or roots (mark_before rows row) 0
 
 -- ---- ways down a tree
 
@@ -56,13 +56,13 @@ pub record Reached (children : List ℕ) (root key mark : ℕ) : Type 0 where
 
 -- A child stands behind its node in their list, and at a row before this one.
 pub record Children (rows : List ℤ) (row : ℕ) (children : List ℕ) : Type 0 where
-  pub room : 2 * rowCount rows ≤ length children
+  pub room : 2 * row_count rows ≤ length children
   pub behind : (place : ℕ) → (get_or children place 0 ≡ 0 → ⊥) → Before rows (place / 2) (get_or children place 0)
   pub lower : (place : ℕ) → (get_or children place 0 ≡ 0 → ⊥) → get_or children place 0 < row
 
 -- If the row is a mark, it is in its list's tree.
 abbrev pub InTree : List ℤ → List ℕ → List ℕ → ℕ → Type 0
-InTree rows roots children mark = isMark (number_at rows mark 0) ≡ true → Reached children (get_or roots mark 0) (key_at rows mark) mark
+InTree rows roots children mark = is_mark (number_at rows mark 0) ≡ true → Reached children (get_or roots mark 0) (key_at rows mark) mark
 
 -- Every mark before the row is in its list's tree.
 pub record HoldsMarks (rows : List ℤ) (roots : List ℕ) (row : ℕ) (children : List ℕ) : Type 0 where
@@ -74,7 +74,7 @@ pub record Free (rows : List ℤ) (children : List ℕ) (root row place : ℕ) :
   pub behind : Before rows (place / 2) row
   pub absent : get_or children place 0 ≡ 0
   pub reaches : Reached (set children place row) root (key_at rows row) row
-  pub differ : (mark : ℕ) → Reached children root (key_at rows row) mark → sameMark rows mark row ≡ false
+  pub differ : (mark : ℕ) → Reached children root (key_at rows row) mark → same_mark rows mark row ≡ false
 
 -- A mark has a free place, or is a repeated one.
 abbrev pub Placing : List ℤ → List ℕ → ℕ → ℕ → Found → Type 0
@@ -83,7 +83,7 @@ Placing rows children root row Nothing = repeated rows row ≡ true
 
 -- The row is taken in, and is no repeated mark.
 pub record Taken (rows : List ℤ) (roots : List ℕ) (row : ℕ) (children : List ℕ) : Type 0 where
-  pub holds-marks : HoldsMarks rows roots (row + 1) children
+  pub holds_marks : HoldsMarks rows roots (row + 1) children
   pub new : repeated rows row ≡ false
 
 -- It is taken in, or is a repeated mark.

@@ -14,16 +14,16 @@ use Rattle.std.proofs.lemmas.List.{length-replicate}
 use Rattle.std.specs.Int.Signed.{mag}
 use Rattle.std.proofs.lemmas.Bool.{eqb-false}
 use Rattle.words.specs.Word.{pick}
-use Rattle.words.specs.Table.{rowCount, word_at, number_at}
-use Rattle.words.specs.Laws.{by_cases, both, sameWord-equal}
+use Rattle.words.specs.Table.{row_count, word_at, number_at}
+use Rattle.words.specs.Laws.{by_cases, both, same_word-equal}
 use Rattle.words.specs.Links.{link}
 use Rattle.check_structure.specs.Structured.{Tree}
-use Rattle.check_items.specs.Items.{someFrom, someEarlier}
-use Rattle.check_items.specs.EarlierLaws.{nearest}
-use Rattle.check_places.specs.Places.{isMark, markAt}
-use Rattle.check_marks.specs.Marks.{sameMark, markBefore, repeated}
+use Rattle.check_items.specs.Items.{some_from, some_earlier}
+use Rattle.check_items.proofs.EarlierLaws.{nearest}
+use Rattle.check_places.specs.Places.{is_mark, mark_at}
+use Rattle.check_marks.specs.Marks.{same_mark, mark_before, repeated}
 use Rattle.check_structure.specs.Lists.{Before, adjacent, further, before-later, before-before}
-use Rattle.check_marks.specs.MarkTree.{rootBy, Begins, itself, earlier, Roots, NodeBefore, key_at, child, Leading, stay, down, Reached, Children, InTree, HoldsMarks, Free, Taken}
+use Rattle.check_marks.specs.MarkTree.{root_by, Begins, itself, earlier, Roots, NodeBefore, key_at, child, Leading, stay, down, Reached, Children, InTree, HoldsMarks, Free, Taken}
 use Rattle.check_marks.specs.DistinctLaws.{repeated-by}
 
 -- what holds of each number below n, and of n, holds below n + 1
@@ -66,12 +66,12 @@ module _ (rows : List ℤ) (t : Tree rows) where
 -- ---- roots
 
 module _ (rows : List ℤ) (t : Tree rows) where
-  pub roots-start : (roots : List ℕ) → rowCount rows ≤ length roots → Roots rows 0 roots
+  pub roots-start : (roots : List ℕ) → row_count rows ≤ length roots → Roots rows 0 roots
   roots-start roots room = record { room = room; begins = λ row h. absurd (omega arith); shared = λ row h. absurd (omega arith) }
 
   -- the mark before a row stands at a lower one
-  noted-lower : (row : ℕ) → row < rowCount rows → (markBefore rows row ≡ 0 → ⊥) → markBefore rows row < row
-  noted-lower row n p = before-later (nearest rows t (markAt rows) row n p).before
+  noted-lower : (row : ℕ) → row < row_count rows → (mark_before rows row ≡ 0 → ⊥) → mark_before rows row < row
+  noted-lower row n p = before-later (nearest rows t (mark_at rows) row n p).before
 
   begins-lower : {root row : ℕ} → Begins rows root row → root ≤ row
   begins-lower itself = omega arith
@@ -82,15 +82,15 @@ module _ (rows : List ℤ) (t : Tree rows) where
   begins-on itself p b = earlier (record { present = p; before = b })
   begins-on (earlier a) p b = earlier (record { present = a.present; before = before-before a.before b })
 
-  module _ (row : ℕ) (roots : List ℕ) (r : Roots rows row roots) (n : row < rowCount rows) where
-    root-begins : Begins rows (rootBy (markBefore rows row) roots row) row
-    root-begins = go (ℕ_discrete (markBefore rows row) 0)
+  module _ (row : ℕ) (roots : List ℕ) (r : Roots rows row roots) (n : row < row_count rows) where
+    root-begins : Begins rows (root_by (mark_before rows row) roots row) row
+    root-begins = go (ℕ_discrete (mark_before rows row) 0)
       where
-        go : Dec (markBefore rows row ≡ 0) → Begins rows (rootBy (markBefore rows row) roots row) row
+        go : Dec (mark_before rows row ≡ 0) → Begins rows (root_by (mark_before rows row) roots row) row
         go (yes q) = rw (eq-eqb _ _ q) itself
-        go (no q) = rw (ne_eqb _ _ q) (begins-on (r.begins _ (noted-lower row n q)) q (nearest rows t (markAt rows) row n q).before)
+        go (no q) = rw (ne_eqb _ _ q) (begins-on (r.begins _ (noted-lower row n q)) q (nearest rows t (mark_at rows) row n q).before)
 
-    pub roots-next : (root : ℕ) → root ≡ rootBy (markBefore rows row) roots row → Roots rows (row + 1) (set roots row root)
+    pub roots-next : (root : ℕ) → root ≡ root_by (mark_before rows row) roots row → Roots rows (row + 1) (set roots row root)
     roots-next root e =
         let room = r.room in
         let here : get_or (set roots row root) row 0 ≡ root = get_or-set_same roots row root 0 (omega arith) in
@@ -100,7 +100,7 @@ module _ (rows : List ℤ) (t : Tree rows) where
           begins = below_next (λ (m : ℕ). Begins rows (get_or (set roots row root) m 0) m) row
               (λ m h. rw (other m h) (r.begins m h))
               (rw (here, e) root-begins);
-          shared = below_next (λ (m : ℕ). (markBefore rows m ≡ 0 → ⊥) → get_or (set roots row root) m 0 ≡ get_or (set roots row root) (markBefore rows m) 0) row
+          shared = below_next (λ (m : ℕ). (mark_before rows m ≡ 0 → ⊥) → get_or (set roots row root) m 0 ≡ get_or (set roots row root) (mark_before rows m) 0) row
               (λ m h p. other m h ∙ r.shared m h p ∙ sym (other _ (let l = noted-lower m (omega arith) p in omega arith)))
               (λ p. here ∙ e ∙ rw (ne_eqb _ _ p) (sym (other _ (noted-lower row n p))));
         }
@@ -127,38 +127,38 @@ module _ {children : List ℕ} where
 
 -- ---- the marks before a row
 
-same-mark-parts : (rows : List ℤ) (mark row : ℕ) → sameMark rows mark row ≡ true → (number_at rows mark 0 ≡ number_at rows row 0) × (word_at rows mark 1 ≡ word_at rows row 1)
-unfolding sameMark
+same-mark-parts : (rows : List ℤ) (mark row : ℕ) → same_mark rows mark row ≡ true → (number_at rows mark 0 ≡ number_at rows row 0) × (word_at rows mark 1 ≡ word_at rows row 1)
+unfolding same_mark
 same-mark-parts rows mark row e =
     let parts = both (eqb (number_at rows mark 0) (number_at rows row 0)) _ e in
-    (eqb-true _ _ parts.0, sameWord-equal _ _ parts.1)
+    (eqb-true _ _ parts.0, same_word-equal _ _ parts.1)
 
 same_key : (rows : List ℤ) (mark row : ℕ) → word_at rows mark 1 ≡ word_at rows row 1 → key_at rows mark ≡ key_at rows row
 unfolding key_at
 same_key rows mark row e = ap mag e
 
-module _ (rows : List ℤ) (t : Tree rows) (roots : List ℕ) (r : Roots rows (rowCount rows) roots) (row : ℕ) (n : row < rowCount rows) where
+module _ (rows : List ℤ) (t : Tree rows) (roots : List ℕ) (r : Roots rows (row_count rows) roots) (row : ℕ) (n : row < row_count rows) where
   -- a search back through the marks before a row finds none that is equal, if no mark with the row's root is
-  module _ (differ : (mark : ℕ) → mark < row → get_or roots mark 0 ≡ get_or roots row 0 → sameMark rows mark row ≡ false) where
-    none_equal : (marks mark : ℕ) → ((mark ≡ 0 → ⊥) → (mark < row) × (get_or roots mark 0 ≡ get_or roots row 0)) → someFrom marks (markAt rows) (λ (m : ℕ). sameMark rows m row) rows mark ≡ false
-    unfolding someFrom
+  module _ (differ : (mark : ℕ) → mark < row → get_or roots mark 0 ≡ get_or roots row 0 → same_mark rows mark row ≡ false) where
+    none_equal : (marks mark : ℕ) → ((mark ≡ 0 → ⊥) → (mark < row) × (get_or roots mark 0 ≡ get_or roots row 0)) → some_from marks (mark_at rows) (λ (m : ℕ). same_mark rows m row) rows mark ≡ false
+    unfolding some_from
     none_equal zero mark h = refl
-    none_equal (suc marks) mark h = go (ℕ_discrete mark 0) (none_equal marks (markBefore rows mark))
+    none_equal (suc marks) mark h = go (ℕ_discrete mark 0) (none_equal marks (mark_before rows mark))
       where
-        go : Dec (mark ≡ 0) → (((markBefore rows mark ≡ 0 → ⊥) → (markBefore rows mark < row) × (get_or roots (markBefore rows mark) 0 ≡ get_or roots row 0)) → someFrom marks (markAt rows) (λ (m : ℕ). sameMark rows m row) rows (markBefore rows mark) ≡ false)
-            → pick (eqb mark 0) false (pick (sameMark rows mark row) true (someFrom marks (markAt rows) (λ (m : ℕ). sameMark rows m row) rows (markBefore rows mark))) ≡ false
+        go : Dec (mark ≡ 0) → (((mark_before rows mark ≡ 0 → ⊥) → (mark_before rows mark < row) × (get_or roots (mark_before rows mark) 0 ≡ get_or roots row 0)) → some_from marks (mark_at rows) (λ (m : ℕ). same_mark rows m row) rows (mark_before rows mark) ≡ false)
+            → pick (eqb mark 0) false (pick (same_mark rows mark row) true (some_from marks (mark_at rows) (λ (m : ℕ). same_mark rows m row) rows (mark_before rows mark))) ≡ false
         go (yes q) rest = rw (eq-eqb _ _ q)
         go (no q) rest =
             let here = h q in
-            let inside : mark < rowCount rows = (let l = here.0 in omega arith) in
+            let inside : mark < row_count rows = (let l = here.0 in omega arith) in
             rw (ne_eqb _ _ q, differ mark here.0 here.1)
             (rest (λ p. (let l = noted-lower rows t mark inside p in let k = here.0 in omega arith, sym (r.shared mark inside p) ∙ here.1)))
 
     none-repeated : repeated rows row ≡ false
-    unfolding repeated someEarlier
+    unfolding repeated some_earlier
     none-repeated =
-        let search = none_equal (markBefore rows row) (markBefore rows row) (λ p. (noted-lower rows t row n p, sym (r.shared row n p))) in
-        by_cases (isMark (number_at rows row 0)) (λ k. rw k search) (λ k. rw k)
+        let search = none_equal (mark_before rows row) (mark_before rows row) (λ p. (noted-lower rows t row n p, sym (r.shared row n p))) in
+        by_cases (is_mark (number_at rows row 0)) (λ k. rw k search) (λ k. rw k)
 
 -- ---- trees
 
@@ -167,7 +167,7 @@ zeros zero i = refl
 zeros (suc n) zero = refl
 zeros (suc n) (suc i) = zeros n i
 
-pub holds-marks-start : (rows : List ℤ) (roots : List ℕ) (n : ℕ) → 2 * rowCount rows ≤ n → HoldsMarks rows roots 0 (replicate n 0)
+pub holds-marks-start : (rows : List ℤ) (roots : List ℕ) (n : ℕ) → 2 * row_count rows ≤ n → HoldsMarks rows roots 0 (replicate n 0)
 holds-marks-start rows roots n room =
     record {
       nodes = record {
@@ -178,16 +178,16 @@ holds-marks-start rows roots n room =
       reached = λ mark h. absurd (omega arith);
     }
 
-module _ (rows : List ℤ) (t : Tree rows) (roots : List ℕ) (r : Roots rows (rowCount rows) roots) (row : ℕ) (n : row < rowCount rows) (children : List ℕ) (p : HoldsMarks rows roots row children) where
+module _ (rows : List ℤ) (t : Tree rows) (roots : List ℕ) (r : Roots rows (row_count rows) roots) (row : ℕ) (n : row < row_count rows) (children : List ℕ) (p : HoldsMarks rows roots row children) where
   later : Children rows (row + 1) children
   later = record { room = p.nodes.room; behind = p.nodes.behind; lower = λ place q. let b = p.nodes.lower place q in omega arith }
 
   -- no mark
-  pub taken-other : isMark (number_at rows row 0) ≡ false → Taken rows roots row children
+  pub taken-other : is_mark (number_at rows row 0) ≡ false → Taken rows roots row children
   unfolding repeated
   taken-other k =
       record {
-        holds-marks = record {
+        holds_marks = record {
           nodes = later;
           reached = below_next (InTree rows roots children) row p.reached (λ m. absurd (true≢false (sym m ∙ k)));
         };
@@ -198,7 +198,7 @@ module _ (rows : List ℤ) (t : Tree rows) (roots : List ℕ) (r : Roots rows (r
   pub taken-root : get_or roots row 0 ≡ row → Taken rows roots row children
   taken-root e =
       record {
-        holds-marks = record {
+        holds_marks = record {
           nodes = later;
           reached = below_next (InTree rows roots children) row p.reached
               (λ m. rw e (record { rest = key_at rows row; leads = stay }));
@@ -206,13 +206,13 @@ module _ (rows : List ℤ) (t : Tree rows) (roots : List ℕ) (r : Roots rows (r
         new = none-repeated rows t roots r row n (λ mark h same. absurd (let l = begins-lower rows t (r.begins mark (omega arith)) in omega arith));
       }
 
-  module _ (place : ℕ) (k : isMark (number_at rows row 0) ≡ true) (free : Free rows children (get_or roots row 0) row place) where
-    all-differ : (mark : ℕ) → mark < row → get_or roots mark 0 ≡ get_or roots row 0 → sameMark rows mark row ≡ false
+  module _ (place : ℕ) (k : is_mark (number_at rows row 0) ≡ true) (free : Free rows children (get_or roots row 0) row place) where
+    all-differ : (mark : ℕ) → mark < row → get_or roots mark 0 ≡ get_or roots row 0 → same_mark rows mark row ≡ false
     all-differ mark h root =
-        by_cases (sameMark rows mark row)
+        by_cases (same_mark rows mark row)
         (λ e.
         let same = same-mark-parts rows mark row e in
-        free.differ mark (rw (root, same_key rows mark row same.1) at (p.reached mark h (ap isMark same.0 ∙ k))))
+        free.differ mark (rw (root, same_key rows mark row same.1) at (p.reached mark h (ap is_mark same.0 ∙ k))))
         (λ e. e)
 
     nodes : Children rows (row + 1) (set children place row)
@@ -229,7 +229,7 @@ module _ (rows : List ℤ) (t : Tree rows) (roots : List ℕ) (r : Roots rows (r
     pub taken_free : Taken rows roots row (set children place row)
     taken_free =
         record {
-          holds-marks = record {
+          holds_marks = record {
             nodes = nodes;
             reached = below_next (InTree rows roots (set children place row)) row
                 (λ mark h m. let w = p.reached mark h m in record { rest = w.rest; leads = leading-set place row free.absent w.leads })
@@ -247,25 +247,25 @@ root_before rows (earlier b) q = b
 
 -- A key leads the search for a row's place from the root to a node, and all marks that the row repeats stand below that.
 pub record Searched (rows : List ℤ) (children : List ℕ) (root row node key : ℕ) : Type 0 where
-  pub node-before : NodeBefore rows node row
+  pub node_before : NodeBefore rows node row
   pub way : Leading children root (key_at rows row) node key
-  pub below : (mark rest : ℕ) → Leading children root (key_at rows row) mark rest → sameMark rows mark row ≡ true → Leading children node key mark rest
+  pub below : (mark rest : ℕ) → Leading children root (key_at rows row) mark rest → same_mark rows mark row ≡ true → Leading children node key mark rest
 
 pub searched-start : (rows : List ℤ) (children : List ℕ) (root row key : ℕ) → NodeBefore rows root row → key ≡ key_at rows row → Searched rows children root row root key
-searched-start rows children root row key b e = rw e (record { node-before = b; way = stay; below = λ mark rest way same. way })
+searched-start rows children root row key b e = rw e (record { node_before = b; way = stay; below = λ mark rest way same. way })
 
 module _ {rows : List ℤ} (t : Tree rows) {children : List ℕ} {root row node key : ℕ} (s : Searched rows children root row node key) where
   pub node-lower : node < row
-  node-lower = before-later s.node-before.before
+  node-lower = before-later s.node_before.before
 
-  pub searched-equal : isMark (number_at rows row 0) ≡ true → sameMark rows node row ≡ true → repeated rows row ≡ true
+  pub searched-equal : is_mark (number_at rows row 0) ≡ true → same_mark rows node row ≡ true → repeated rows row ≡ true
   searched-equal k e =
       let same = same-mark-parts rows node row e in
-      repeated-by rows t row node k (record { before = s.node-before.before; kind = same.0; value = same.1 }) s.node-before.present
+      repeated-by rows t row node k (record { before = s.node_before.before; kind = same.0; value = same.1 }) s.node_before.present
 
-  module _ (other : sameMark rows node row ≡ false) where
-    past : (mark rest : ℕ) → Leading children root (key_at rows row) mark rest → sameMark rows mark row ≡ true → (child children node key ≡ 0 → ⊥) × Leading children (child children node key) (key / 2) mark rest
-    past mark rest way same = leading-past (s.below mark rest way same) (λ q. true≢false (sym same ∙ ap (λ (x : ℕ). sameMark rows x row) q ∙ other))
+  module _ (other : same_mark rows node row ≡ false) where
+    past : (mark rest : ℕ) → Leading children root (key_at rows row) mark rest → same_mark rows mark row ≡ true → (child children node key ≡ 0 → ⊥) × Leading children (child children node key) (key / 2) mark rest
+    past mark rest way same = leading-past (s.below mark rest way same) (λ q. true≢false (sym same ∙ ap (λ (x : ℕ). same_mark rows x row) q ∙ other))
 
     -- where the child is absent, the row may take its place
     pub searched-free : child children node key ≡ 0 → 2 * node + key % 2 < length children → Free rows children root row (2 * node + key % 2)
@@ -275,11 +275,11 @@ module _ {rows : List ℤ} (t : Tree rows) {children : List ℕ} {root row node 
         let here : child (set children (2 * node + key % 2) row) node key ≡ row = get_or-set_same children (2 * node + key % 2) row 0 inside in
         let way = leading-set (2 * node + key % 2) row z s.way in
         record {
-          behind = rw half s.node-before.before;
+          behind = rw half s.node_before.before;
           absent = z;
           reaches = record { rest = key / 2; leads = rw here at (leading-on way (λ q. omega arith)) };
           differ = λ mark reached.
-              by_cases (sameMark rows mark row) (λ same. absurd ((past mark reached.rest reached.leads same).0 z)) (λ e. e);
+              by_cases (same_mark rows mark row) (λ same. absurd ((past mark reached.rest reached.leads same).0 z)) (λ e. e);
         }
 
     module _ (nodes : Children rows row children) (below : ℕ) (is : below ≡ child children node key) (present : below ≡ 0 → ⊥) where
@@ -298,7 +298,7 @@ module _ {rows : List ℤ} (t : Tree rows) {children : List ℕ} {root row node 
       pub searched-on : Searched rows children root row below (key / 2)
       searched-on =
           record {
-            node-before = record { before = in_order rows t row child-behind s.node-before.before child-lower (omega arith); present = present };
+            node_before = record { before = in_order rows t row child-behind s.node_before.before child-lower (omega arith); present = present };
             way = rw (← is) at (leading-on s.way (λ q. present (is ∙ q)));
             below = λ mark rest way same. rw (← is) at (past mark rest way same).1;
           }

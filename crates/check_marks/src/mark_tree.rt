@@ -6,9 +6,9 @@ ghost use Rattle.std.specs.Int.Signed.{mag};
 ghost use Rattle.words.specs.Table.{number_at};
 ghost use Rattle.check_structure.specs.Structured.{Tree};
 ghost use Rattle.check_structure.specs.Passes.{Notes};
-ghost use Rattle.check_places.specs.Places.{isMark};
-ghost use Rattle.check_marks.specs.Marks.{sameMark, markBefore};
-ghost use Rattle.check_marks.specs.MarkTree.{rootBy, NodeBefore, Roots, Children, HoldsMarks, Placing, Taking};
+ghost use Rattle.check_places.specs.Places.{is_mark};
+ghost use Rattle.check_marks.specs.Marks.{same_mark, mark_before};
+ghost use Rattle.check_marks.specs.MarkTree.{root_by, NodeBefore, Roots, Children, HoldsMarks, Placing, Taking};
 
 use check_grammar::between;
 use check_structure::row_number::{narrow, wide};
@@ -17,7 +17,7 @@ use words::table::{natural, number_at, word_at};
 
 fn same_mark(rows: &[i32], mark: usize, row: usize) -> bool
     requires { (6 * mark + 5 < length rows.now) × (6 * row + 5 < length rows.now) }
-    ensures { result ≡ sameMark rows.now mark row }
+    ensures { result ≡ same_mark rows.now mark row }
 {
     if number_at(rows, mark, 0) == number_at(rows, row, 0) {
         return word_at(rows, mark, 1) == word_at(rows, row, 1);
@@ -38,7 +38,7 @@ fn key_of(word: i32) -> usize
 // The first mark of the row's list up to the row, or the row itself where no mark is before it.
 fn root_of(before: &[u16], roots: &[u16], row: usize) -> u16
     requires { (row < 65536) × (row < length before.now) × (get_or before.now row 0 < length roots.now) }
-    ensures { result ≡ rootBy (get_or before.now row 0) roots.now row }
+    ensures { result ≡ root_by (get_or before.now row 0) roots.now row }
 {
     let mark = wide(before[row]);
     if mark == 0 {
@@ -49,7 +49,7 @@ fn root_of(before: &[u16], roots: &[u16], row: usize) -> u16
 
 // The roots of all rows, in order: a mark stands behind those before it in its list.
 pub fn write_roots(rows: &[i32], before: &[u16], roots: &mut [u16])
-    requires { Tree rows.now × Notes rows.now (markBefore rows.now) before.now × (length rows.now / 6 ≤ length roots.old) }
+    requires { Tree rows.now × Notes rows.now (mark_before rows.now) before.now × (length rows.now / 6 ≤ length roots.old) }
     ensures { Roots rows.now (length rows.now / 6) roots.new }
 {
     for row in 0..rows.len() / 6 {
@@ -61,7 +61,7 @@ pub fn write_roots(rows: &[i32], before: &[u16], roots: &mut [u16])
 // Looks from the root down for the row's mark. Answers the absent child where its key leads, or nothing where an equal mark stands on
 // the way.
 fn free_place(rows: &[i32], children: &[u16], root: usize, row: usize) -> Found
-    requires { Tree rows.now × Children rows.now row children.now × NodeBefore rows.now root row × (isMark (number_at rows.now row 0) ≡ true) × (row < length rows.now / 6) }
+    requires { Tree rows.now × Children rows.now row children.now × NodeBefore rows.now root row × (is_mark (number_at rows.now row 0) ≡ true) × (row < length rows.now / 6) }
     ensures { Placing rows.now children.now root row result }
 {
     let mut node = root;

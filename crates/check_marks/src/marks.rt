@@ -1,10 +1,10 @@
 // Cause 8: a second equal case, or a second default, in one switch. Each mark knows the mark before it in its list.
 ghost use Rattle.std.specs.Prelude.{◌≡◌, ◌/◌, ◌≤◌, length};
-ghost use Rattle.words.specs.Search.{lowestRow};
+ghost use Rattle.words.specs.Search.{lowest_row};
 ghost use Rattle.check_structure.specs.Structured.{Tree};
 ghost use Rattle.check_structure.specs.Passes.{Notes};
-ghost use Rattle.check_notes.specs.RowNotes.{noteAt};
-ghost use Rattle.check_places.specs.Places.{markBefore};
+ghost use Rattle.check_notes.specs.RowNotes.{note_at};
+ghost use Rattle.check_places.specs.Places.{mark_before};
 ghost use Rattle.check_marks.specs.Marks.{repeated};
 ghost use Rattle.check_marks.specs.MarkTree.{Roots, HoldsMarks};
 
@@ -14,7 +14,7 @@ use words::Found;
 // The lowest repeated mark: the first row that is not taken in. The trees hold no mark yet.
 fn lowest_repeated_row(rows: &[i32], roots: &[u16], children: &mut [u16]) -> Found
     requires { Tree rows.now × Roots rows.now (length rows.now / 6) roots.now × HoldsMarks rows.now roots.now 0 children.old }
-    ensures { result ≡ lowestRow rows.now (repeated rows.now) }
+    ensures { result ≡ lowest_row rows.now (repeated rows.now) }
 {
     let count = rows.len() / 6;
     let mut row: usize = 0;
@@ -29,8 +29,8 @@ fn lowest_repeated_row(rows: &[i32], roots: &[u16], children: &mut [u16]) -> Fou
 
 // The lowest repeated mark, with the mark before each row.
 pub fn lowest_repeated(rows: &[i32], before: &[u16]) -> Found
-    requires { Tree rows.now × (length rows.now / 6 ≤ 2048) × Notes rows.now (noteAt markBefore rows.now) before.now }
-    ensures { result ≡ lowestRow rows.now (repeated rows.now) }
+    requires { Tree rows.now × (length rows.now / 6 ≤ 2048) × Notes rows.now (note_at mark_before rows.now) before.now }
+    ensures { result ≡ lowest_row rows.now (repeated rows.now) }
 {
     let mut roots = [0u16; 2048];
     let mut children = [0u16; 4096];

@@ -2,33 +2,33 @@
 -- pass over the words writes every row's note.
 use Rattle.std.specs.Prelude.{◌≡◌, refl, List, ℕ, ◌+◌, ◌≤◌, ◌<◌, ℤ, length, get_or}
 use Rattle.std.proofs.Common.{◌∙◌, arith}
-use Rattle.words.specs.Table.{rowCount, number_at}
+use Rattle.words.specs.Table.{row_count, number_at}
 use Rattle.words.specs.Kinds.{between}
 use Rattle.words.specs.Links.{link}
 use Rattle.check_structure.specs.NoteLaws.{note-root, note-link, Noted, noted-start}
 use Rattle.check_structure.specs.Passes.{written, Notes}
 use Rattle.check_structure.specs.Structured.{Leads, Tree}
 use Rattle.check_structure.specs.WrittenLaws.{written-length, written-noted, notes-written}
-use Rattle.check_items.specs.Items.{item_at, earlierAt}
-use Rattle.check_notes.specs.RowNotes.{handed, noteAt}
+use Rattle.check_items.specs.Items.{item_at, earlier_at}
+use Rattle.check_notes.specs.RowNotes.{handed, note_at}
 use Rattle.check_notes.specs.declared.Note.{Note}
 use Rattle.check_notes.specs.declared.Note.TheVariants.{ItemOf, Before}
 
-pub noteAt-root : (which : Note) (rows : List ℤ) → noteAt which rows 0 ≡ 0
-unfolding noteAt
-noteAt-root which rows = note-root (handed which rows) 0 rows
+pub note_at-root : (which : Note) (rows : List ℤ) → note_at which rows 0 ≡ 0
+unfolding note_at
+note_at-root which rows = note-root (handed which rows) 0 rows
 
-pub noteAt-link : (rows : List ℤ) → Tree rows → (which : Note) (row field : ℕ) → field < 6 → Leads rows row field
-    → noteAt which rows (link rows row field) ≡ handed which rows row field (noteAt which rows row)
-unfolding noteAt
-noteAt-link rows t which row field h leads = note-link (handed which rows) 0 rows t row field h leads
+pub note_at-link : (rows : List ℤ) → Tree rows → (which : Note) (row field : ℕ) → field < 6 → Leads rows row field
+    → note_at which rows (link rows row field) ≡ handed which rows row field (note_at which rows row)
+unfolding note_at
+note_at-link rows t which row field h leads = note-link (handed which rows) 0 rows t row field h leads
 
-pub item-note : (kind part : ℕ) (rows : List ℤ) (row : ℕ) → noteAt (ItemOf kind part) rows row ≡ item_at rows kind part row
-unfolding noteAt handed item_at
+pub item-note : (kind part : ℕ) (rows : List ℤ) (row : ℕ) → note_at (ItemOf kind part) rows row ≡ item_at rows kind part row
+unfolding note_at handed item_at
 item-note kind part rows row = refl
 
-pub before-note : (first last : ℕ) (rows : List ℤ) (row : ℕ) → noteAt (Before first last) rows row ≡ earlierAt (λ row. between first last (number_at rows row 0)) rows row
-unfolding noteAt handed earlierAt
+pub before-note : (first last : ℕ) (rows : List ℤ) (row : ℕ) → note_at (Before first last) rows row ≡ earlier_at (λ row. between first last (number_at rows row 0)) rows row
+unfolding note_at handed earlier_at
 before-note first last rows row = refl
 
 -- notes in an array are those of any equal note
@@ -43,7 +43,7 @@ pub record Noting (which : Note) (rows : List ℤ) (start : List ℕ) (words : �
   pub noted : (t : Tree rows) → Noted (handed which rows) 0 rows t words notes
 
 module _ {which : Note} {rows : List ℤ} {start : List ℕ} where
-  pub noting-begun : rowCount rows ≤ length start → get_or start 0 0 ≡ 0 → Noting which rows start 0 start
+  pub noting-begun : row_count rows ≤ length start → get_or start 0 0 ≡ 0 → Noting which rows start 0 start
   noting-begun room root = record { same = refl; noted = λ t. noted-start _ _ _ t _ room root }
 
   pub noting-on : {words : ℕ} {notes next : List ℕ} → words < length rows → Noting which rows start words notes → next ≡ written (handed which rows) rows words notes → Noting which rows start (words + 1) next
@@ -53,6 +53,6 @@ module _ {which : Note} {rows : List ℤ} {start : List ℕ} where
         noted = λ t. rw e (written-noted _ _ _ _ _ t (let whole = t.whole in omega arith) (n.noted t));
       }
 
-  pub noting-ended : {words : ℕ} {notes : List ℕ} → (t : Tree rows) → length rows ≤ words → Noting which rows start words notes → Notes rows (noteAt which rows) notes
-  unfolding noteAt
+  pub noting-ended : {words : ℕ} {notes : List ℕ} → (t : Tree rows) → length rows ≤ words → Noting which rows start words notes → Notes rows (note_at which rows) notes
+  unfolding note_at
   noting-ended t h n = notes-written _ _ _ t _ _ (let whole = t.whole in omega arith) (n.noted t)

@@ -1,4 +1,6 @@
 // Notes along the links: what a row hands to each row that it links, and a pass over the words that writes the notes of all rows.
+#![tactic(auto)]
+
 ghost use Rattle.std.specs.Prelude.{◌≡◌, ◌&&◌, ◌+◌, ◌*◌, ◌/◌, ◌<◌, ◌≤◌, eqb, length, get_or};
 ghost use Rattle.words.specs.Word.{pick};
 ghost use Rattle.words.specs.Table.{number_at};
@@ -6,7 +8,7 @@ ghost use Rattle.words.specs.Links.{target};
 ghost use Rattle.check_grammar.specs.Grammar.{grammar};
 ghost use Rattle.check_structure.specs.Structured.{Tree};
 ghost use Rattle.check_structure.specs.Passes.{written, Notes};
-ghost use Rattle.check_notes.specs.RowNotes.{handed, noteAt};
+ghost use Rattle.check_notes.specs.RowNotes.{handed, note_at};
 ghost use Rattle.check_notes.specs.declared.Note.TheVariants.{Inside, Before};
 
 use check_grammar::{KindTable, between, link};
@@ -15,7 +17,7 @@ use check_structure::row_number::{narrow, wide};
 use words::table::number_at;
 
 // What is noted of each row.
-#[derive(Drop)]
+#[derive(Clone, Copy)]
 pub enum Note {
     // 1 inside a row of the kinds from the first to the last
     Inside(usize, usize),
@@ -170,7 +172,7 @@ pub fn write_note(which: Note, rows: &[i32], notes: &mut [u16], word: usize, lin
 // The notes of all rows, in one pass: a row's own note is written before those of the rows that it links.
 pub fn write_notes(which: Note, kinds: &KindTable, rows: &[i32], notes: &mut [u16])
     requires { Tree rows.now × (length rows.now / 6 ≤ length notes.old) × (get_or notes.old 0 0 ≡ 0) × (kinds.now ≡ grammar) }
-    ensures { Notes rows.now (noteAt which rows.now) notes.new }
+    ensures { Notes rows.now (note_at which rows.now) notes.new }
 {
     for word in 0..rows.len() {
         let linked = link(kinds, rows, word / 6, word % 6);

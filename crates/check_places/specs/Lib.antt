@@ -5,6 +5,3 @@
 pub mod Places
 -- Passes: the notes that one pass writes for causes 7 and 8.
 pub mod Passes
--- ---- laws
--- Laws of the notes: those inside loops and switches, those of switch items and of marks.
-pub mod NoteLaws

@@ -6,7 +6,7 @@ ghost use Rattle.check_structure.specs.Structured.{Tree};
 ghost use Rattle.check_structure.specs.Passes.{written};
 ghost use Rattle.check_notes.specs.RowNotes.{handed};
 ghost use Rattle.check_places.specs.Passes.{NoteRoom, NoNotes, AllNotes};
-ghost use Rattle.check_places.specs.Places.{in_loop, inLoopOrSwitch, switchItem, markBefore};
+ghost use Rattle.check_places.specs.Places.{in_loop, in_loop_or_switch, switch_item, mark_before};
 
 use check_grammar::{KindTable, link};
 use check_items::hand_item;
@@ -25,9 +25,9 @@ fn write_linked(
     requires tree { Tree rows.now × (word < length rows.now) × (linked ≡ target rows.now word) }
     requires note_room { NoteRoom rows.now loops.old × NoteRoom rows.now breakable.old × NoteRoom rows.now items.old × NoteRoom rows.now before.old }
     ensures loops_after { loops.new ≡ written (handed in_loop rows.now) rows.now word loops.old }
-    ensures breakable_after { breakable.new ≡ written (handed inLoopOrSwitch rows.now) rows.now word breakable.old }
-    ensures after { items.new ≡ written (handed switchItem rows.now) rows.now word items.old }
-    ensures before_after { before.new ≡ written (handed markBefore rows.now) rows.now word before.old }
+    ensures breakable_after { breakable.new ≡ written (handed in_loop_or_switch rows.now) rows.now word breakable.old }
+    ensures after { items.new ≡ written (handed switch_item rows.now) rows.now word items.old }
+    ensures before_after { before.new ≡ written (handed mark_before rows.now) rows.now word before.old }
 {
     if linked != 0 {
         let row = word / 6;

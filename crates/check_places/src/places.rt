@@ -1,10 +1,10 @@
 // Cause 7: break, continue, case or default out of place.
 ghost use Rattle.std.specs.Prelude.{◌≡◌, ℕ, ◌/◌, ◌≤◌, length, get_or};
 ghost use Rattle.words.specs.Table.{number_at};
-ghost use Rattle.words.specs.Search.{lowestRow};
+ghost use Rattle.words.specs.Search.{lowest_row};
 ghost use Rattle.check_structure.specs.Passes.{Notes};
-ghost use Rattle.check_notes.specs.RowNotes.{noteAt};
-ghost use Rattle.check_places.specs.Places.{in_loop, inLoopOrSwitch, switchItem, outOfPlace, misplaced};
+ghost use Rattle.check_notes.specs.RowNotes.{note_at};
+ghost use Rattle.check_places.specs.Places.{in_loop, in_loop_or_switch, switch_item, out_of_place, misplaced};
 
 use check_grammar::between;
 use words::Found;
@@ -12,7 +12,7 @@ use words::table::number_at;
 
 // A row of this kind, with its notes.
 fn is_out_of_place(kind: usize, looped: u16, breakable: u16, item: u16) -> bool
-    ensures { result ≡ outOfPlace kind looped breakable item }
+    ensures { result ≡ out_of_place kind looped breakable item }
 {
     if kind == 50 {
         return breakable == 0;
@@ -29,7 +29,7 @@ fn is_out_of_place(kind: usize, looped: u16, breakable: u16, item: u16) -> bool
 // The lowest row out of place, with the notes of all rows.
 fn lowest_out_of_place(rows: &[i32], loops: &[u16], breakable: &[u16], items: &[u16]) -> Found
     requires { (length rows.now / 6 ≤ length loops.now) × (length rows.now / 6 ≤ length breakable.now) × (length rows.now / 6 ≤ length items.now) }
-    ensures { result ≡ lowestRow rows.now (λ (row : ℕ). outOfPlace (number_at rows.now row 0) (get_or loops.now row 0) (get_or breakable.now row 0) (get_or items.now row 0)) }
+    ensures { result ≡ lowest_row rows.now (λ (row : ℕ). out_of_place (number_at rows.now row 0) (get_or loops.now row 0) (get_or breakable.now row 0) (get_or items.now row 0)) }
 {
     let count = rows.len() / 6;
     let mut row: usize = 0;
@@ -49,8 +49,8 @@ fn lowest_out_of_place(rows: &[i32], loops: &[u16], breakable: &[u16], items: &[
 
 // Cause 7: the same in the definition's words.
 pub fn lowest_misplaced(rows: &[i32], loops: &[u16], breakable: &[u16], items: &[u16]) -> Found
-    requires { Notes rows.now (noteAt in_loop rows.now) loops.now × Notes rows.now (noteAt inLoopOrSwitch rows.now) breakable.now × Notes rows.now (noteAt switchItem rows.now) items.now }
-    ensures { result ≡ lowestRow rows.now (misplaced rows.now) }
+    requires { Notes rows.now (note_at in_loop rows.now) loops.now × Notes rows.now (note_at in_loop_or_switch rows.now) breakable.now × Notes rows.now (note_at switch_item rows.now) items.now }
+    ensures { result ≡ lowest_row rows.now (misplaced rows.now) }
 {
     lowest_out_of_place(rows, loops, breakable, items)
 }

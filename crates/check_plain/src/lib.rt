@@ -1,8 +1,10 @@
 // The check of plain kernel programs, which have no functions: the kernel check's causes, then 25. The flat list takes no others.
+#![tactic(auto)]
+
 ghost use Rattle.std.specs.Prelude.{◌≡◌};
-ghost use Rattle.words.specs.Search.{lowestRow};
-ghost use Rattle.check_function_causes.specs.Functions.{isDefinition};
-ghost use Rattle.check_plain.specs.Refusal.{plainRefusal};
+ghost use Rattle.words.specs.Search.{lowest_row};
+ghost use Rattle.check_function_causes.specs.Functions.{is_definition};
+ghost use Rattle.check_plain.specs.Refusal.{plain_refusal};
 
 use check_structure::causes::at;
 use words::{Found, Verdict};
@@ -10,7 +12,7 @@ use words_roles::is_definition;
 
 // The row of the first function.
 fn lowest_definition(rows: &[i32]) -> Found
-    ensures { result ≡ lowestRow rows.now (isDefinition rows.now) }
+    ensures { result ≡ lowest_row rows.now (is_definition rows.now) }
 {
     let count = rows.len() / 6;
     let mut row: usize = 0;
@@ -25,7 +27,7 @@ fn lowest_definition(rows: &[i32]) -> Found
 
 // The check of a plain kernel program.
 pub fn check(header: &[i32], rows: &[i32]) -> Verdict
-    ensures { result ≡ plainRefusal header.now rows.now }
+    ensures { result ≡ plain_refusal header.now rows.now }
 {
     let verdict = check_kernel::check(header, rows);
     if let Verdict::Refused(refusal) = verdict {

@@ -2,50 +2,50 @@
 -- rule's; so its run comes to what the rule says.
 use Rattle.std.specs.Prelude.{◌≡◌, refl, List, [], ◌∷◌, map, ℤ}
 use Rattle.std.proofs.Common.{ap, ap₂, ◌∙◌}
-use Rattle.words.specs.Word.{sameWord, natural}
+use Rattle.words.specs.Word.{same_word, natural}
 use Rattle.words.specs.Table.{word_at, number_at}
-use Rattle.words.specs.Layout.{layout_of, sum, storeSize, allWithin, headerFits, countFits, headerStore}
-use Rattle.words.specs.Declarations.{isDeclaration, declarationsBefore}
+use Rattle.words.specs.Layout.{layout_of, sum, store_size, all_within, header_fits, count_fits, header_store}
+use Rattle.words.specs.Declarations.{is_declaration, declarations_before}
 use Rattle.words.specs.declared.Form.TheVariants.{Source}
 use Rattle.words.specs.declared.Verdict.{Verdict}
-use Rattle.words.specs.Links.{fits, isExpression, isPlace, isStatement, isBlock, isArm, link, target, linker, received, noteBy, note}
-use Rattle.words.specs.Kinds.{sortOf, sortAt, inLanguage, isLink, isRequired, kinds, kindIn, kind_of, sortIn, kindRow, expressionFields, statementFields, markFields, memberFields}
-use Rattle.words.specs.Search.{lowest, some, lowestRow, someField}
-use Rattle.words_roles.specs.Roles.{linksParameter, isParameterBy, isParameter, roleSort}
-use Rattle.check_fields.specs.Fields.{foreign, leadsRight, mislinked, bounds_of, numberFits, outside}
-use Rattle.check_structure.specs.Links.{loneBlock, notOnce}
+use Rattle.words.specs.Links.{fits, is_expression, is_place, is_statement, is_block, is_arm, link, target, linker, received, note_by, note}
+use Rattle.words.specs.Kinds.{sort_of, sort_at, in_language, is_link, is_required, kinds, kind_in, kind_of, sort_in, kind_row, expression_fields, statement_fields, mark_fields, member_fields}
+use Rattle.words.specs.Search.{lowest, some, lowest_row, some_field}
+use Rattle.words_roles.specs.Roles.{links_parameter, is_parameter_by, is_parameter, role_sort}
+use Rattle.check_fields.specs.Fields.{foreign, leads_right, mislinked, bounds_of, number_fits, outside}
+use Rattle.check_structure.specs.Links.{lone_block, not_once}
 use Rattle.check_structure.specs.Refusal.{at, unless, ◌next◌}
-use Rattle.names.specs.Names.{isName, inScope, scopeAt, word_of, meantFrom, parameterAt, meantAt, variableWord, resolvedName, resolvedWord, resolved}
-use Rattle.check_items.specs.Items.{item_of, item_at, earlierOf, earlierAt, someFrom, someEarlier}
-use Rattle.check_marks.specs.Marks.{sameMark, repeated}
-use Rattle.check_notes.specs.RowNotes.{handed, noteAt}
-use Rattle.check_places.specs.Places.{outOfPlace, misplaced}
-use Rattle.check_declaration_causes.specs.Causes.{outsideBlock, namesNumber, namedWithin, namedFrom, namesItself, sameNumber, declaredBefore, oneTooMany, declarationRefusal, declaredTwice}
-use Rattle.check_function_causes.specs.Functions.{is_call, isReturn, around_of, functionAround}
-use Rattle.words_roles.specs.Roles.{linksParameter, isParameterBy, isParameter, roleSort, isDefinition}
-use Rattle.check_function_causes.specs.Causes.{returnsOutside, outOfOrder, wrongCall, functionRefusal}
-use Rattle.check_parameter_causes.specs.Parameters.{body_of, body_at, someOfList, declaredAsParameter}
-use Rattle.check_source.specs.Refusal.{wronglyPlaced}
-use Rattle.language.specs.Program.{Finished, runTable}
+use Rattle.names.specs.Names.{is_name, in_scope, scope_at, word_of, meant_from, parameter_at, meant_at, variable_word, resolved_name, resolved_word, resolved}
+use Rattle.check_items.specs.Items.{item_of, item_at, earlier_of, earlier_at, some_from, some_earlier}
+use Rattle.check_marks.specs.Marks.{same_mark, repeated}
+use Rattle.check_notes.specs.RowNotes.{handed, note_at}
+use Rattle.check_places.specs.Places.{out_of_place, misplaced}
+use Rattle.check_declaration_causes.specs.Causes.{outside_block, names_number, named_within, named_from, names_itself, same_number, declared_before, one_too_many, declaration_refusal, declared_twice}
+use Rattle.check_function_causes.specs.Functions.{is_call, is_return, around_of, function_around}
+use Rattle.words_roles.specs.Roles.{links_parameter, is_parameter_by, is_parameter, role_sort, is_definition}
+use Rattle.check_function_causes.specs.Causes.{returns_outside, out_of_order, wrong_call, function_refusal}
+use Rattle.check_parameter_causes.specs.Parameters.{body_of, body_at, some_of_list, declared_as_parameter}
+use Rattle.check_source.specs.Refusal.{wrongly_placed}
+use Rattle.language.specs.Program.{Finished, run_table}
 use Rattle.language.specs.Rule.{Rule}
-use Rattle.language.specs.RulesHold.{runs, expected, rules-hold}
-use Rattle.language_programs.specs.Program.{resolvedRows, runProgram}
-use Rattle.check_brief.specs.Brief.{targets, times, briefCauses, briefStructure, briefDepth, briefSource}
+use Rattle.language.proofs.RulesHold.{runs, expected, rules-hold}
+use Rattle.language_programs.specs.Program.{resolved_rows, run_program}
+use Rattle.check_brief.specs.Brief.{targets, times, brief_causes, brief_structure, brief_depth, brief_source}
 use Rattle.check_brief.specs.BriefLaws.{same_source, map_same}
 use Rattle.check_rules.specs.RulesAccepted.{checked, accepted, AllLegal, accepted-all-legal}
-use Rattle.check_rules.specs.DeclarationPrograms.{DeclarationProgram, declarationPrograms, asRule}
+use Rattle.check_rules.specs.DeclarationPrograms.{DeclarationProgram, declaration_programs, as_rule}
 
 -- ---- legal
 
 abbrev pub programs : List Rule
-programs = map asRule declarationPrograms
+programs = map as_rule declaration_programs
 
 -- A brief test of the check.
 abbrev tested : Rule → Verdict
-tested rule = briefSource rule.header rule.rows
+tested rule = brief_source rule.header rule.rows
 
 programs-tested : map tested programs ≡ map accepted programs
-unfolding sameWord natural word_at number_at layout_of sum storeSize headerStore allWithin headerFits countFits foreign fits leadsRight mislinked bounds_of numberFits outside kind_of kindIn kinds sortIn kindRow expressionFields statementFields markFields memberFields sortOf sortAt inLanguage isExpression isPlace isStatement isBlock isArm isLink isRequired link target loneBlock notOnce linker received noteBy note at unless ◌next◌ lowest some lowestRow someField targets times briefCauses briefStructure briefDepth briefSource sameMark item_of item_at earlierOf earlierAt someFrom someEarlier repeated handed noteAt outOfPlace misplaced isDeclaration declarationsBefore isName outsideBlock namesNumber namedWithin namedFrom namesItself sameNumber declaredBefore oneTooMany declarationRefusal isDefinition is_call isReturn returnsOutside outOfOrder wrongCall functionRefusal wronglyPlaced roleSort isParameter isParameterBy linksParameter declaredTwice declaredAsParameter body_at body_of someOfList
+unfolding same_word natural word_at number_at layout_of sum store_size header_store all_within header_fits count_fits foreign fits leads_right mislinked bounds_of number_fits outside kind_of kind_in kinds sort_in kind_row expression_fields statement_fields mark_fields member_fields sort_of sort_at in_language is_expression is_place is_statement is_block is_arm is_link is_required link target lone_block not_once linker received note_by note at unless ◌next◌ lowest some lowest_row some_field targets times brief_causes brief_structure brief_depth brief_source same_mark item_of item_at earlier_of earlier_at some_from some_earlier repeated handed note_at out_of_place misplaced is_declaration declarations_before is_name outside_block names_number named_within named_from names_itself same_number declared_before one_too_many declaration_refusal is_definition is_call is_return returns_outside out_of_order wrong_call function_refusal wrongly_placed role_sort is_parameter is_parameter_by links_parameter declared_twice declared_as_parameter body_at body_of some_of_list
 programs-tested = refl
 
 pub declarations-accepted : map checked programs ≡ map accepted programs
@@ -56,34 +56,34 @@ declarations-legal = accepted-all-legal programs declarations-accepted
 
 -- ---- runs
 
-abbrev resolvedTable : DeclarationProgram → List ℤ
-resolvedTable program = resolvedRows Source program.rule.header program.rows
+abbrev resolved_table : DeclarationProgram → List ℤ
+resolved_table program = resolved_rows Source program.rule.header program.rows
 
-abbrev tableOfRule : DeclarationProgram → List ℤ
-tableOfRule program = program.rule.rows
+abbrev table_of_rule : DeclarationProgram → List ℤ
+table_of_rule program = program.rule.rows
 
-pub declarations-resolved : map resolvedTable declarationPrograms ≡ map tableOfRule declarationPrograms
-unfolding resolved resolvedWord resolvedName variableWord number_at natural word_at meantAt parameterAt functionAround around_of isDefinition word_of meantFrom declarationsBefore scopeAt isDeclaration isName inScope note noteBy received linker lowest target link isLink sortAt sortOf sortIn kind_of kindIn kinds kindRow expressionFields statementFields markFields memberFields layout_of sum storeSize
+pub declarations-resolved : map resolved_table declaration_programs ≡ map table_of_rule declaration_programs
+unfolding resolved resolved_word resolved_name variable_word number_at natural word_at meant_at parameter_at function_around around_of is_definition word_of meant_from declarations_before scope_at is_declaration is_name in_scope note note_by received linker lowest target link is_link sort_at sort_of sort_in kind_of kind_in kinds kind_row expression_fields statement_fields mark_fields member_fields layout_of sum store_size
 declarations-resolved = refl
 
 -- What the run of a program comes to.
-abbrev pub programRuns : Rule → Finished
-programRuns rule = runProgram Source rule.header rule.rows rule.budget rule.store
+abbrev pub program_runs : Rule → Finished
+program_runs rule = run_program Source rule.header rule.rows rule.budget rule.store
 
-abbrev ruleOf : DeclarationProgram → Rule
-ruleOf program = program.rule
+abbrev rule_of : DeclarationProgram → Rule
+rule_of program = program.rule
 
 -- a run of the rule's table is one of the program
-all-run : (ps : List DeclarationProgram) → map resolvedTable ps ≡ map tableOfRule ps → map (runs Source) (map ruleOf ps) ≡ map expected (map ruleOf ps)
-    → map programRuns (map asRule ps) ≡ map expected (map asRule ps)
-unfolding runProgram
+all-run : (ps : List DeclarationProgram) → map resolved_table ps ≡ map table_of_rule ps → map (runs Source) (map rule_of ps) ≡ map expected (map rule_of ps)
+    → map program_runs (map as_rule ps) ≡ map expected (map as_rule ps)
+unfolding run_program
 all-run [] same hold = refl
 all-run (p ∷ ps) same hold =
-    let table : resolvedTable p ≡ tableOfRule p = cc in
-    let tables : map resolvedTable ps ≡ map tableOfRule ps = cc in
-    let run : runs Source (ruleOf p) ≡ expected (ruleOf p) = cc in
-    let others : map (runs Source) (map ruleOf ps) ≡ map expected (map ruleOf ps) = cc in
-    ap₂ ◌∷◌ (ap (λ (rows : List ℤ). runTable Source p.rule.header rows p.rule.budget p.rule.store) table ∙ run) (all-run ps tables others)
+    let table : resolved_table p ≡ table_of_rule p = cc in
+    let tables : map resolved_table ps ≡ map table_of_rule ps = cc in
+    let run : runs Source (rule_of p) ≡ expected (rule_of p) = cc in
+    let others : map (runs Source) (map rule_of ps) ≡ map expected (map rule_of ps) = cc in
+    ap₂ ◌∷◌ (ap (λ (rows : List ℤ). run_table Source p.rule.header rows p.rule.budget p.rule.store) table ∙ run) (all-run ps tables others)
 
-pub declarations-hold : map programRuns programs ≡ map expected programs
-declarations-hold = all-run declarationPrograms declarations-resolved rules-hold.declarations
+pub declarations-hold : map program_runs programs ≡ map expected programs
+declarations-hold = all-run declaration_programs declarations-resolved rules-hold.declarations

@@ -3,23 +3,23 @@
 use Rattle.std.specs.Prelude.{◌≡◌, Bool, true, List, ℕ, ◌<◌, ℤ}
 use Rattle.std.proofs.Common.{sym, ◌∙◌, arith}
 use Rattle.std.proofs.Math.Path.{subst}
-use Rattle.words.specs.Table.{rowCount, number_at}
+use Rattle.words.specs.Table.{row_count, number_at}
 use Rattle.words.specs.Links.{link}
 use Rattle.check_structure.specs.Structured.{Leads}
-use Rattle.words.specs.Declarations.{isDeclaration}
+use Rattle.words.specs.Declarations.{is_declaration}
 use Rattle.names.specs.Names.{resolved}
-use Rattle.names.specs.ResolvedLaws.{resolved-kept, resolved-kind, resolved-link, resolved-count, resolved-leads}
+use Rattle.names.proofs.ResolvedLaws.{resolved-kept, resolved-kind, resolved-link, resolved-count, resolved-leads}
 use Rattle.check_items.specs.Items.{ListItem, first, next}
-use Rattle.check_function_causes.specs.Functions.{isDefinition, isReturn}
-use Rattle.check_function_causes.specs.Demands.{Within, functionPart, functionAlong}
+use Rattle.check_function_causes.specs.Functions.{is_definition, is_return}
+use Rattle.check_function_causes.specs.Demands.{Within, function_part, function_along}
 use Rattle.check_source.specs.Legal.{Inside, part, along, PlacedRow}
 
 -- Row r of the table `rows` is row ρ r of the table `other`, and so are the rows that it links.
 pub record Carries (other rows : List ℤ) (ρ : ℕ → ℕ) : Type 0 where
-  pub kind : (row : ℕ) → row < rowCount rows → number_at other (ρ row) 0 ≡ number_at rows row 0
+  pub kind : (row : ℕ) → row < row_count rows → number_at other (ρ row) 0 ≡ number_at rows row 0
   pub leads : (row field : ℕ) → field < 6 → Leads rows row field → Leads other (ρ row) field
   pub to : (row field : ℕ) → field < 6 → Leads rows row field → link other (ρ row) field ≡ ρ (link rows row field)
-  pub initial : (row : ℕ) → row < rowCount rows → isDeclaration rows row ≡ true → number_at rows row 2 ≡ 0 → number_at other (ρ row) 2 ≡ 0
+  pub initial : (row : ℕ) → row < row_count rows → is_declaration rows row ≡ true → number_at rows row 2 ≡ 0 → number_at other (ρ row) 2 ≡ 0
 
 module _ {other rows : List ℤ} {ρ : ℕ → ℕ} (c : Carries other rows ρ) where
   inside-carried : (kinds : ℕ → Bool) {row : ℕ} → Inside rows kinds row → Inside other kinds (ρ row)
@@ -38,21 +38,21 @@ module _ {other rows : List ℤ} {ρ : ℕ → ℕ} (c : Carries other rows ρ) 
       subst (ListItem other kind start) (c.to row 5 (omega arith) leads) (next (c.leads row 5 (omega arith) leads) (item-carried kind start f i))
 
   within-carried : {definition : ℕ} {row : ℕ} → Within rows definition row → Within other (ρ definition) (ρ row)
-  unfolding isDefinition
-  within-carried {definition} (functionPart {field} f d leads) =
+  unfolding is_definition
+  within-carried {definition} (function_part {field} f d leads) =
       let later = leads.later in
       let below = leads.inside in
-      subst (Within other (ρ definition)) (c.to definition field (omega arith) leads) (functionPart f (rw (c.kind definition (omega arith)) d) (c.leads definition field (omega arith) leads))
-  within-carried {definition} (functionAlong {row} {field} f leads w) = subst (Within other (ρ definition)) (c.to row field f leads) (functionAlong f (c.leads row field f leads) (within-carried w))
+      subst (Within other (ρ definition)) (c.to definition field (omega arith) leads) (function_part f (rw (c.kind definition (omega arith)) d) (c.leads definition field (omega arith) leads))
+  within-carried {definition} (function_along {row} {field} f leads w) = subst (Within other (ρ definition)) (c.to row field f leads) (function_along f (c.leads row field f leads) (within-carried w))
 
-  pub placed-carried : (row : ℕ) → row < rowCount rows → PlacedRow rows row → PlacedRow other (ρ row)
-  unfolding isDeclaration isReturn
+  pub placed-carried : (row : ℕ) → row < row_count rows → PlacedRow rows row → PlacedRow other (ρ row)
+  unfolding is_declaration is_return
   placed-carried row n p = record {
-    break-inside = λ k. inside-carried _ (p.break-inside (sym (c.kind row n) ∙ k));
-    continue-inside = λ k. inside-carried _ (p.continue-inside (sym (c.kind row n) ∙ k));
-    mark-inside = λ k. item-carried 47 2 (omega arith) (p.mark-inside (rw (c.kind row n) at k));
-    declaration-inside = λ d initial. item-carried 42 1 (omega arith) (p.declaration-inside (rw (c.kind row n) at d) (λ z. initial (c.initial row n (rw (c.kind row n) at d) z)));
-    return-inside = λ r. let inside = p.return-inside (rw (c.kind row n) at r) in record { definition = ρ inside.definition; within = within-carried inside.within };
+    break_inside = λ k. inside-carried _ (p.break_inside (sym (c.kind row n) ∙ k));
+    continue_inside = λ k. inside-carried _ (p.continue_inside (sym (c.kind row n) ∙ k));
+    mark_inside = λ k. item-carried 47 2 (omega arith) (p.mark_inside (rw (c.kind row n) at k));
+    declaration_inside = λ d initial. item-carried 42 1 (omega arith) (p.declaration_inside (rw (c.kind row n) at d) (λ z. initial (c.initial row n (rw (c.kind row n) at d) z)));
+    return_inside = λ r. let inside = p.return_inside (rw (c.kind row n) at r) in record { definition = ρ inside.definition; within = within-carried inside.within };
   }
 
 -- ---- the resolved table
@@ -70,5 +70,5 @@ module _ (S : ℕ) (rows : List ℤ) where
     initial = λ row n d z. resolved-second S rows row ∙ z;
   }
 
-  pub resolved-placed : ((row : ℕ) → row < rowCount rows → PlacedRow rows row) → (row : ℕ) → row < rowCount (resolved S rows) → PlacedRow (resolved S rows) row
+  pub resolved-placed : ((row : ℕ) → row < row_count rows → PlacedRow rows row) → (row : ℕ) → row < row_count (resolved S rows) → PlacedRow (resolved S rows) row
   resolved-placed placed row n = let inside = rw (resolved-count S rows) at n in placed-carried resolved-carries row inside (placed row inside)

@@ -6,12 +6,7 @@ pub mod Refusal
 -- Legal: what document 01 demands of a source program, Change 11 of its declarations and Change 13 of its functions.
 pub mod Legal
 -- ---- laws
--- Laws of places: cause 7 is document 01's sentence on break, continue, case and default, Change 11's on declarations and Change 13's on
--- returns.
-pub mod PlaceLaws
 -- Carried places: in another table that holds a table's rows with their kinds and links, as the resolved one does.
 pub mod Carried
 -- Laws of declarations: a legal source program has at most 64.
 pub mod DeclarationLaws
--- The theorem: the check accepts the legal source programs and no others.
-pub mod AcceptsLegal

@@ -1,4 +1,6 @@
 // The check of source programs: the causes that both forms share, then 7, 8 and 9, then those of declarations and of functions.
+#![tactic(auto)]
+
 use check_declarations::lower::lower_of;
 use check_declarations::{declaration_refusal, lowest_outside_block};
 use check_grammar::KindTable;
@@ -17,18 +19,18 @@ pub mod functions; // functions.rt: the causes of functions, with room for what 
 ghost use Rattle.std.specs.Prelude.{◌≡◌, false, ◌/◌, ◌≤◌, length};
 ghost use Rattle.check_structure.specs.Structured.{Tree};
 ghost use Rattle.check_grammar.specs.Grammar.{grammar};
-ghost use Rattle.check_structure.specs.Refusal.{◌next◌, structuralRefusal};
+ghost use Rattle.check_structure.specs.Refusal.{◌next◌, structural_refusal};
 ghost use Rattle.words.specs.declared.Form.TheVariants.{Source};
-ghost use Rattle.check_declaration_causes.specs.Causes.{declarationRefusal};
-ghost use Rattle.check_function_causes.specs.Functions.{isDefinition};
-ghost use Rattle.check_function_causes.specs.Causes.{functionRefusal};
-ghost use Rattle.check_source.specs.Refusal.{wronglyPlaced, laterRefusal, refusal};
+ghost use Rattle.check_declaration_causes.specs.Causes.{declaration_refusal};
+ghost use Rattle.check_function_causes.specs.Functions.{is_definition};
+ghost use Rattle.check_function_causes.specs.Causes.{function_refusal};
+ghost use Rattle.check_source.specs.Refusal.{wrongly_placed, later_refusal, refusal};
 ghost use Rattle.check_places.specs.Passes.{AllNotes};
-ghost use Rattle.check_notes.specs.RowNotes.{noteAt};
-ghost use Rattle.check_places.specs.Places.{in_loop, inLoopOrSwitch, switchItem};
+ghost use Rattle.check_notes.specs.RowNotes.{note_at};
+ghost use Rattle.check_places.specs.Places.{in_loop, in_loop_or_switch, switch_item};
 ghost use Rattle.check_structure.specs.Passes.{Notes};
-ghost use Rattle.words.specs.Declarations.{declarationCount};
-ghost use Rattle.words.specs.Search.{lowestRow};
+ghost use Rattle.words.specs.Declarations.{declaration_count};
+ghost use Rattle.words.specs.Search.{lowest_row};
 
 // Cause 7, in a tree of rows, with the notes of its rows and the number of its declarations.
 fn lowest_wrongly_placed(
@@ -39,8 +41,8 @@ fn lowest_wrongly_placed(
     items: &[u16],
     declared: usize,
 ) -> Found
-    requires { Tree rows.now × (isDefinition rows.now 0 ≡ false) × (length rows.now / 6 ≤ 2048) × Notes rows.now (noteAt in_loop rows.now) loops.now × Notes rows.now (noteAt inLoopOrSwitch rows.now) breakable.now × Notes rows.now (noteAt switchItem rows.now) items.now × (kinds.now ≡ grammar) × (declared ≡ declarationCount rows.now) }
-    ensures { result ≡ lowestRow rows.now (wronglyPlaced rows.now) }
+    requires { Tree rows.now × (is_definition rows.now 0 ≡ false) × (length rows.now / 6 ≤ 2048) × Notes rows.now (note_at in_loop rows.now) loops.now × Notes rows.now (note_at in_loop_or_switch rows.now) breakable.now × Notes rows.now (note_at switch_item rows.now) items.now × (kinds.now ≡ grammar) × (declared ≡ declaration_count rows.now) }
+    ensures { result ≡ lowest_row rows.now (wrongly_placed rows.now) }
 {
     let misplaced = lowest_misplaced(rows, loops, breakable, items);
     let outside = lowest_outside_block(kinds, rows, declared);
@@ -50,8 +52,8 @@ fn lowest_wrongly_placed(
 
 // Causes 18 to 20, then 23 and 24, in a tree of rows, with the number of its declarations.
 fn last_refusal(kinds: &KindTable, rows: &[i32], declared: usize) -> Verdict
-    requires { Tree rows.now × (isDefinition rows.now 0 ≡ false) × (length rows.now / 6 ≤ 2048) × (kinds.now ≡ grammar) × (declared ≡ declarationCount rows.now) }
-    ensures { result ≡ declarationRefusal rows.now next functionRefusal rows.now }
+    requires { Tree rows.now × (is_definition rows.now 0 ≡ false) × (length rows.now / 6 ≤ 2048) × (kinds.now ≡ grammar) × (declared ≡ declaration_count rows.now) }
+    ensures { result ≡ declaration_refusal rows.now next function_refusal rows.now }
 {
     let verdict = declaration_refusal(kinds, rows, declared);
     match verdict {
@@ -69,8 +71,8 @@ fn noted_refusal(
     items: &[u16],
     before: &[u16],
 ) -> Verdict
-    requires { Tree rows.now × (isDefinition rows.now 0 ≡ false) × (length rows.now / 6 ≤ 2048) × AllNotes rows.now loops.now breakable.now items.now before.now × (kinds.now ≡ grammar) }
-    ensures { result ≡ laterRefusal rows.now }
+    requires { Tree rows.now × (is_definition rows.now 0 ≡ false) × (length rows.now / 6 ≤ 2048) × AllNotes rows.now loops.now breakable.now items.now before.now × (kinds.now ≡ grammar) }
+    ensures { result ≡ later_refusal rows.now }
 {
     let declared = declaration_count(rows);
     let misplaced = lowest_wrongly_placed(kinds, rows, loops, breakable, items, declared);
@@ -99,8 +101,8 @@ fn noted_refusal(
 
 // Causes 7 to 9 and those after 18, in a tree of rows.
 fn later_refusal_by(kinds: &KindTable, rows: &[i32]) -> Verdict
-    requires { Tree rows.now × (isDefinition rows.now 0 ≡ false) × (length rows.now / 6 ≤ 2048) × (kinds.now ≡ grammar) }
-    ensures { result ≡ laterRefusal rows.now }
+    requires { Tree rows.now × (is_definition rows.now 0 ≡ false) × (length rows.now / 6 ≤ 2048) × (kinds.now ≡ grammar) }
+    ensures { result ≡ later_refusal rows.now }
 {
     let mut loops = [0u16; 2048];
     let mut breakable = [0u16; 2048];
@@ -119,8 +121,8 @@ fn later_refusal_by(kinds: &KindTable, rows: &[i32]) -> Verdict
 
 // The same, with the table of kinds: it is built here, once, and lent on.
 fn later_refusal(rows: &[i32]) -> Verdict
-    requires { Tree rows.now × (isDefinition rows.now 0 ≡ false) × (length rows.now / 6 ≤ 2048) }
-    ensures { result ≡ laterRefusal rows.now }
+    requires { Tree rows.now × (is_definition rows.now 0 ≡ false) × (length rows.now / 6 ≤ 2048) }
+    ensures { result ≡ later_refusal rows.now }
 {
     let kinds = kind_table();
     later_refusal_by(&kinds, rows)
@@ -128,7 +130,7 @@ fn later_refusal(rows: &[i32]) -> Verdict
 
 // Causes 1 to 6, with room for the marks of a source program.
 fn shared_refusal(header: &[i32], rows: &[i32]) -> Verdict
-    ensures { result ≡ structuralRefusal Source header.now rows.now }
+    ensures { result ≡ structural_refusal Source header.now rows.now }
 {
     let mut marks = [0u8; 2048];
     structural_refusal(Form::Source, header, rows, &mut marks)

@@ -6,247 +6,247 @@ use native.Mathlib.Omega.{arith}
 use Rattle.std.proofs.Math.Decide.{dec_lt, ℕ_discrete}
 use Rattle.std.proofs.Math.Arith.{lt_of_le-ne}
 use Rattle.words.specs.Word.{pick}
-use Rattle.words.specs.Table.{rowCount}
+use Rattle.words.specs.Table.{row_count}
 use Rattle.words.specs.Laws.{by_cases}
 use Rattle.words.specs.declared.Form.{Form}
 use Rattle.words.specs.declared.Refusal.{Refusal}
 use Rattle.words.specs.declared.Verdict.{Verdict}
 use Rattle.words.specs.declared.Verdict.TheVariants.{Accepted, Refused}
 use Rattle.check_fields.specs.Fields.{foreign, mislinked, outside}
-use Rattle.check_structure.specs.Links.{linkCount, notOnce}
-use Rattle.check_structure.specs.Passes.{leastOf, fieldCause, leastCause, rowCause, lowered, lowestCause, laterCauses}
-use Rattle.check_structure.specs.Refusal.{at, ◌next◌, rowCauses}
+use Rattle.check_structure.specs.Links.{link_count, not_once}
+use Rattle.check_structure.specs.Passes.{least_of, field_cause, least_cause, row_cause, lowered, lowest_cause, later_causes}
+use Rattle.check_structure.specs.Refusal.{at, ◌next◌, row_causes}
 use Rattle.check_structure.specs.RefusalLaws.{ends, goes_on}
-use Rattle.words.specs.Search.{lowestRow, someField}
-use Rattle.words.specs.SearchLaws.{all-lowestRow, someField-all, all-someField, lowest-at}
+use Rattle.words.specs.Search.{lowest_row, some_field}
+use Rattle.words.specs.SearchLaws.{all-lowest_row, some_field-all, all-some_field, lowest-at}
 use Rattle.check_fields.specs.declared.Bounds.{Bounds}
 use Rattle.words.specs.declared.Found.{Found}
 use Rattle.words.specs.declared.Found.TheVariants.{At, Nothing}
 
 -- ---- as the code goes: one more
 
-pub leastCause-more : (causeOf : ℕ → ℕ) (count : ℕ) → leastCause causeOf (count + 1) ≡ min (leastCause causeOf count) (causeOf count)
-unfolding leastCause
-leastCause-more causeOf count = rw (add-one count) refl
+pub least_cause-more : (cause_of : ℕ → ℕ) (count : ℕ) → least_cause cause_of (count + 1) ≡ min (least_cause cause_of count) (cause_of count)
+unfolding least_cause
+least_cause-more cause_of count = rw (add-one count) refl
 
-pub lowestCause-more : (causeOf : ℕ → ℕ) (count : ℕ) → lowestCause causeOf (count + 1) ≡ lowered (lowestCause causeOf count) (causeOf count) count
-unfolding lowestCause
-lowestCause-more causeOf count = rw (add-one count) refl
+pub lowest_cause-more : (cause_of : ℕ → ℕ) (count : ℕ) → lowest_cause cause_of (count + 1) ≡ lowered (lowest_cause cause_of count) (cause_of count) count
+unfolding lowest_cause
+lowest_cause-more cause_of count = rw (add-one count) refl
 
 -- ---- what the least of the three says of each
 
 record Three (a b c : Bool) (cause : ℕ) : Type 0 where
   least : 3 ≤ cause
   not_five : cause ≡ 5 → ⊥
-  no-foreign : 3 < cause → a ≡ false
-  no-mislinked : 4 < cause → b ≡ false
-  no-outside : 6 < cause → c ≡ false
-  foreign-is : cause ≡ 3 → a ≡ true
-  mislinked-is : cause ≡ 4 → b ≡ true
-  outside-is : cause ≡ 6 → c ≡ true
+  no_foreign : 3 < cause → a ≡ false
+  no_mislinked : 4 < cause → b ≡ false
+  no_outside : 6 < cause → c ≡ false
+  foreign_is : cause ≡ 3 → a ≡ true
+  mislinked_is : cause ≡ 4 → b ≡ true
+  outside_is : cause ≡ 6 → c ≡ true
 
-three : (a b c : Bool) → Three a b c (leastOf a b c)
+three : (a b c : Bool) → Three a b c (least_of a b c)
 three true b c =
     record {
       least = omega arith;
       not_five = λ e. omega arith;
-      no-foreign = λ h. absurd (omega arith);
-      no-mislinked = λ h. absurd (omega arith);
-      no-outside = λ h. absurd (omega arith);
-      foreign-is = λ e. refl;
-      mislinked-is = λ e. absurd (omega arith);
-      outside-is = λ e. absurd (omega arith);
+      no_foreign = λ h. absurd (omega arith);
+      no_mislinked = λ h. absurd (omega arith);
+      no_outside = λ h. absurd (omega arith);
+      foreign_is = λ e. refl;
+      mislinked_is = λ e. absurd (omega arith);
+      outside_is = λ e. absurd (omega arith);
     }
 three false true c =
     record {
       least = omega arith;
       not_five = λ e. omega arith;
-      no-foreign = λ h. refl;
-      no-mislinked = λ h. absurd (omega arith);
-      no-outside = λ h. absurd (omega arith);
-      foreign-is = λ e. absurd (omega arith);
-      mislinked-is = λ e. refl;
-      outside-is = λ e. absurd (omega arith);
+      no_foreign = λ h. refl;
+      no_mislinked = λ h. absurd (omega arith);
+      no_outside = λ h. absurd (omega arith);
+      foreign_is = λ e. absurd (omega arith);
+      mislinked_is = λ e. refl;
+      outside_is = λ e. absurd (omega arith);
     }
 three false false true =
     record {
       least = omega arith;
       not_five = λ e. omega arith;
-      no-foreign = λ h. refl;
-      no-mislinked = λ h. refl;
-      no-outside = λ h. absurd (omega arith);
-      foreign-is = λ e. absurd (omega arith);
-      mislinked-is = λ e. absurd (omega arith);
-      outside-is = λ e. refl;
+      no_foreign = λ h. refl;
+      no_mislinked = λ h. refl;
+      no_outside = λ h. absurd (omega arith);
+      foreign_is = λ e. absurd (omega arith);
+      mislinked_is = λ e. absurd (omega arith);
+      outside_is = λ e. refl;
     }
 three false false false =
     record {
       least = omega arith;
       not_five = λ e. omega arith;
-      no-foreign = λ h. refl;
-      no-mislinked = λ h. refl;
-      no-outside = λ h. refl;
-      foreign-is = λ e. absurd (omega arith);
-      mislinked-is = λ e. absurd (omega arith);
-      outside-is = λ e. absurd (omega arith);
+      no_foreign = λ h. refl;
+      no_mislinked = λ h. refl;
+      no_outside = λ h. refl;
+      foreign_is = λ e. absurd (omega arith);
+      mislinked_is = λ e. absurd (omega arith);
+      outside_is = λ e. absurd (omega arith);
     }
 
 -- ---- the least cause of a row's fields
 
-least-below : (causeOf : ℕ → ℕ) (count i : ℕ) → i < count → leastCause causeOf count ≤ causeOf i
-unfolding leastCause
-least-below causeOf zero i h = absurd (omega arith)
-least-below causeOf (suc count) i h = go (dec_lt i count) (λ l. least-below causeOf count i l)
+least-below : (cause_of : ℕ → ℕ) (count i : ℕ) → i < count → least_cause cause_of count ≤ cause_of i
+unfolding least_cause
+least-below cause_of zero i h = absurd (omega arith)
+least-below cause_of (suc count) i h = go (dec_lt i count) (λ l. least-below cause_of count i l)
   where
-    go : Dec (i < count) → (i < count → leastCause causeOf count ≤ causeOf i) → min (leastCause causeOf count) (causeOf count) ≤ causeOf i
+    go : Dec (i < count) → (i < count → least_cause cause_of count ≤ cause_of i) → min (least_cause cause_of count) (cause_of count) ≤ cause_of i
     go (yes l) before = let b = before l in omega arith
     go (no l) before = let q : i ≡ count = omega (arith, l) in rw q (omega arith)
 
-record Hit (causeOf : ℕ → ℕ) (count cause : ℕ) : Type 0 where
+record Hit (cause_of : ℕ → ℕ) (count cause : ℕ) : Type 0 where
   field : ℕ
   below : field < count
-  is : causeOf field ≡ cause
+  is : cause_of field ≡ cause
 
-least-hit : (causeOf : ℕ → ℕ) (count : ℕ) → leastCause causeOf count < 7 → Hit causeOf count (leastCause causeOf count)
-unfolding leastCause
-least-hit causeOf zero h = absurd (omega arith)
-least-hit causeOf (suc count) h = go (dec_lt (causeOf count) (leastCause causeOf count)) (λ l. least-hit causeOf count l)
+least-hit : (cause_of : ℕ → ℕ) (count : ℕ) → least_cause cause_of count < 7 → Hit cause_of count (least_cause cause_of count)
+unfolding least_cause
+least-hit cause_of zero h = absurd (omega arith)
+least-hit cause_of (suc count) h = go (dec_lt (cause_of count) (least_cause cause_of count)) (λ l. least-hit cause_of count l)
   where
-    go : Dec (causeOf count < leastCause causeOf count) → (leastCause causeOf count < 7 → Hit causeOf count (leastCause causeOf count)) → Hit causeOf (suc count) (min (leastCause causeOf count) (causeOf count))
+    go : Dec (cause_of count < least_cause cause_of count) → (least_cause cause_of count < 7 → Hit cause_of count (least_cause cause_of count)) → Hit cause_of (suc count) (min (least_cause cause_of count) (cause_of count))
     go (yes l) before = record { field = count; below = omega arith; is = omega arith }
     go (no l) before =
-        let same : min (leastCause causeOf count) (causeOf count) ≡ leastCause causeOf count = omega (arith, l) in
+        let same : min (least_cause cause_of count) (cause_of count) ≡ least_cause cause_of count = omega (arith, l) in
         let hit = before (omega arith) in
         record { field = hit.field; below = (let b = hit.below in omega arith); is = hit.is ∙ sym same }
 
-some-true : (p : ℕ → Bool) (field : ℕ) → field < 6 → p field ≡ true → someField p ≡ true
-some-true p field h e = by_cases (someField p) (λ t. t) (λ f. absurd (true≢false (sym e ∙ someField-all p f field h)))
+some-true : (p : ℕ → Bool) (field : ℕ) → field < 6 → p field ≡ true → some_field p ≡ true
+some-true p field h e = by_cases (some_field p) (λ t. t) (λ f. absurd (true≢false (sym e ∙ some_field-all p f field h)))
 
 module _ (A B C : ℕ → Bool) where
-  row-three : Three (someField A) (someField B) (someField C) (leastCause (λ i. leastOf (A i) (B i) (C i)) 6)
+  row-three : Three (some_field A) (some_field B) (some_field C) (least_cause (λ i. least_of (A i) (B i) (C i)) 6)
   row-three =
       record {
         least = go (dec_lt least 7);
-        not_five = λ e. let hit = least-hit causeOf 6 (omega arith) in (of_field hit.field).not_five (hit.is ∙ e);
-        no-foreign = λ h. all-someField A (λ field k. (of_field field).no-foreign (let b = least-below causeOf 6 field k in omega arith));
-        no-mislinked = λ h. all-someField B (λ field k. (of_field field).no-mislinked (let b = least-below causeOf 6 field k in omega arith));
-        no-outside = λ h. all-someField C (λ field k. (of_field field).no-outside (let b = least-below causeOf 6 field k in omega arith));
-        foreign-is = λ e. let hit = least-hit causeOf 6 (omega arith) in some-true A hit.field hit.below ((of_field hit.field).foreign-is (hit.is ∙ e));
-        mislinked-is = λ e. let hit = least-hit causeOf 6 (omega arith) in some-true B hit.field hit.below ((of_field hit.field).mislinked-is (hit.is ∙ e));
-        outside-is = λ e. let hit = least-hit causeOf 6 (omega arith) in some-true C hit.field hit.below ((of_field hit.field).outside-is (hit.is ∙ e));
+        not_five = λ e. let hit = least-hit cause_of 6 (omega arith) in (of_field hit.field).not_five (hit.is ∙ e);
+        no_foreign = λ h. all-some_field A (λ field k. (of_field field).no_foreign (let b = least-below cause_of 6 field k in omega arith));
+        no_mislinked = λ h. all-some_field B (λ field k. (of_field field).no_mislinked (let b = least-below cause_of 6 field k in omega arith));
+        no_outside = λ h. all-some_field C (λ field k. (of_field field).no_outside (let b = least-below cause_of 6 field k in omega arith));
+        foreign_is = λ e. let hit = least-hit cause_of 6 (omega arith) in some-true A hit.field hit.below ((of_field hit.field).foreign_is (hit.is ∙ e));
+        mislinked_is = λ e. let hit = least-hit cause_of 6 (omega arith) in some-true B hit.field hit.below ((of_field hit.field).mislinked_is (hit.is ∙ e));
+        outside_is = λ e. let hit = least-hit cause_of 6 (omega arith) in some-true C hit.field hit.below ((of_field hit.field).outside_is (hit.is ∙ e));
       }
     where
-      causeOf : ℕ → ℕ
-      causeOf i = leastOf (A i) (B i) (C i)
+      cause_of : ℕ → ℕ
+      cause_of i = least_of (A i) (B i) (C i)
 
       least : ℕ
-      least = leastCause causeOf 6
+      least = least_cause cause_of 6
 
-      of_field : (i : ℕ) → Three (A i) (B i) (C i) (leastOf (A i) (B i) (C i))
+      of_field : (i : ℕ) → Three (A i) (B i) (C i) (least_of (A i) (B i) (C i))
       of_field i = three (A i) (B i) (C i)
 
       go : Dec (least < 7) → 3 ≤ least
-      go (yes h) = let hit = least-hit causeOf 6 h in let l = (of_field hit.field).least in let e = hit.is in omega arith
+      go (yes h) = let hit = least-hit cause_of 6 h in let l = (of_field hit.field).least in let e = hit.is in omega arith
       go (no h) = omega (arith, h)
 
 -- ---- the least cause of the rows, at the lowest row
 
-record Lowest (causeOf : ℕ → ℕ) (count : ℕ) (found : Refusal) : Type 0 where
-  below : (row : ℕ) → row < count → found.number ≤ causeOf row
+record Lowest (cause_of : ℕ → ℕ) (count : ℕ) (found : Refusal) : Type 0 where
+  below : (row : ℕ) → row < count → found.number ≤ cause_of row
   inside : found.number < 7 → found.place < count
-  is : found.number < 7 → causeOf found.place ≡ found.number
-  first : (row : ℕ) → row < found.place → found.number < causeOf row
+  is : found.number < 7 → cause_of found.place ≡ found.number
+  first : (row : ℕ) → row < found.place → found.number < cause_of row
 
-lowest-cause : (causeOf : ℕ → ℕ) (count : ℕ) → Lowest causeOf count (lowestCause causeOf count)
-unfolding lowestCause lowered
-lowest-cause causeOf zero =
+lowest-cause : (cause_of : ℕ → ℕ) (count : ℕ) → Lowest cause_of count (lowest_cause cause_of count)
+unfolding lowest_cause lowered
+lowest-cause cause_of zero =
     record { below = λ row h. absurd (omega arith); inside = λ h. absurd (omega arith); is = λ h. absurd (omega arith); first = λ row h. absurd (omega arith) }
-lowest-cause causeOf (suc count) = go (lowestCause causeOf count) (lowest-cause causeOf count) (dec_lt (causeOf count) (lowestCause causeOf count).number)
+lowest-cause cause_of (suc count) = go (lowest_cause cause_of count) (lowest-cause cause_of count) (dec_lt (cause_of count) (lowest_cause cause_of count).number)
   where
-    go : (found : Refusal) → Lowest causeOf count found → Dec (causeOf count < found.number) → Lowest causeOf (suc count) (lowered found (causeOf count) count)
+    go : (found : Refusal) → Lowest cause_of count found → Dec (cause_of count < found.number) → Lowest cause_of (suc count) (lowered found (cause_of count) count)
     go found l (yes h) =
-        rw (lt-ltb (causeOf count) found.number h)
+        rw (lt-ltb (cause_of count) found.number h)
         (record {
-          below = λ row n. at_most row n (dec_lt row count);
+          below = λ row n. at-most row n (dec_lt row count);
           inside = λ k. omega arith;
           is = λ k. refl;
           first = λ row n. let b = l.below row n in omega arith;
         })
       where
-        at_most : (row : ℕ) → row < suc count → Dec (row < count) → causeOf count ≤ causeOf row
-        at_most row n (yes m) = let b = l.below row m in omega arith
-        at_most row n (no m) = let q : row ≡ count = omega (arith, m) in rw q (omega arith)
+        at-most : (row : ℕ) → row < suc count → Dec (row < count) → cause_of count ≤ cause_of row
+        at-most row n (yes m) = let b = l.below row m in omega arith
+        at-most row n (no m) = let q : row ≡ count = omega (arith, m) in rw q (omega arith)
     go found l (no h) =
-        let most : found.number ≤ causeOf count = omega (arith, h) in
-        rw (le-ltb (causeOf count) found.number most)
+        let most : found.number ≤ cause_of count = omega (arith, h) in
+        rw (le-ltb (cause_of count) found.number most)
         (record {
-          below = λ row n. at_most row n (dec_lt row count);
+          below = λ row n. at-most row n (dec_lt row count);
           inside = λ k. let i = l.inside k in omega arith;
           is = l.is;
           first = l.first;
         })
       where
-        at_most : (row : ℕ) → row < suc count → Dec (row < count) → found.number ≤ causeOf row
-        at_most row n (yes m) = l.below row m
-        at_most row n (no m) = let q : row ≡ count = omega (arith, m) in rw q (omega (arith, h))
+        at-most : (row : ℕ) → row < suc count → Dec (row < count) → found.number ≤ cause_of row
+        at-most row n (yes m) = l.below row m
+        at-most row n (no m) = let q : row ≡ count = omega (arith, m) in rw q (omega (arith, h))
 
 -- ---- the chain of causes
 
-module _ (form : Form) (bounds : Bounds) (rows : List ℤ) (found : Refusal) (facts : Lowest (rowCause form bounds rows) (rowCount rows) found) where
-  of_row : (row : ℕ) → Three (someField (foreign form rows row)) (someField (mislinked rows row)) (someField (outside bounds rows row)) (rowCause form bounds rows row)
-  unfolding rowCause fieldCause
+module _ (form : Form) (bounds : Bounds) (rows : List ℤ) (found : Refusal) (facts : Lowest (row_cause form bounds rows) (row_count rows) found) where
+  of_row : (row : ℕ) → Three (some_field (foreign form rows row)) (some_field (mislinked rows row)) (some_field (outside bounds rows row)) (row_cause form bounds rows row)
+  unfolding row_cause field_cause
   of_row row = row-three (foreign form rows row) (mislinked rows row) (outside bounds rows row)
 
-  no-foreign-row : 3 < found.number → lowestRow rows (λ row. someField (foreign form rows row)) ≡ Nothing
+  no-foreign-row : 3 < found.number → lowest_row rows (λ row. some_field (foreign form rows row)) ≡ Nothing
   no-foreign-row h =
-      all-lowestRow rows (λ row. someField (foreign form rows row)) (λ row n. (of_row row).no-foreign (let b = facts.below row n in omega arith))
+      all-lowest_row rows (λ row. some_field (foreign form rows row)) (λ row n. (of_row row).no_foreign (let b = facts.below row n in omega arith))
 
-  no-mislinked-row : 4 < found.number → lowestRow rows (λ row. someField (mislinked rows row)) ≡ Nothing
+  no-mislinked-row : 4 < found.number → lowest_row rows (λ row. some_field (mislinked rows row)) ≡ Nothing
   no-mislinked-row h =
-      all-lowestRow rows (λ row. someField (mislinked rows row)) (λ row n. (of_row row).no-mislinked (let b = facts.below row n in omega arith))
+      all-lowest_row rows (λ row. some_field (mislinked rows row)) (λ row n. (of_row row).no_mislinked (let b = facts.below row n in omega arith))
 
-  no-outside-row : 6 < found.number → lowestRow rows (λ row. someField (outside bounds rows row)) ≡ Nothing
+  no-outside-row : 6 < found.number → lowest_row rows (λ row. some_field (outside bounds rows row)) ≡ Nothing
   no-outside-row h =
-      all-lowestRow rows (λ row. someField (outside bounds rows row)) (λ row n. (of_row row).no-outside (let b = facts.below row n in omega arith))
+      all-lowest_row rows (λ row. some_field (outside bounds rows row)) (λ row n. (of_row row).no_outside (let b = facts.below row n in omega arith))
 
   -- the lowest row with a property is the place, where the place has it and no row with a higher cause has
-  at_place : (p : ℕ → Bool) → found.number < 7 → p found.place ≡ true → ((row : ℕ) → found.number < rowCause form bounds rows row → p row ≡ false) → lowestRow rows p ≡ At found.place
-  unfolding lowestRow
+  at_place : (p : ℕ → Bool) → found.number < 7 → p found.place ≡ true → ((row : ℕ) → found.number < row_cause form bounds rows row → p row ≡ false) → lowest_row rows p ≡ At found.place
+  unfolding lowest_row
   at_place p h e f =
-      lowest-at p found.place (rowCount rows) 0 (omega arith) (let i = facts.inside h in omega arith) e (λ row a b. f row (facts.first row b))
+      lowest-at p found.place (row_count rows) 0 (omega arith) (let i = facts.inside h in omega arith) e (λ row a b. f row (facts.first row b))
 
   named : (cause : ℕ) → found.number ≡ cause → Refused (record { number = cause; place = found.place }) ≡ Refused found
   named cause e = ap (λ (n : ℕ). Refused (record { number = n; place = found.place })) (sym e)
 
-  early : found.number < 5 → rowCauses form bounds rows ≡ Refused found
-  unfolding rowCauses
+  early : found.number < 5 → row_causes form bounds rows ≡ Refused found
+  unfolding row_causes
   early h = go (ℕ_discrete found.number 3)
     where
-      place_is : rowCause form bounds rows found.place ≡ found.number
+      place_is : row_cause form bounds rows found.place ≡ found.number
       place_is = facts.is (omega arith)
 
-      go : Dec (found.number ≡ 3) → rowCauses form bounds rows ≡ Refused found
+      go : Dec (found.number ≡ 3) → row_causes form bounds rows ≡ Refused found
       go (yes e) =
-          sym (ends 3 _ _ _ _ (at_place _ (omega arith) ((of_row found.place).foreign-is (place_is ∙ e)) (λ row k. (of_row row).no-foreign (omega arith))) refl)
+          sym (ends 3 _ _ _ _ (at_place _ (omega arith) ((of_row found.place).foreign_is (place_is ∙ e)) (λ row k. (of_row row).no_foreign (omega arith))) refl)
           ∙ named 3 e
       go (no n) =
           let least = (of_row found.place).least in
           let more : 3 < found.number = lt_of_le-ne (let p = place_is in let l : 3 ≤ found.number = omega arith in l) (λ q. n (sym q)) in
           let e : found.number ≡ 4 = omega arith in
           goes_on 3 _ _ _ (no-foreign-row (omega arith)) refl
-          ∙ sym (ends 4 _ _ _ _ (at_place _ (omega arith) ((of_row found.place).mislinked-is (place_is ∙ e)) (λ row k. (of_row row).no-mislinked (omega arith))) refl)
+          ∙ sym (ends 4 _ _ _ _ (at_place _ (omega arith) ((of_row found.place).mislinked_is (place_is ∙ e)) (λ row k. (of_row row).no_mislinked (omega arith))) refl)
           ∙ named 4 e
 
-  numbers : 5 ≤ found.number → at 6 (lowestRow rows (λ row. someField (outside bounds rows row))) ≡ pick (ltb found.number 7) (Refused found) Accepted
+  numbers : 5 ≤ found.number → at 6 (lowest_row rows (λ row. some_field (outside bounds rows row))) ≡ pick (ltb found.number 7) (Refused found) Accepted
   unfolding at
   numbers h = go (dec_lt found.number 7)
     where
-      go : Dec (found.number < 7) → at 6 (lowestRow rows (λ row. someField (outside bounds rows row))) ≡ pick (ltb found.number 7) (Refused found) Accepted
+      go : Dec (found.number < 7) → at 6 (lowest_row rows (λ row. some_field (outside bounds rows row))) ≡ pick (ltb found.number 7) (Refused found) Accepted
       go (yes k) =
           let place_is = facts.is k in
           let six : found.number ≡ 6 = lone (ℕ_discrete found.number 5) in
           rw (lt-ltb found.number 7 k)
-          (ap (at 6) (at_place _ k ((of_row found.place).outside-is (place_is ∙ six)) (λ row l. (of_row row).no-outside (omega arith))) ∙ named 6 six)
+          (ap (at 6) (at_place _ k ((of_row found.place).outside_is (place_is ∙ six)) (λ row l. (of_row row).no_outside (omega arith))) ∙ named 6 six)
         where
           lone : Dec (found.number ≡ 5) → found.number ≡ 6
           lone (yes e) = absurd ((of_row found.place).not_five (facts.is k ∙ e))
@@ -254,16 +254,16 @@ module _ (form : Form) (bounds : Bounds) (rows : List ℤ) (found : Refusal) (fa
       go (no k) =
           rw (le-ltb found.number 7 (let l : 7 ≤ found.number = omega (arith, k) in l)) (ap (at 6) (no-outside-row (let l : 6 < found.number = omega (arith, k) in l)))
 
-  late : 5 ≤ found.number → rowCauses form bounds rows ≡ laterCauses rows found
-  unfolding rowCauses laterCauses
+  late : 5 ≤ found.number → row_causes form bounds rows ≡ later_causes rows found
+  unfolding row_causes later_causes
   late h =
       goes_on 3 _ _ _ (no-foreign-row (omega arith)) refl
       ∙ goes_on 4 _ _ _ (no-mislinked-row (omega arith)) refl
-      ∙ ap (λ (rest : Verdict). at 5 (lowestRow rows (λ row. notOnce rows (linkCount rows row) row)) next rest) (numbers h)
+      ∙ ap (λ (rest : Verdict). at 5 (lowest_row rows (λ row. not_once rows (link_count rows row) row)) next rest) (numbers h)
 
 -- the verdict on the rows, from what the pass found
-pub pass-verdict : (form : Form) (bounds : Bounds) (rows : List ℤ) (found : Refusal) → found ≡ lowestCause (rowCause form bounds rows) (rowCount rows)
-    → (found.number < 5 → Refused found ≡ rowCauses form bounds rows) × (5 ≤ found.number → laterCauses rows found ≡ rowCauses form bounds rows)
+pub pass-verdict : (form : Form) (bounds : Bounds) (rows : List ℤ) (found : Refusal) → found ≡ lowest_cause (row_cause form bounds rows) (row_count rows)
+    → (found.number < 5 → Refused found ≡ row_causes form bounds rows) × (5 ≤ found.number → later_causes rows found ≡ row_causes form bounds rows)
 pass-verdict form bounds rows found e =
-    let facts : Lowest (rowCause form bounds rows) (rowCount rows) found = rw e (lowest-cause (rowCause form bounds rows) (rowCount rows)) in
+    let facts : Lowest (row_cause form bounds rows) (row_count rows) found = rw e (lowest-cause (row_cause form bounds rows) (row_count rows)) in
     (λ h. sym (early form bounds rows found facts h), λ h. sym (late form bounds rows found facts h))

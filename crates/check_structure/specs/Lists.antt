@@ -1,7 +1,7 @@
 -- Lists: which item stands before another in a list, and the laws of that order.
 use Rattle.std.specs.Prelude.{List, ℕ, ◌≤◌, ◌<◌, ℤ}
 use Rattle.std.proofs.Common.{arith}
-use Rattle.words.specs.Table.{rowCount}
+use Rattle.words.specs.Table.{row_count}
 use Rattle.words.specs.Links.{link}
 use Rattle.check_structure.specs.Structured.{Leads}
 
@@ -20,9 +20,9 @@ module _ {rows : List ℤ} where
   before-later (adjacent leads) = leads.later
   before-later (further b leads) = let r = before-later b in let l = leads.later in omega arith
 
-  pub before-inside : {item row : ℕ} → Before rows item row → row < rowCount rows
-  before-inside (adjacent leads) = leads.inside
-  before-inside (further b leads) = leads.inside
+  pub before_inside : {item row : ℕ} → Before rows item row → row < row_count rows
+  before_inside (adjacent leads) = leads.inside
+  before_inside (further b leads) = leads.inside
 
   -- no item stands between an item and the next
   pub before-next : {item row : ℕ} → Before rows item row → link rows item 5 ≤ row

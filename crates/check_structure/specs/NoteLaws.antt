@@ -9,12 +9,12 @@ use Rattle.std.proofs.Math.Decide.{ℕ_discrete}
 use Rattle.std.proofs.Math.Arith.{lt_of_le-ne}
 use Rattle.std.proofs.Math.ListN.{get_or, length-set}
 use Rattle.std.proofs.Math.Seq.{get_or-set_other}
-use Rattle.words.specs.Table.{rowCount}
-use Rattle.words.specs.Links.{link, target, linker, received, noteBy, note}
+use Rattle.words.specs.Table.{row_count}
+use Rattle.words.specs.Links.{link, target, linker, received, note_by, note}
 use Rattle.words.specs.Search.{lowest}
 use Rattle.words.specs.SearchLaws.{lowest-below}
-use Rattle.check_structure.specs.Links.{linksAmong}
-use Rattle.check_structure.specs.LinkLaws.{links-since, links-miss, word_of, linker-of, owner_of}
+use Rattle.check_structure.specs.Links.{links_among}
+use Rattle.check_structure.specs.LinkLaws.{links-since, links-miss, word-of, linker-of, owner_of}
 use Rattle.check_structure.specs.Structured.{Leads, Tree}
 use Rattle.words.specs.declared.Found.{Found}
 use Rattle.words.specs.declared.Found.TheVariants.{At, Nothing}
@@ -37,26 +37,26 @@ module _ (hand : ℕ → ℕ → ℕ → ℕ) (first : ℕ) (rows : List ℤ) wh
   same_received f g Nothing h = refl
 
   -- row 0 has the first note, with any number of links
-  noteBy-zero : (links : ℕ) → noteBy links hand first rows 0 ≡ first
-  unfolding noteBy received
-  noteBy-zero zero = refl
-  noteBy-zero (suc links) = rw linker-none
+  note_by-zero : (links : ℕ) → note_by links hand first rows 0 ≡ first
+  unfolding note_by received
+  note_by-zero zero = refl
+  note_by-zero (suc links) = rw linker-none
 
   -- as many links as the row's number are enough
-  enough : (links more row : ℕ) → row ≤ links → row ≤ more → noteBy links hand first rows row ≡ noteBy more hand first rows row
-  unfolding noteBy
-  enough zero more row h k = let z : row ≡ 0 = omega arith in rw z (noteBy-zero zero ∙ sym (noteBy-zero more))
-  enough (suc links) zero row h k = let z : row ≡ 0 = omega arith in rw z (noteBy-zero (suc links) ∙ sym (noteBy-zero zero))
+  enough : (links more row : ℕ) → row ≤ links → row ≤ more → note_by links hand first rows row ≡ note_by more hand first rows row
+  unfolding note_by
+  enough zero more row h k = let z : row ≡ 0 = omega arith in rw z (note_by-zero zero ∙ sym (note_by-zero more))
+  enough (suc links) zero row h k = let z : row ≡ 0 = omega arith in rw z (note_by-zero (suc links) ∙ sym (note_by-zero zero))
   enough (suc links) (suc more) row h k =
-      same_received (noteBy links hand first rows) (noteBy more hand first rows) (linker rows row)
+      same_received (note_by links hand first rows) (note_by more hand first rows) (linker rows row)
       (λ word e. let b = linker-before rows row word e in enough links more (word / 6) (omega arith) (omega arith))
 
   pub note-root : note hand first rows 0 ≡ first
   unfolding note
-  note-root = noteBy-zero 0
+  note-root = note_by-zero 0
 
   linked-note : (word row : ℕ) → linker rows row ≡ At word → note hand first rows row ≡ hand (word / 6) (word % 6) (note hand first rows (word / 6))
-  unfolding note noteBy received
+  unfolding note note_by received
   linked-note word zero e = absurd (let b = linker-before rows 0 word e in omega arith)
   linked-note word (suc row) e =
       let b = linker-before rows (suc row) word e in
@@ -66,24 +66,24 @@ module _ (hand : ℕ → ℕ → ℕ → ℕ) (first : ℕ) (rows : List ℤ) wh
     -- a row's note is what the row that links it hands on
     pub note-link : (row field : ℕ) → field < 6 → Leads rows row field → note hand first rows (link rows row field) ≡ hand row field (note hand first rows row)
     note-link row field h leads =
-        let n : row < rowCount rows = (let l = leads.later in let i = leads.inside in omega arith) in
-        let w = word_of row field h in
+        let n : row < row_count rows = (let l = leads.later in let i = leads.inside in omega arith) in
+        let w = word-of row field h in
         rw (w.0, w.1) at (linked-note (6 * row + field) (link rows row field) (linker-of rows t row field h leads n))
 
     -- ---- a pass over the words, in order
 
     -- The notes of row 0 and of the rows that the first `words` words link are written.
     pub record Noted (words : ℕ) (notes : List ℕ) : Type 0 where
-      pub room : rowCount rows ≤ length notes
+      pub room : row_count rows ≤ length notes
       pub root : get_or notes 0 0 ≡ first
-      pub linked : (row : ℕ) → 0 < row → row < rowCount rows → 0 < linksAmong rows words row → get_or notes row 0 ≡ note hand first rows row
+      pub linked : (row : ℕ) → 0 < row → row < row_count rows → 0 < links_among rows words row → get_or notes row 0 ≡ note hand first rows row
 
-    pub noted-start : (notes : List ℕ) → rowCount rows ≤ length notes → get_or notes 0 0 ≡ first → Noted 0 notes
-    unfolding linksAmong
+    pub noted-start : (notes : List ℕ) → row_count rows ≤ length notes → get_or notes 0 0 ≡ first → Noted 0 notes
+    unfolding links_among
     noted-start notes room root = record { room = room; root = root; linked = λ row p n l. absurd (omega arith) }
 
     -- the row whose word comes next has its note
-    noted_here : (word : ℕ) (notes : List ℕ) → Noted word notes → word / 6 < rowCount rows → get_or notes (word / 6) 0 ≡ note hand first rows (word / 6)
+    noted_here : (word : ℕ) (notes : List ℕ) → Noted word notes → word / 6 < row_count rows → get_or notes (word / 6) 0 ≡ note hand first rows (word / 6)
     unfolding target
     noted_here word notes d n = go (ℕ_discrete (word / 6) 0)
       where
@@ -91,7 +91,7 @@ module _ (hand : ℕ → ℕ → ℕ → ℕ) (first : ℕ) (rows : List ℤ) wh
         go (yes q) = rw q (d.root ∙ sym note-root)
         go (no q) =
             let o = owner_of rows t (word / 6) (above_zero _ q) n in
-            let w = word_of o.owner o.field o.last in
+            let w = word-of o.owner o.field o.last in
             let e = o.earlier in let l = o.last in
             d.linked (word / 6) (above_zero _ q) n
             (links-since rows (6 * o.owner + o.field) word (word / 6) (rw (w.0, w.1) o.is) (omega arith))
@@ -106,12 +106,12 @@ module _ (hand : ℕ → ℕ → ℕ → ℕ) (first : ℕ) (rows : List ℤ) wh
         }
 
     -- a word with a link writes what its row hands on
-    pub noted-link : (word : ℕ) (notes : List ℕ) → Noted word notes → word < 6 * rowCount rows → 0 < target rows word
+    pub noted-link : (word : ℕ) (notes : List ℕ) → Noted word notes → word < 6 * row_count rows → 0 < target rows word
         → Noted (word + 1) (set notes (target rows word) (hand (word / 6) (word % 6) (get_or notes (word / 6) 0)))
     unfolding target
     noted-link word notes d b p =
         let leads = t.forward (word / 6) (word % 6) (omega arith) (omega arith) p in
-        let inside : target rows word < rowCount rows = leads.inside in
+        let inside : target rows word < row_count rows = leads.inside in
         let room = d.room in
         let value : ℕ = hand (word / 6) (word % 6) (get_or notes (word / 6) 0) in
         let handed : value ≡ note hand first rows (target rows word) =
@@ -122,7 +122,7 @@ module _ (hand : ℕ → ℕ → ℕ → ℕ) (first : ℕ) (rows : List ℤ) wh
           linked = λ row q n l. go value handed inside row q n l (ℕ_discrete row (target rows word));
         }
       where
-        go : (value : ℕ) → value ≡ note hand first rows (target rows word) → target rows word < rowCount rows → (row : ℕ) → 0 < row → row < rowCount rows → 0 < linksAmong rows (word + 1) row
+        go : (value : ℕ) → value ≡ note hand first rows (target rows word) → target rows word < row_count rows → (row : ℕ) → 0 < row → row < row_count rows → 0 < links_among rows (word + 1) row
             → Dec (row ≡ target rows word) → get_or (set notes (target rows word) value) row 0 ≡ note hand first rows row
         go value e inside row p n l (yes q) = rw q (get_or-set_same notes (target rows word) value 0 (let room = d.room in omega arith) ∙ e)
         go value e inside row p n l (no q) =
@@ -130,7 +130,7 @@ module _ (hand : ℕ → ℕ → ℕ → ℕ) (first : ℕ) (rows : List ℤ) wh
             ∙ d.linked row p n (let m = links-miss rows word row (λ (x : target rows word ≡ row). q (sym x)) in let z = rw add-one at l in omega arith)
 
     -- after all words every row has its note
-    pub noted-all : (words : ℕ) (notes : List ℕ) → 6 * rowCount rows ≤ words → Noted words notes → (row : ℕ) → row < rowCount rows → get_or notes row 0 ≡ note hand first rows row
+    pub noted-all : (words : ℕ) (notes : List ℕ) → 6 * row_count rows ≤ words → Noted words notes → (row : ℕ) → row < row_count rows → get_or notes row 0 ≡ note hand first rows row
     unfolding target
     noted-all words notes h d row n = go (ℕ_discrete row 0)
       where
@@ -138,6 +138,6 @@ module _ (hand : ℕ → ℕ → ℕ → ℕ) (first : ℕ) (rows : List ℤ) wh
         go (yes q) = rw q (d.root ∙ sym note-root)
         go (no q) =
             let o = owner_of rows t row (above_zero _ q) n in
-            let w = word_of o.owner o.field o.last in
+            let w = word-of o.owner o.field o.last in
             let e = o.earlier in let l = o.last in
             d.linked row (above_zero _ q) n (links-since rows (6 * o.owner + o.field) words row (rw (w.0, w.1) o.is) (omega arith))

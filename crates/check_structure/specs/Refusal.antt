@@ -1,13 +1,13 @@
 -- Refusal: the causes in order of number, each at the lowest row that breaks it. Here those from 1 to 6, which both forms share.
 use Rattle.std.specs.Prelude.{Bool, List, ℕ, ℤ, length}
 use Rattle.words.specs.Word.{pick}
-use Rattle.words.specs.Layout.{headerFits, countFits}
+use Rattle.words.specs.Layout.{header_fits, count_fits}
 use Rattle.words.specs.declared.Form.{Form}
 use Rattle.words.specs.declared.Verdict.{Verdict}
 use Rattle.words.specs.declared.Verdict.TheVariants.{Accepted, Refused}
-use Rattle.words.specs.Search.{lowestRow, someField}
+use Rattle.words.specs.Search.{lowest_row, some_field}
 use Rattle.check_fields.specs.Fields.{foreign, mislinked, bounds_of, outside}
-use Rattle.check_structure.specs.Links.{linkCount, notOnce}
+use Rattle.check_structure.specs.Links.{link_count, not_once}
 use Rattle.check_fields.specs.declared.Bounds.{Bounds}
 use Rattle.words.specs.declared.Found.{Found}
 use Rattle.words.specs.declared.Found.TheVariants.{At, Nothing}
@@ -28,15 +28,15 @@ Accepted next rest = rest
 (Refused refusal) next rest = Refused refusal
 
 -- Causes 3 to 6.
-unfoldable pub rowCauses : Form → Bounds → List ℤ → Verdict
-rowCauses form bounds rows =
-    at 3 (lowestRow rows (λ row. someField (foreign form rows row)))
-    next at 4 (lowestRow rows (λ row. someField (mislinked rows row)))
-    next at 5 (lowestRow rows (λ row. notOnce rows (linkCount rows row) row))
-    next at 6 (lowestRow rows (λ row. someField (outside bounds rows row)))
+unfoldable pub row_causes : Form → Bounds → List ℤ → Verdict
+row_causes form bounds rows =
+    at 3 (lowest_row rows (λ row. some_field (foreign form rows row)))
+    next at 4 (lowest_row rows (λ row. some_field (mislinked rows row)))
+    next at 5 (lowest_row rows (λ row. not_once rows (link_count rows row) row))
+    next at 6 (lowest_row rows (λ row. some_field (outside bounds rows row)))
 
-unfoldable pub structuralRefusal : Form → List ℤ → List ℤ → Verdict
-structuralRefusal form header rows =
-    unless (headerFits form header) 1
-    next unless (countFits form (length rows)) 2
-    next rowCauses form (bounds_of form header) rows
+unfoldable pub structural_refusal : Form → List ℤ → List ℤ → Verdict
+structural_refusal form header rows =
+    unless (header_fits form header) 1
+    next unless (count_fits form (length rows)) 2
+    next row_causes form (bounds_of form header) rows

@@ -7,14 +7,14 @@ use Rattle.std.proofs.Math.Decide.{ℕ_discrete}
 use Rattle.std.proofs.Math.ListN.{length, length-set}
 use borrow.Author.Tests.{eq-eqb, ne_eqb}
 use Rattle.words.specs.Word.{pick}
-use Rattle.words.specs.Table.{rowCount}
+use Rattle.words.specs.Table.{row_count}
 use Rattle.words.specs.Links.{link, target, note}
 use Rattle.check_structure.specs.NoteLaws.{above_zero, Noted, noted-none, noted-link, noted-all}
 use Rattle.check_structure.specs.Structured.{Tree}
 use Rattle.check_structure.specs.Passes.{written, Notes}
 
 -- the row that a word links, in the code's terms
-pub linked-inside : (rows : List ℤ) (word linked : ℕ) → Tree rows → word < length rows → linked ≡ link rows (word / 6) (word % 6) → (linked ≡ 0 → ⊥) → linked < rowCount rows
+pub linked-inside : (rows : List ℤ) (word linked : ℕ) → Tree rows → word < length rows → linked ≡ link rows (word / 6) (word % 6) → (linked ≡ 0 → ⊥) → linked < row_count rows
 linked-inside rows word linked t b e n =
     let whole = t.whole in
     let there : 0 < link rows (word / 6) (word % 6) = (let p = above_zero linked n in omega arith) in
@@ -38,7 +38,7 @@ module _ (hand : ℕ → ℕ → ℕ → ℕ) (rows : List ℤ) (word : ℕ) (no
       go true = refl
       go false = simp length-set
 
-  pub written-noted : (first : ℕ) (t : Tree rows) → word < 6 * rowCount rows → Noted hand first rows t word notes → Noted hand first rows t (word + 1) (written hand rows word notes)
+  pub written-noted : (first : ℕ) (t : Tree rows) → word < 6 * row_count rows → Noted hand first rows t word notes → Noted hand first rows t (word + 1) (written hand rows word notes)
   written-noted first t b d = go (ℕ_discrete (target rows word) 0)
     where
       go : Dec (target rows word ≡ 0) → Noted hand first rows t (word + 1) (written hand rows word notes)
@@ -46,5 +46,5 @@ module _ (hand : ℕ → ℕ → ℕ → ℕ) (rows : List ℤ) (word : ℕ) (no
       go (no q) = rw (← written-link (target rows word) _ refl q refl) (noted-link hand first rows t word notes d b (above_zero _ q))
 
 -- the pass is done
-pub notes-written : (hand : ℕ → ℕ → ℕ → ℕ) (first : ℕ) (rows : List ℤ) (t : Tree rows) (words : ℕ) (notes : List ℕ) → 6 * rowCount rows ≤ words → Noted hand first rows t words notes → Notes rows (note hand first rows) notes
+pub notes-written : (hand : ℕ → ℕ → ℕ → ℕ) (first : ℕ) (rows : List ℤ) (t : Tree rows) (words : ℕ) (notes : List ℕ) → 6 * row_count rows ≤ words → Noted hand first rows t words notes → Notes rows (note hand first rows) notes
 notes-written hand first rows t words notes h d = record { room = d.room; is = noted-all hand first rows t words notes h d }

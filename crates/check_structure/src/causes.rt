@@ -1,12 +1,12 @@
 // The lowest row that breaks a cause, and the causes 1 to 6 in order.
 ghost use Rattle.std.specs.Prelude.{◌≡◌, ℕ, ◌+◌, ◌*◌, ◌/◌, ◌<◌, min, length, get_or};
-ghost use Rattle.words.specs.Table.{rowCount};
+ghost use Rattle.words.specs.Table.{row_count};
 ghost use Rattle.check_grammar.specs.Grammar.{grammar};
-ghost use Rattle.words.specs.Search.{lowestRow};
+ghost use Rattle.words.specs.Search.{lowest_row};
 ghost use Rattle.words_roles.specs.Passes.{Blank, Parameters};
-ghost use Rattle.check_structure.specs.Links.{linkCount, notOnce};
-ghost use Rattle.check_structure.specs.Refusal.{at as atCause, rowCauses, structuralRefusal};
-ghost use Rattle.check_structure.specs.Passes.{fieldCause, rowCause, lowered, lowestCause, laterCauses, Unmarked, Marked};
+ghost use Rattle.check_structure.specs.Links.{link_count, not_once};
+ghost use Rattle.check_structure.specs.Refusal.{at as at_cause, row_causes, structural_refusal};
+ghost use Rattle.check_structure.specs.Passes.{field_cause, row_cause, lowered, lowest_cause, later_causes, Unmarked, Marked};
 
 use super::links::{is_not_once, mark_links, unmark};
 use check_fields::Bounds;
@@ -28,7 +28,7 @@ fn field_cause(
     field: usize,
 ) -> u32
     requires { (6 * row + 5 < length rows.now) × (field < 6) × Parameters rows.now parameters.now × (kinds.now ≡ grammar) }
-    ensures { result ≡ fieldCause form bounds rows.now row field }
+    ensures { result ≡ field_cause form bounds rows.now row field }
 {
     if is_foreign(kinds, form, rows, row, field) {
         return 3;
@@ -61,7 +61,7 @@ fn row_cause(
     row: usize,
 ) -> u32
     requires { (6 * row + 5 < length rows.now) × Parameters rows.now parameters.now × (kinds.now ≡ grammar) }
-    ensures { result ≡ rowCause form bounds rows.now row }
+    ensures { result ≡ row_cause form bounds rows.now row }
 {
     let mut cause: u32 = 7;
     let mut field: usize = 0;
@@ -98,7 +98,7 @@ fn lowest_marked_cause(
     parameters: &[u8],
 ) -> Refusal
     requires { Parameters rows.now parameters.now × (kinds.now ≡ grammar) }
-    ensures { result ≡ lowestCause (rowCause form bounds rows.now) (rowCount rows.now) }
+    ensures { result ≡ lowest_cause (row_cause form bounds rows.now) (row_count rows.now) }
 {
     let count = rows.len() / 6;
     let mut found = Refusal {
@@ -126,7 +126,7 @@ fn lowest_cause(
     marks: &mut [u8],
 ) -> Refusal
     requires { Blank rows.now marks.old × (kinds.now ≡ grammar) }
-    ensures { result ≡ lowestCause (rowCause form bounds rows.now) (rowCount rows.now) }
+    ensures { result ≡ lowest_cause (row_cause form bounds rows.now) (row_count rows.now) }
 {
     mark_parameters(rows, marks);
     lowest_marked_cause(kinds, form, bounds, rows, marks)
@@ -144,7 +144,7 @@ fn mark_at(marks: &[u8], row: usize) -> u8
 
 // The lowest row that is not linked exactly once; `marks` says how often each row is.
 fn lowest_not_marked_once(rows: &[i32], marks: &[u8]) -> Found
-    ensures { result ≡ lowestRow rows.now (λ (row : ℕ). notOnce rows.now (get_or marks.now row 0) row) }
+    ensures { result ≡ lowest_row rows.now (λ (row : ℕ). not_once rows.now (get_or marks.now row 0) row) }
 {
     let count = rows.len() / 6;
     let mut row: usize = 0;
@@ -160,7 +160,7 @@ fn lowest_not_marked_once(rows: &[i32], marks: &[u8]) -> Found
 // Cause 5. The marks are lent, since a kernel program needs twenty times the room of a source program.
 fn lowest_not_once(kinds: &KindTable, rows: &[i32], marks: &mut [u8]) -> Found
     requires { (6 * (length rows.now / 6) ≡ length rows.now) × Marked rows.now 0 marks.old × (kinds.now ≡ grammar) }
-    ensures { result ≡ lowestRow rows.now (λ (row : ℕ). notOnce rows.now (linkCount rows.now row) row) }
+    ensures { result ≡ lowest_row rows.now (λ (row : ℕ). not_once rows.now (link_count rows.now row) row) }
 {
     mark_links(kinds, rows, marks);
     lowest_not_marked_once(rows, marks)
@@ -168,7 +168,7 @@ fn lowest_not_once(kinds: &KindTable, rows: &[i32], marks: &mut [u8]) -> Found
 
 // The refusal for a cause that some row breaks.
 pub fn at(cause: u32, found: Found) -> Verdict
-    ensures { result ≡ atCause cause found }
+    ensures { result ≡ at_cause cause found }
 {
     match found {
         Found::At(row) => Verdict::Refused(Refusal {
@@ -182,7 +182,7 @@ pub fn at(cause: u32, found: Found) -> Verdict
 // Causes 5 and 6, with what the pass for 3, 4 and 6 found: 6, or 7 for none.
 fn later_causes(kinds: &KindTable, rows: &[i32], marks: &mut [u8], found: Refusal) -> Verdict
     requires { (6 * (length rows.now / 6) ≡ length rows.now) × Marked rows.now 0 marks.old × (kinds.now ≡ grammar) }
-    ensures { result ≡ laterCauses rows.now found }
+    ensures { result ≡ later_causes rows.now found }
 {
     let once = lowest_not_once(kinds, rows, marks);
     if let Found::At(row) = once {
@@ -206,7 +206,7 @@ fn row_causes(
     marks: &mut [u8],
 ) -> Verdict
     requires { (6 * (length rows.now / 6) ≡ length rows.now) × Blank rows.now marks.old × (kinds.now ≡ grammar) }
-    ensures { result ≡ rowCauses form bounds rows.now }
+    ensures { result ≡ row_causes form bounds rows.now }
 {
     let found = lowest_cause(kinds, form, bounds, rows, marks);
     if found.number < 5 {
@@ -219,7 +219,7 @@ fn row_causes(
 // The same, with the table of kinds: it is built here, once, and lent on.
 fn table_causes(form: Form, bounds: Bounds, rows: &[i32], marks: &mut [u8]) -> Verdict
     requires { (6 * (length rows.now / 6) ≡ length rows.now) × Blank rows.now marks.old }
-    ensures { result ≡ rowCauses form bounds rows.now }
+    ensures { result ≡ row_causes form bounds rows.now }
 {
     let kinds = kind_table();
     row_causes(&kinds, form, bounds, rows, marks)
@@ -228,7 +228,7 @@ fn table_causes(form: Form, bounds: Bounds, rows: &[i32], marks: &mut [u8]) -> V
 // The causes 1 to 6, which both forms share. The marks have room for the rows of the form, and none is set.
 pub fn structural_refusal(form: Form, header: &[i32], rows: &[i32], marks: &mut [u8]) -> Verdict
     requires { Unmarked form marks.old }
-    ensures { result ≡ structuralRefusal form header.now rows.now }
+    ensures { result ≡ structural_refusal form header.now rows.now }
 {
     if !header_fits(form, header) {
         return Verdict::Refused(Refusal {

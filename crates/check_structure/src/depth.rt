@@ -1,9 +1,9 @@
 // Cause 9: a walk down the links, which stops one level below the limit. It runs on a tree of rows, so each row is met once.
 ghost use Rattle.std.specs.Prelude.{◌≡◌, ◌+◌, ◌/◌, ◌<◌, ◌≤◌, min, length};
-ghost use Rattle.words.specs.Layout.{depthLimit};
+ghost use Rattle.words.specs.Layout.{depth_limit};
 ghost use Rattle.check_grammar.specs.Grammar.{grammar};
-ghost use Rattle.words.specs.Search.{lowestRow};
-ghost use Rattle.check_structure.specs.Links.{depthAt, tooDeep};
+ghost use Rattle.words.specs.Search.{lowest_row};
+ghost use Rattle.check_structure.specs.Links.{depth_at, too_deep};
 ghost use Rattle.check_structure.specs.Structured.{Tree};
 ghost use Rattle.check_structure.specs.Passes.{Under, Through, LowestDeep};
 
@@ -11,7 +11,7 @@ use check_grammar::{KindTable, link};
 use words::{Form, Found};
 
 pub fn depth_limit(form: Form) -> usize
-    ensures { result ≡ depthLimit form }
+    ensures { result ≡ depth_limit form }
 {
     match form {
         Form::Source => 64,
@@ -29,9 +29,9 @@ fn lower(one: usize, other: usize) -> usize
 }
 
 // The lowest row over the limit in the list that begins at `first`, and below it; the number of rows where there is none.
-#[cycle(lowest_deep_lowest_deep_parts)]
+#[cycle(lowest_depth)]
 fn lowest_deep(kinds: &KindTable, limit: usize, rows: &[i32], first: usize, depth: usize) -> usize
-    requires { Tree rows.now × (limit ≤ 512) × (first < length rows.now / 6) × (depth ≤ limit + 1) × (depthAt rows.now first ≡ depth) × (kinds.now ≡ grammar) }
+    requires { Tree rows.now × (limit ≤ 512) × (first < length rows.now / 6) × (depth ≤ limit + 1) × (depth_at rows.now first ≡ depth) × (kinds.now ≡ grammar) }
     ensures { LowestDeep limit rows.now (Under rows.now first) result }
 {
     if limit < depth {
@@ -50,7 +50,7 @@ fn lowest_deep(kinds: &KindTable, limit: usize, rows: &[i32], first: usize, dept
 }
 
 // The same for the rows below a row, apart from those that follow it in its list.
-#[cycle(lowest_deep_lowest_deep_parts)]
+#[cycle(lowest_depth)]
 fn lowest_deep_parts(
     kinds: &KindTable,
     limit: usize,
@@ -58,7 +58,7 @@ fn lowest_deep_parts(
     row: usize,
     depth: usize,
 ) -> usize
-    requires { Tree rows.now × (limit ≤ 512) × (row < length rows.now / 6) × (depth ≤ limit) × (depthAt rows.now row ≡ depth) × (kinds.now ≡ grammar) }
+    requires { Tree rows.now × (limit ≤ 512) × (row < length rows.now / 6) × (depth ≤ limit) × (depth_at rows.now row ≡ depth) × (kinds.now ≡ grammar) }
     ensures { LowestDeep limit rows.now (Through rows.now row 5) result }
 {
     let mut found = rows.len() / 6;
@@ -76,7 +76,7 @@ fn lowest_deep_parts(
 // The lowest row over the form's limit. The table of kinds is lent by the checks: built there, it shares the room of arrays that come later.
 pub fn lowest_deep_by(kinds: &KindTable, form: Form, rows: &[i32]) -> Found
     requires { (Tree rows.now) × (kinds.now ≡ grammar) }
-    ensures { result ≡ lowestRow rows.now (tooDeep form rows.now) }
+    ensures { result ≡ lowest_row rows.now (too_deep form rows.now) }
 {
     let found = lowest_deep(kinds, depth_limit(form), rows, 0, 1);
     if found < rows.len() / 6 {

@@ -1,4 +1,6 @@
 // What the checks of both forms share: the causes 1 to 6 and 9.
+#![tactic(auto)]
+
 pub mod causes; // causes.rt: the lowest row that breaks a cause, and the causes 1 to 6 in order
 pub mod depth; // depth.rt: cause 9, by a walk down the links
 pub mod links; // links.rt: how often each row is linked, and cause 5

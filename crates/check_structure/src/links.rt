@@ -1,8 +1,8 @@
 // How often each row is linked, and cause 5.
 ghost use Rattle.std.specs.Prelude.{◌≡◌, ◌+◌, ◌*◌, ◌/◌, ◌<◌, ◌≤◌, length};
 ghost use Rattle.check_grammar.specs.Grammar.{grammar};
-ghost use Rattle.check_structure.specs.Links.{notOnce, loneBlock};
-ghost use Rattle.check_structure.specs.Passes.{marked, markedLink, Marked, Cleared};
+ghost use Rattle.check_structure.specs.Links.{not_once, lone_block};
+ghost use Rattle.check_structure.specs.Passes.{marked, marked_link, Marked, Cleared};
 
 use check_grammar::{KindTable, link};
 use words::table::number_at;
@@ -21,7 +21,7 @@ fn mark(marks: &mut [u8], row: usize)
 
 // Marks the row that a field links; 0 is no link.
 fn mark_link(marks: &mut [u8], linked: usize)
-    ensures { marks.new ≡ markedLink marks.old linked }
+    ensures { marks.new ≡ marked_link marks.old linked }
 {
     if linked != 0 {
         mark(marks, linked);
@@ -63,7 +63,7 @@ pub fn unmark(count: usize, marks: &mut [u8])
 
 fn is_lone_block(rows: &[i32]) -> bool
     requires { 5 < length rows.now }
-    ensures { result ≡ loneBlock rows.now }
+    ensures { result ≡ lone_block rows.now }
 {
     if number_at(rows, 0, 0) == 42 {
         return number_at(rows, 0, 5) == 0;
@@ -74,7 +74,7 @@ fn is_lone_block(rows: &[i32]) -> bool
 // Cause 5, with how often the row is linked.
 pub fn is_not_once(rows: &[i32], count: u8, row: usize) -> bool
     requires { 6 * row + 5 < length rows.now }
-    ensures { result ≡ notOnce rows.now count row }
+    ensures { result ≡ not_once rows.now count row }
 {
     if row == 0 {
         return !is_lone_block(rows);

@@ -1,4 +1,6 @@
 // Runs the checks of both forms on the tables of standard input, then on tables that are made here.
+#![tactic(auto)]
+
 mod made; // made.rt: tables that are made here: deep ones, long ones, large switches, one without a header
 mod number; // number.rt: the decimal numbers of a text
 mod tables; // tables.rt: the tables of a text

@@ -4,7 +4,7 @@ ghost use Rattle.std.specs.Prelude.{◌<◌, ◌≤◌, length};
 use arithmetic::{Computed, minus};
 
 // A number, and the position behind the byte that ends it.
-#[derive(Drop)]
+#[derive(Clone, Copy)]
 struct Read {
     value: i32,
     at: usize,

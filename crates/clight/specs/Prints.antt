@@ -4,13 +4,13 @@ use Rattle.words.specs.declared.Form.TheVariants.{Kernel}
 use Rattle.words.specs.declared.Verdict.{Verdict}
 use Rattle.words.specs.declared.Verdict.TheVariants.{Accepted, Refused}
 use Rattle.text_form.specs.Answers.{refused, WriteResult}
-use Rattle.page_printer.specs.Pages.{printAccepted}
-use Rattle.program_runs.specs.Runs.{refusalOf}
+use Rattle.page_printer.specs.Pages.{print_accepted}
+use Rattle.program_runs.specs.Runs.{refusal_of}
 
 -- The kernel check's causes first; then 10. A refusal leaves the page as it was.
-abbrev pub printAfter : Verdict → List ℤ → List ℤ → List ℕ → WriteResult
-printAfter (Refused refusal) header rows page = record { outcome = refused refusal.number refusal.place; text = page }
-printAfter Accepted header rows page = printAccepted header rows page
+abbrev pub print_after : Verdict → List ℤ → List ℤ → List ℕ → WriteResult
+print_after (Refused refusal) header rows page = record { outcome = refused refusal.number refusal.place; text = page }
+print_after Accepted header rows page = print_accepted header rows page
 
-unfoldable pub printResult : List ℤ → List ℤ → List ℕ → WriteResult
-printResult header rows page = printAfter (refusalOf Kernel header rows) header rows page
+unfoldable pub print_result : List ℤ → List ℤ → List ℕ → WriteResult
+print_result header rows page = print_after (refusal_of Kernel header rows) header rows page

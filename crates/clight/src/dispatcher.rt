@@ -1,6 +1,6 @@
 // The run that a dispatcher sees: the ending and the first S words.
 ghost use Rattle.std.specs.Prelude.{◌≡◌};
-ghost use Rattle.program_dispatcher.specs.DispatcherRuns.{answerAndWords, dispatcherResult};
+ghost use Rattle.program_dispatcher.specs.DispatcherRuns.{answer_and_words, dispatcher_result};
 
 use program_dispatcher::DispatcherVerdict;
 
@@ -11,7 +11,7 @@ pub fn dispatcher_run(
     words: &mut [i32],
     budget: u32,
 ) -> DispatcherVerdict
-    ensures { answerAndWords result words.new ≡ dispatcherResult header.now rows.now budget words.old }
+    ensures { answer_and_words result words.new ≡ dispatcher_result header.now rows.now budget words.old }
 {
     program_dispatcher::dispatcher_run(header, rows, words, budget)
 }

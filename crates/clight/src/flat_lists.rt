@@ -1,8 +1,8 @@
 // Flat lists: their writer, their check, their run. Change 10.
 ghost use Rattle.std.specs.Prelude.{◌≡◌};
-ghost use Rattle.flat.specs.Refusal.{refusal as flatRefusal};
-ghost use Rattle.flat.specs.Results.{answerAndStore, flatResult};
-ghost use Rattle.flattener.specs.Flattening.{answerAndList, flattenResult, WritesList};
+ghost use Rattle.flat.specs.Refusal.{refusal as flat_refusal};
+ghost use Rattle.flat.specs.Results.{answer_and_store, flat_result};
+ghost use Rattle.flattener.specs.Flattening.{answer_and_list, flatten_result, WritesList};
 
 use flattener::FlattenAnswer;
 use words::{RunVerdict, Verdict};
@@ -11,7 +11,7 @@ use words::{RunVerdict, Verdict};
 // functions, then 10. The second promise is about the words that were written: the list's own check takes them, they are exactly as many as
 // docs/FLAT.md says, and the kernel run and the flat run on equal stores share their fate.
 pub fn flatten(header: &[i32], rows: &[i32], list: &mut [i32]) -> FlattenAnswer
-    ensures list_after { answerAndList result list.new ≡ flattenResult header.now rows.now list.old }
+    ensures list_after { answer_and_list result list.new ≡ flatten_result header.now rows.now list.old }
     ensures writes_list { WritesList header.now rows.now result list.new }
 {
     flattener::flatten(header, rows, list)
@@ -19,14 +19,14 @@ pub fn flatten(header: &[i32], rows: &[i32], list: &mut [i32]) -> FlattenAnswer
 
 // The list's own check: causes 1, 2, then 3, 4 and 6 with the line from 0.
 pub fn flat_check(header: &[i32], list: &[i32]) -> Verdict
-    ensures { result ≡ flatRefusal header.now list.now }
+    ensures { result ≡ flat_refusal header.now list.now }
 {
     flat_check::check(header, list)
 }
 
 // Runs a flat list on the store, "budget counted in lines".
 pub fn flat_run(header: &[i32], list: &[i32], store: &mut [i32], budget: u32) -> RunVerdict
-    ensures { answerAndStore result store.new ≡ flatResult header.now list.now budget store.old }
+    ensures { answer_and_store result store.new ≡ flat_result header.now list.now budget store.old }
 {
     flat_machine::whole::flat_run(header, list, store, budget)
 }

@@ -1,6 +1,6 @@
 // The join of two source programs.
 ghost use Rattle.std.specs.Prelude.{◌≡◌};
-ghost use Rattle.joiner.specs.Joining.{answerAndRows, joinResult, WritesJoin};
+ghost use Rattle.joiner.specs.Joining.{answer_and_rows, join_result, WritesJoin};
 
 use joiner::JoinAnswer;
 
@@ -14,7 +14,7 @@ pub fn join(
     second_rows: &[i32],
     out_rows: &mut [i32],
 ) -> JoinAnswer
-    ensures out_rows_after { answerAndRows result out_rows.new ≡ joinResult header.now rows.now second_header.now second_rows.now out_rows.old }
+    ensures out_rows_after { answer_and_rows result out_rows.new ≡ join_result header.now rows.now second_header.now second_rows.now out_rows.old }
     ensures writes_join { WritesJoin header.now rows.now second_rows.now result out_rows.new }
 {
     joiner::join(header, rows, second_header, second_rows, out_rows)

@@ -1,6 +1,6 @@
 // What a rule would do to a store, told beforehand.
 ghost use Rattle.std.specs.Prelude.{◌≡◌};
-ghost use Rattle.program_previews.specs.Previews.{answerAndWords, previewResult};
+ghost use Rattle.program_previews.specs.Previews.{answer_and_words, preview_result};
 
 use program_previews::PreviewVerdict;
 
@@ -13,7 +13,7 @@ pub fn preview(
     budget: u32,
     scratch: &mut [i32],
 ) -> PreviewVerdict
-    ensures { answerAndWords result store.now scratch.new ≡ previewResult header.now rows.now budget store.now scratch.old }
+    ensures { answer_and_words result store.now scratch.new ≡ preview_result header.now rows.now budget store.now scratch.old }
 {
     program_previews::preview(header, rows, store, budget, scratch)
 }

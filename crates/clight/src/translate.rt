@@ -1,7 +1,7 @@
 // The translation of source programs into kernel form.
 ghost use Rattle.std.specs.Prelude.{◌≡◌};
 ghost use Rattle.translation_fate.specs.KernelForms.{HasKernelForm};
-ghost use Rattle.translator.specs.Translation.{answerAndTables, translateResult, WritesKernelForm};
+ghost use Rattle.translator.specs.Translation.{answer_and_tables, translate_result, WritesKernelForm};
 
 use translator::TranslateAnswer;
 
@@ -14,7 +14,7 @@ pub fn translate(
     kernel_header: &mut [i32],
     kernel_rows: &mut [i32],
 ) -> TranslateAnswer
-    ensures kernel_rows_after { answerAndTables result kernel_header.new kernel_rows.new ≡ translateResult header.now rows.now kernel_header.old kernel_rows.old }
+    ensures kernel_rows_after { answer_and_tables result kernel_header.new kernel_rows.new ≡ translate_result header.now rows.now kernel_header.old kernel_rows.old }
     ensures has_kernel_form { HasKernelForm header.now rows.now }
     ensures writes_kernel_form { WritesKernelForm header.now rows.now result kernel_header.new kernel_rows.new }
 {

@@ -2,10 +2,10 @@
 ghost use Rattle.std.specs.Prelude.{◌≡◌, ◌≤◌, length};
 ghost use Rattle.words.specs.declared.Form.TheVariants.{Kernel};
 ghost use Rattle.text_numbers.specs.Writer.{Put};
-ghost use Rattle.command_request.specs.Inputs.{isUnreadable, bytesRead};
-ghost use Rattle.command_answer.specs.Inputs.{inputsOutput};
-ghost use Rattle.command_text.specs.Texts.{Roomy, outputRoom, storeLimit};
-ghost use Rattle.command_answer.specs.Output.{requestOutput, commandOutput};
+ghost use Rattle.command_request.specs.Inputs.{is_unreadable, bytes_read};
+ghost use Rattle.command_answer.specs.Inputs.{inputs_output};
+ghost use Rattle.command_text.specs.Texts.{Roomy, output_room, store_limit};
+ghost use Rattle.command_answer.specs.Output.{request_output, command_output};
 
 use command_lines::{
     long_store_line, long_text_line, unreadable_store_line, unreadable_text_line, usage_line,
@@ -28,9 +28,9 @@ fn request_answer(
     out: &mut [u8],
 ) -> usize
     requires roomy { Roomy Kernel header.old rows.old }
-    requires stored_len_bound { length stored.now ≤ storeLimit }
-    requires output_room_in_bounds { outputRoom ≤ length out.old }
-    ensures { Put (requestOutput request text.now stored.now) out.old result out.new }
+    requires stored_len_bound { length stored.now ≤ store_limit }
+    requires output_room_in_bounds { output_room ≤ length out.old }
+    ensures { Put (request_output request text.now stored.now) out.old result out.new }
 {
     match request {
         Request::Ask(question) => question_answer(question, text, header, rows, out),
@@ -55,8 +55,8 @@ fn answer(
     out: &mut [u8],
 ) -> usize
     requires roomy { Roomy Kernel header.old rows.old }
-    requires output_room_in_bounds { outputRoom ≤ length out.old }
-    ensures { Put (commandOutput request text.now stored.now) out.old result out.new }
+    requires output_room_in_bounds { output_room ≤ length out.old }
+    ensures { Put (command_output request text.now stored.now) out.old result out.new }
 {
     if text.len() > 2097152 {
         return long_text_line(out);
@@ -68,7 +68,7 @@ fn answer(
 }
 
 fn is_unreadable(input: Input) -> bool
-    ensures { result ≡ isUnreadable input }
+    ensures { result ≡ is_unreadable input }
 {
     match input {
         Input::Absent => false,
@@ -78,7 +78,7 @@ fn is_unreadable(input: Input) -> bool
 }
 
 fn bytes_read(input: Input) -> usize
-    ensures { result ≡ bytesRead input }
+    ensures { result ≡ bytes_read input }
 {
     match input {
         Input::Absent => 0,
@@ -99,10 +99,10 @@ pub fn inputs_answer(
     rows: &mut [i32],
     out: &mut [u8],
 ) -> usize
-    requires text_input_in_bounds { (bytesRead text_input ≤ length text.now) × (bytesRead store_input ≤ length stored.now) }
+    requires text_input_in_bounds { (bytes_read text_input ≤ length text.now) × (bytes_read store_input ≤ length stored.now) }
     requires roomy { Roomy Kernel header.old rows.old }
-    requires output_room_in_bounds { outputRoom ≤ length out.old }
-    ensures { Put (inputsOutput request text_input store_input text.now stored.now) out.old result out.new }
+    requires output_room_in_bounds { output_room ≤ length out.old }
+    ensures { Put (inputs_output request text_input store_input text.now stored.now) out.old result out.new }
 {
     if is_unreadable(text_input) {
         return unreadable_text_line(out);

@@ -2,13 +2,15 @@
 //
 // A case is a line of arguments, parted by single blanks; the bytes of a store file, up to a %; and from the next line on the text, up to
 // a #. What stands behind the % or the # on its line is passed over.
+#![tactic(auto)]
+
 mod arguments; // arguments.rt: the words of a line of arguments
 mod stream; // stream.rt: where the parts of a case stand
 
 ghost use Rattle.std.specs.Prelude.{◌≤◌, ◌<◌, length};
 ghost use Rattle.words.specs.declared.Form.TheVariants.{Kernel};
-ghost use Rattle.command_request.specs.Inputs.{bytesRead};
-ghost use Rattle.command_text.specs.Texts.{Roomy, outputRoom};
+ghost use Rattle.command_request.specs.Inputs.{bytes_read};
+ghost use Rattle.command_text.specs.Texts.{Roomy, output_room};
 
 use self::arguments::{argument_count, first_end, second_end, second_start};
 use self::stream::{behind, find};
@@ -20,7 +22,7 @@ use libc::{STDIN_FILENO, STDOUT_FILENO};
 
 // What is read where something is wanted: all of the bytes.
 fn input_of(wanted: bool, bytes: &[u8]) -> Input
-    ensures { bytesRead result ≤ length bytes.now }
+    ensures { bytes_read result ≤ length bytes.now }
 {
     if wanted {
         return Input::Bytes(bytes.len());
@@ -37,7 +39,7 @@ fn answer_request(
     out: &mut [u8],
 )
     requires roomy { Roomy Kernel header.old rows.old }
-    requires output_room_in_bounds { outputRoom ≤ length out.old }
+    requires output_room_in_bounds { output_room ≤ length out.old }
 {
     let text_input = input_of(reads_text(request), text);
     let store_input = input_of(reads_store(request), stored);
@@ -71,7 +73,7 @@ fn answer_case(
 ) -> usize
     requires start_in_bounds { start < length input.now }
     requires roomy { Roomy Kernel header.old rows.old }
-    requires output_room_in_bounds { outputRoom ≤ length out.old }
+    requires output_room_in_bounds { output_room ≤ length out.old }
     ensures { (start < result) × (result ≤ length input.now) }
 {
     let line = find(input, start, b'\n');
@@ -93,7 +95,7 @@ fn answer_case(
 
 fn answer_cases(input: &[u8], header: &mut [i32], rows: &mut [i32], out: &mut [u8])
     requires roomy { Roomy Kernel header.old rows.old }
-    requires output_room_in_bounds { outputRoom ≤ length out.old }
+    requires output_room_in_bounds { output_room ≤ length out.old }
 {
     let mut at: usize = 0;
     while at < input.len() {

@@ -1,7 +1,9 @@
 // What the command reads: standard input, and the file that an argument names. What a file holds is C's to say; that it is read exactly where it is wanted,
 // and within the buffer, is in the contracts.
+#![tactic(auto)]
+
 ghost use Rattle.std.specs.Prelude.{true, length};
-ghost use Rattle.command_request.specs.Requests.{readsText};
+ghost use Rattle.command_request.specs.Requests.{reads_text};
 ghost use Rattle.command_request.specs.Inputs.{Fetched};
 ghost use Rattle.command_files.specs.Files.{Opened};
 
@@ -42,7 +44,7 @@ fn read_opened(fd: i32, buffer: &mut [u8]) -> Input
 
 // Reads standard input, where the request is about a text.
 pub fn read_text(request: Request, buffer: &mut [u8]) -> Input
-    ensures { Fetched (readsText request) result (length buffer.old) }
+    ensures { Fetched (reads_text request) result (length buffer.old) }
 {
     if !reads_text(request) {
         return Input::Absent;

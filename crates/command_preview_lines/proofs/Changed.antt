@@ -10,41 +10,41 @@ use lib.Signed.{mag}
 use lib.ListN.{length, get_or}
 use mir.Syntax.{w32}
 use mir.Val.{to_z, of_z}
-use Rattle.words.specs.Word.{sameWord, pick}
+use Rattle.words.specs.Word.{same_word, pick}
 use Rattle.words.specs.Laws.{back}
 use Rattle.words.specs.OverLaws.{part, back_in}
 use Rattle.text_numbers.specs.Writer.{Put}
 use Rattle.text_numbers.specs.PutLaws.{put-none, Put-as, put-length, put_next, put-space, put-inside}
-use Rattle.command_preview_lines.specs.Changes.{changeLine, changeAt, changeLines}
+use Rattle.command_preview_lines.specs.Changes.{change_line, change_at, change_lines}
 
-pub unchanged : (place : ℕ) (v w : ℤ) → sameWord v w ≡ true → [] ≡ changeAt place v w
-unfolding changeAt
-unchanged place v w e = sym (ap (λ (same : Bool). pick same [] (changeLine place v w)) e)
+pub unchanged : (place : ℕ) (v w : ℤ) → same_word v w ≡ true → [] ≡ change_at place v w
+unfolding change_at
+unchanged place v w e = sym (ap (λ (same : Bool). pick same [] (change_line place v w)) e)
 
-pub changed : (place : ℕ) (v w : ℤ) → sameWord v w ≡ false → changeLine place v w ≡ changeAt place v w
-unfolding changeAt
-changed place v w e = sym (ap (λ (same : Bool). pick same [] (changeLine place v w)) e)
+pub changed : (place : ℕ) (v w : ℤ) → same_word v w ≡ false → change_line place v w ≡ change_at place v w
+unfolding change_at
+changed place v w e = sym (ap (λ (same : Bool). pick same [] (change_line place v w)) e)
 
 abbrev word_of : ℕ → List ℤ → ℤ
 word_of i words = get_or words i (pos 0)
 
-lines_next : (n : ℕ) (store left : List ℤ) → changeLines n store left ++ changeAt n (word_of n store) (word_of n left) ≡ changeLines (n + 1) store left
-unfolding changeLines
-lines_next n store left = sym (ap (λ (k : ℕ). changeLines k store left) (add-one n))
+lines_next : (n : ℕ) (store left : List ℤ) → change_lines n store left ++ change_at n (word_of n store) (word_of n left) ≡ change_lines (n + 1) store left
+unfolding change_lines
+lines_next n store left = sym (ap (λ (k : ℕ). change_lines k store left) (add-one n))
 
 -- so many of the first places were passed
 pub record Passed (shown : ℕ) (store left : List ℤ) (i at : ℕ) (buffer text : List ℕ) : Type 0 where
   pub inside : i ≤ shown
   pub few : at ≤ 46 * i
   pub room : 46 * shown ≤ length buffer
-  pub put : Put (changeLines i store left) buffer at text
+  pub put : Put (change_lines i store left) buffer at text
 
 pub passed_start : (shown : ℕ) (store left : List ℤ) (buffer : List ℕ) → 46 * shown ≤ length buffer → Passed shown store left 0 0 buffer buffer
-unfolding changeLines
+unfolding change_lines
 passed_start shown store left buffer h = record { inside = omega arith; few = omega arith; room = h; put = put-none buffer }
 
 module _ {shown : ℕ} {store left : List ℤ} {i at : ℕ} {buffer text : List ℕ} (b : Passed shown store left i at buffer text) where
-  pub passed-size : length (changeLines i store left) ≤ 46 * i
+  pub passed-size : length (change_lines i store left) ≤ 46 * i
   passed-size = omega (arith, b.few, b.put.size)
 
   pub passed_length : length text ≡ length buffer
@@ -53,21 +53,21 @@ module _ {shown : ℕ} {store left : List ℤ} {i at : ℕ} {buffer text : List 
   pub passed-inside : at ≤ length text
   passed-inside = put-inside b.put (omega (arith, passed-size, b.inside, b.room))
 
-  pub passed-end : shown ≤ i → Put (changeLines shown store left) buffer at text
+  pub passed-end : shown ≤ i → Put (change_lines shown store left) buffer at text
   passed-end h =
       let e : i ≡ shown = omega (arith, b.inside) in
-      Put-as (ap (λ (n : ℕ). changeLines n store left) e) b.put
+      Put-as (ap (λ (n : ℕ). change_lines n store left) e) b.put
 
   module _ (more : i < shown) where
     pub passed-space : 46 ≤ length (part at text)
     passed-space = put-space b.put 46 (omega (arith, passed-size, b.room))
 
     -- one place more, its words as the code reads them
-    pub passed-next : mag (word_of i store) < 2 ^ 31 → mag (word_of i left) < 2 ^ 31 → (size : ℕ) (lent : List ℕ) → Put (changeAt i (to_z w32 (of_z w32 (word_of i store))) (to_z w32 (of_z w32 (word_of i left)))) (part at text) size lent → size ≤ 46
+    pub passed-next : mag (word_of i store) < 2 ^ 31 → mag (word_of i left) < 2 ^ 31 → (size : ℕ) (lent : List ℕ) → Put (change_at i (to_z w32 (of_z w32 (word_of i store))) (to_z w32 (of_z w32 (word_of i left)))) (part at text) size lent → size ≤ 46
         → Passed shown store left (i + 1) (at + size) buffer (back_in at text lent)
     passed-next f g size lent p h = record {
       inside = omega arith;
       few = omega (arith, b.few);
       room = b.room;
-      put = Put-as (lines_next i store left) (put_next b.put (changeAt i (word_of i store) (word_of i left)) size lent (Put-as (ap₂ (changeAt i) (back (word_of i store) f) (back (word_of i left) g)) p));
+      put = Put-as (lines_next i store left) (put_next b.put (change_at i (word_of i store) (word_of i left)) size lent (Put-as (ap₂ (change_at i) (back (word_of i store) f) (back (word_of i left) g)) p));
     }

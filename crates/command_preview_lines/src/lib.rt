@@ -1,8 +1,10 @@
 // The lines that a preview prints. A writer puts its bytes at the start of `text`, and answers how many they are.
+#![tactic(auto)]
+
 ghost use Rattle.std.specs.Prelude.{◌≤◌, ◌*◌, length};
 ghost use Rattle.text_numbers.specs.Writer.{Put};
 ghost use Rattle.program_previews.specs.declared.PreviewVerdict.TheVariants.{Previewed};
-ghost use Rattle.command_preview_lines.specs.Changes.{toldLine, changeLine, changeAt, changeLines, previewLines, Showable};
+ghost use Rattle.command_preview_lines.specs.Changes.{told_line, change_line, change_at, change_lines, preview_lines, Showable};
 
 use program_previews::{PreviewAnswer, PreviewVerdict};
 use text_numbers::digits::put_digits;
@@ -13,7 +15,7 @@ use words::Ending;
 // The first line.
 fn told_line(ending: Ending, count: u32, differing: usize, text: &mut [u8]) -> usize
     requires { 41 ≤ length text.old }
-    ensures put { Put (toldLine ending count differing) text.old result text.new }
+    ensures put { Put (told_line ending count differing) text.old result text.new }
     ensures upper_bound { result ≤ 41 }
 {
     let named = put_ending_name(ending, text);
@@ -26,7 +28,7 @@ fn told_line(ending: Ending, count: u32, differing: usize, text: &mut [u8]) -> u
 // The line of a word that would differ.
 fn change_line(place: usize, before: i32, after: i32, text: &mut [u8]) -> usize
     requires { 46 ≤ length text.old }
-    ensures put { Put (changeLine place before after) text.old result text.new }
+    ensures put { Put (change_line place before after) text.old result text.new }
     ensures upper_bound { result ≤ 46 }
 {
     let placed = put_digits(place as u64, text);
@@ -41,7 +43,7 @@ fn change_line(place: usize, before: i32, after: i32, text: &mut [u8]) -> usize
 // The line of a place, where its words differ.
 fn change_at(place: usize, before: i32, after: i32, text: &mut [u8]) -> usize
     requires { 46 ≤ length text.old }
-    ensures put { Put (changeAt place before after) text.old result text.new }
+    ensures put { Put (change_at place before after) text.old result text.new }
     ensures upper_bound { result ≤ 46 }
 {
     if before == after {
@@ -54,7 +56,7 @@ fn change_at(place: usize, before: i32, after: i32, text: &mut [u8]) -> usize
 fn change_lines(size: usize, store: &[i32], left: &[i32], text: &mut [u8]) -> usize
     requires size_in_bounds { (size ≤ length store.now) × (size ≤ length left.now) }
     requires size_in_bounds_2 { 46 * size ≤ length text.old }
-    ensures put { Put (changeLines size store.now left.now) text.old result text.new }
+    ensures put { Put (change_lines size store.now left.now) text.old result text.new }
     ensures upper_bound { result ≤ 46 * size }
 {
     let mut at: usize = 0;
@@ -74,7 +76,7 @@ fn told_lines(
     text: &mut [u8],
 ) -> usize
     requires { Showable (Previewed preview) size store.now left.now (length text.old) }
-    ensures { Put (previewLines (Previewed preview) size store.now left.now) text.old result text.new }
+    ensures { Put (preview_lines (Previewed preview) size store.now left.now) text.old result text.new }
 {
     let ending = preview.ending;
     let told = told_line(ending, preview.count, preview.differing, text);
@@ -90,7 +92,7 @@ pub fn preview_lines(
     text: &mut [u8],
 ) -> usize
     requires { Showable verdict size store.now left.now (length text.old) }
-    ensures { Put (previewLines verdict size store.now left.now) text.old result text.new }
+    ensures { Put (preview_lines verdict size store.now left.now) text.old result text.new }
 {
     match verdict {
         PreviewVerdict::Previewed(preview) => told_lines(preview, size, store, left, text),

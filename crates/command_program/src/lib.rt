@@ -1,10 +1,12 @@
 // The command: reads the arguments, standard input and the file that is named, has `command_answer` put the bytes together, and writes them to
 // standard output. What is read and written is C's to say; all that this crate makes of it is in the contracts.
+#![tactic(auto)]
+
 pub mod buffers; // buffers.rt: the tables and buffers that a request is answered in
 
 ghost use Rattle.std.specs.Prelude.{◌≡◌, ◌-◌, ◌≤◌, length};
 ghost use Rattle.words.specs.declared.Form.TheVariants.{Kernel};
-ghost use Rattle.command_text.specs.Texts.{Roomy, outputRoom};
+ghost use Rattle.command_text.specs.Texts.{Roomy, output_room};
 ghost use Rattle.command_program.specs.Responses.{Responds, Answered};
 
 use self::buffers::{header_table, output_buffer, row_table, store_buffer, text_buffer};
@@ -15,7 +17,7 @@ use command_request::request::{Request, file_argument, reads_store, request_of};
 use libc::STDOUT_FILENO;
 
 // What was read for a request, and how many bytes are printed for it.
-#[derive(Drop)]
+#[derive(Clone, Copy)]
 pub struct Response {
     pub text: Input,
     pub store: Input,
@@ -33,7 +35,7 @@ fn respond_in(
     out: &mut [u8],
 ) -> Response
     requires roomy { Roomy Kernel header.old rows.old }
-    requires output_room_in_bounds { outputRoom ≤ length out.old }
+    requires output_room_in_bounds { output_room ≤ length out.old }
     ensures { Responds request result text.new stored.new out.old out.new }
 {
     let text_input = read_text(request, text);

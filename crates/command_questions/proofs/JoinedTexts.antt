@@ -13,56 +13,56 @@ use Rattle.words.specs.declared.Verdict.{Verdict}
 use Rattle.words.specs.declared.Verdict.TheVariants.{Accepted, Refused}
 use Rattle.check_structure.specs.Refusal.{◌next◌}
 use Rattle.check_source.specs.Legal.{Legal}
-use Rattle.text_form.specs.Text.{textBytes}
-use Rattle.text_report.specs.Lines.{refusedLine}
-use Rattle.program_runs.specs.Runs.{refusalOf}
-use Rattle.join.specs.Join.{joinedRows, joinRefusal}
-use Rattle.joiner.specs.Joining.{JoinResult, answerAndRows, joinAfter, joinResult, WroteJoin}
+use Rattle.text_form.specs.Text.{text_bytes}
+use Rattle.text_report.specs.Lines.{refused_line}
+use Rattle.program_runs.specs.Runs.{refusal_of}
+use Rattle.join.specs.Join.{joined_rows, join_refusal}
+use Rattle.joiner.specs.Joining.{JoinResult, answer_and_rows, join_after, join_result, WroteJoin}
 use Rattle.joiner.specs.declared.JoinAnswer.TheVariants.{Joined, Refused as JoinRefused}
 use Rattle.command_text.specs.Texts.{Printable}
-use Rattle.command_questions.specs.Joins.{afterCheck, joinText}
+use Rattle.command_questions.specs.Joins.{after_check, join_text}
 
 -- two programs that were joined: the table as it stands after it
 pub record JoinedTable (header rows secondHeader secondRows left : List ℤ) (words : ℕ) : Type 0 where
   pub rows_inside : words ≤ length left
   pub printable : Printable header (take (words - 0) left)
-  pub is : textBytes header (take (words - 0) left) ≡ joinText header rows secondHeader secondRows
+  pub is : text_bytes header (take (words - 0) left) ≡ join_text header rows secondHeader secondRows
 
 module _ (header rows secondHeader secondRows : List ℤ) where
   abbrev joined : List ℤ
-  joined = joinedRows rows secondRows
+  joined = joined_rows rows secondRows
 
   module _ (table : List ℤ) (size : length table ≡ 12288) where
     -- the verdict of a join in that table
-    room-is : joinRefusal header rows secondHeader secondRows (length table) ≡ joinRefusal header rows secondHeader secondRows 12288
-    room-is = ap (joinRefusal header rows secondHeader secondRows) size
+    room_is : join_refusal header rows secondHeader secondRows (length table) ≡ join_refusal header rows secondHeader secondRows 12288
+    room_is = ap (join_refusal header rows secondHeader secondRows) size
 
     -- the line of a refusal
-    pub refused-join : (r : Refusal) (left : List ℤ) → answerAndRows (JoinRefused r) left ≡ joinResult header rows secondHeader secondRows table
-        → refusedLine r.number r.place ≡ joinText header rows secondHeader secondRows
-    unfolding joinResult
-    refused-join r left e = go (joinRefusal header rows secondHeader secondRows (length table)) room-is e
+    pub refused-join : (r : Refusal) (left : List ℤ) → answer_and_rows (JoinRefused r) left ≡ join_result header rows secondHeader secondRows table
+        → refused_line r.number r.place ≡ join_text header rows secondHeader secondRows
+    unfolding join_result
+    refused-join r left e = go (join_refusal header rows secondHeader secondRows (length table)) room_is e
       where
-        go : (v : Verdict) → v ≡ joinRefusal header rows secondHeader secondRows 12288 → answerAndRows (JoinRefused r) left ≡ joinAfter v joined table
-            → refusedLine r.number r.place ≡ joinText header rows secondHeader secondRows
+        go : (v : Verdict) → v ≡ join_refusal header rows secondHeader secondRows 12288 → answer_and_rows (JoinRefused r) left ≡ join_after v joined table
+            → refused_line r.number r.place ≡ join_text header rows secondHeader secondRows
         go (Refused other) told e =
             let answers : JoinRefused r ≡ JoinRefused other = ap (λ (j : JoinResult). j.answer) e in
             let same : r ≡ other = cc in
-            ap (λ (x : Refusal). refusedLine x.number x.place) same ∙ ap (λ (v : Verdict). afterCheck v (textBytes header joined)) told
+            ap (λ (x : Refusal). refused_line x.number x.place) same ∙ ap (λ (v : Verdict). after_check v (text_bytes header joined)) told
         go Accepted told e =
             let answers : JoinRefused r ≡ Joined (length joined) = ap (λ (j : JoinResult). j.answer) e in
             let z : ◌≡◌ {A = ℕ} 0 1 = cc in
             absurd (omega arith)
 
-    pub joined_made : (words : ℕ) (left : List ℤ) → answerAndRows (Joined words) left ≡ joinResult header rows secondHeader secondRows table → WroteJoin header rows secondRows words left
+    pub joined_made : (words : ℕ) (left : List ℤ) → answer_and_rows (Joined words) left ≡ join_result header rows secondHeader secondRows table → WroteJoin header rows secondRows words left
         → JoinedTable header rows secondHeader secondRows left words
-    unfolding joinResult
-    joined_made words left e wrote = go (joinRefusal header rows secondHeader secondRows (length table)) room-is e
+    unfolding join_result
+    joined_made words left e wrote = go (join_refusal header rows secondHeader secondRows (length table)) room_is e
       where
         legal : Legal header (take words left)
         legal = wrote.joins.legal
 
-        go : (v : Verdict) → v ≡ joinRefusal header rows secondHeader secondRows 12288 → answerAndRows (Joined words) left ≡ joinAfter v joined table
+        go : (v : Verdict) → v ≡ join_refusal header rows secondHeader secondRows 12288 → answer_and_rows (Joined words) left ≡ join_after v joined table
             → JoinedTable header rows secondHeader secondRows left words
         go (Refused other) told e =
             let answers : Joined words ≡ JoinRefused other = ap (λ (j : JoinResult). j.answer) e in
@@ -78,14 +78,14 @@ module _ (header rows secondHeader secondRows : List ℤ) where
                 form = Source;
                 passes = rw (first_of left words) (record { header-fits = legal.header-fits; count-fits = legal.structured.count-fits });
               };
-              is = ap (textBytes header) stands ∙ ap (λ (v : Verdict). afterCheck v (textBytes header joined)) told;
+              is = ap (text_bytes header) stands ∙ ap (λ (v : Verdict). after_check v (text_bytes header joined)) told;
             }
 
   -- the first's own causes are among those of the join
-  pub after_check : joinText header rows secondHeader secondRows ≡ afterCheck (refusalOf Source header rows) (joinText header rows secondHeader secondRows)
-  unfolding joinRefusal ◌next◌
-  after_check = go (refusalOf Source header rows) refl
+  pub after-check : join_text header rows secondHeader secondRows ≡ after_check (refusal_of Source header rows) (join_text header rows secondHeader secondRows)
+  unfolding join_refusal ◌next◌
+  after-check = go (refusal_of Source header rows) refl
     where
-      go : (v : Verdict) → refusalOf Source header rows ≡ v → joinText header rows secondHeader secondRows ≡ afterCheck v (joinText header rows secondHeader secondRows)
+      go : (v : Verdict) → refusal_of Source header rows ≡ v → join_text header rows secondHeader secondRows ≡ after_check v (join_text header rows secondHeader secondRows)
       go (Refused r) told = rw told
       go Accepted told = refl

@@ -17,83 +17,83 @@ use Rattle.words.specs.declared.Form.TheVariants.{Kernel}
 use Rattle.words.specs.declared.Refusal.{Refusal}
 use Rattle.words.specs.declared.Verdict.{Verdict}
 use Rattle.words.specs.declared.Verdict.TheVariants.{Accepted, Refused as Turned}
-use Rattle.text_form.specs.Answers.{finished, refused, causeUnless, WriteResult, writeBytes, Writes}
-use Rattle.text_form.specs.AnswerLaws.{refused-finished}
+use Rattle.text_form.specs.Answers.{finished, refused, cause_unless, WriteResult, write_bytes, Writes}
+use Rattle.text_form.proofs.AnswerLaws.{refused-finished}
 use Rattle.text_numbers.specs.Writer.{Put}
 use Rattle.text_form.specs.declared.WriteAnswer.TheVariants.{Written, Refused}
-use Rattle.text_report.specs.Lines.{refusedLine}
-use Rattle.page.specs.Tables.{tablePage}
-use Rattle.page_printer.specs.Pages.{printAccepted}
-use Rattle.program_runs.specs.Runs.{refusalOf}
-use Rattle.clight.specs.Prints.{printAfter, printResult}
-use Rattle.command_text.specs.Texts.{outputRoom}
+use Rattle.text_report.specs.Lines.{refused_line}
+use Rattle.page.specs.Tables.{table_page}
+use Rattle.page_printer.specs.Pages.{print_accepted}
+use Rattle.program_runs.specs.Runs.{refusal_of}
+use Rattle.clight.specs.Prints.{print_after, print_result}
+use Rattle.command_text.specs.Texts.{output_room}
 use Rattle.command_text.proofs.Printing.{put_first}
 use Rattle.command_text.proofs.Readings.{refused-line}
-use Rattle.command_questions.specs.Pages.{acceptedPage, verdictPage, kernelPage}
+use Rattle.command_questions.specs.Pages.{accepted_page, verdict_page, kernel_page}
 
 -- bytes that were put, and that there was room for them
 pub record Filled (bytes page : List ℕ) (size : ℕ) (left : List ℕ) : Type 0 where
   pub put : Put bytes page size left
   pub room : length bytes ≤ length page
 
-module _ (header rows : List ℤ) (page : List ℕ) (whole : length page ≡ outputRoom) where
+module _ (header rows : List ℤ) (page : List ℕ) (whole : length page ≡ output_room) where
   abbrev bytes : List ℕ
-  bytes = tablePage header rows
+  bytes = table_page header rows
 
-  whole-page : {size : ℕ} {left : List ℕ} → leb (length bytes) outputRoom ≡ true → finished (size ∷ []) ≡ finished (length bytes ∷ []) → left ≡ over bytes page → Filled bytes page size left
+  whole-page : {size : ℕ} {left : List ℕ} → leb (length bytes) output_room ≡ true → finished (size ∷ []) ≡ finished (length bytes ∷ []) → left ≡ over bytes page → Filled bytes page size left
   whole-page {size} {left} e f w =
       let same : size ≡ length bytes = cc in
-      record { put = record { size = same; written = w }; room = omega (arith, leb-true (length bytes) outputRoom e, whole) }
+      record { put = record { size = same; written = w }; room = omega (arith, leb-true (length bytes) output_room e, whole) }
 
-  written-if : (fits : Bool) → leb (length bytes) outputRoom ≡ fits → {size : ℕ} {left : List ℕ} → Writes (writeBytes (causeUnless fits 10 none) bytes page) (Written size) left
-      → Filled (pick fits bytes (refusedLine 10 0)) page size left
-  unfolding writeBytes causeUnless
-  written-if true e w = whole-page e w.outcome w.text-left
+  written-if : (fits : Bool) → leb (length bytes) output_room ≡ fits → {size : ℕ} {left : List ℕ} → Writes (write_bytes (cause_unless fits 10 none) bytes page) (Written size) left
+      → Filled (pick fits bytes (refused_line 10 0)) page size left
+  unfolding write_bytes cause_unless
+  written-if true e w = whole-page e w.outcome w.text_left
   written-if false e w = refused-finished (sym w.outcome)
 
-  refused-if : (fits : Bool) {refusal : Refusal} {left : List ℕ} → Writes (writeBytes (causeUnless fits 10 none) bytes page) (Refused refusal) left
-      → refusedLine refusal.number refusal.place ≡ pick fits bytes (refusedLine 10 0)
-  unfolding writeBytes causeUnless
+  refused-if : (fits : Bool) {refusal : Refusal} {left : List ℕ} → Writes (write_bytes (cause_unless fits 10 none) bytes page) (Refused refusal) left
+      → refused_line refusal.number refusal.place ≡ pick fits bytes (refused_line 10 0)
+  unfolding write_bytes cause_unless
   refused-if true w = refused-finished w.outcome
   refused-if false w = refused-line w.outcome
 
-  printed-by : (verdict : Verdict) {size : ℕ} {left : List ℕ} → Writes (printAfter verdict header rows page) (Written size) left → Filled (verdictPage verdict header rows) page size left
-  unfolding printAccepted
-  printed-by Accepted w = written-if (leb (length bytes) outputRoom) refl (rw whole at w)
+  printed-by : (verdict : Verdict) {size : ℕ} {left : List ℕ} → Writes (print_after verdict header rows page) (Written size) left → Filled (verdict_page verdict header rows) page size left
+  unfolding print_accepted
+  printed-by Accepted w = written-if (leb (length bytes) output_room) refl (rw whole at w)
   printed-by (Turned refusal) w = refused-finished (sym w.outcome)
 
-  refused-by : (verdict : Verdict) {refusal : Refusal} {left : List ℕ} → Writes (printAfter verdict header rows page) (Refused refusal) left
-      → refusedLine refusal.number refusal.place ≡ verdictPage verdict header rows
-  unfolding printAccepted
-  refused-by Accepted w = refused-if (leb (length bytes) outputRoom) (rw whole at w)
+  refused-by : (verdict : Verdict) {refusal : Refusal} {left : List ℕ} → Writes (print_after verdict header rows page) (Refused refusal) left
+      → refused_line refusal.number refusal.place ≡ verdict_page verdict header rows
+  unfolding print_accepted
+  refused-by Accepted w = refused-if (leb (length bytes) output_room) (rw whole at w)
   refused-by (Turned other) w = refused-line w.outcome
 
-  left-if : (fits : Bool) {refusal : Refusal} {left : List ℕ} → Writes (writeBytes (causeUnless fits 10 none) bytes page) (Refused refusal) left → left ≡ page
-  unfolding writeBytes causeUnless
+  left-if : (fits : Bool) {refusal : Refusal} {left : List ℕ} → Writes (write_bytes (cause_unless fits 10 none) bytes page) (Refused refusal) left → left ≡ page
+  unfolding write_bytes cause_unless
   left-if true w = refused-finished w.outcome
-  left-if false w = w.text-left
+  left-if false w = w.text_left
 
-  left_by : (verdict : Verdict) {refusal : Refusal} {left : List ℕ} → Writes (printAfter verdict header rows page) (Refused refusal) left → left ≡ page
-  unfolding printAccepted
-  left_by Accepted w = left-if (leb (length bytes) (length page)) w
-  left_by (Turned other) w = w.text-left
+  left-by : (verdict : Verdict) {refusal : Refusal} {left : List ℕ} → Writes (print_after verdict header rows page) (Refused refusal) left → left ≡ page
+  unfolding print_accepted
+  left-by Accepted w = left-if (leb (length bytes) (length page)) w
+  left-by (Turned other) w = w.text_left
 
-  pub printed : {size : ℕ} {left : List ℕ} → Writes (printResult header rows page) (Written size) left → Filled (kernelPage header rows) page size left
-  unfolding printResult
-  printed w = printed-by (refusalOf Kernel header rows) w
+  pub printed : {size : ℕ} {left : List ℕ} → Writes (print_result header rows page) (Written size) left → Filled (kernel_page header rows) page size left
+  unfolding print_result
+  printed w = printed-by (refusal_of Kernel header rows) w
 
-  pub refused-page : {refusal : Refusal} {left : List ℕ} → Writes (printResult header rows page) (Refused refusal) left
-      → refusedLine refusal.number refusal.place ≡ kernelPage header rows
-  unfolding printResult
-  refused-page w = refused-by (refusalOf Kernel header rows) w
+  pub refused-page : {refusal : Refusal} {left : List ℕ} → Writes (print_result header rows page) (Refused refusal) left
+      → refused_line refusal.number refusal.place ≡ kernel_page header rows
+  unfolding print_result
+  refused-page w = refused-by (refusal_of Kernel header rows) w
 
   -- a refusal changes no byte
-  pub refused-leaves : {refusal : Refusal} {left : List ℕ} → Writes (printResult header rows page) (Refused refusal) left → left ≡ page
-  unfolding printResult
-  refused-leaves w = left_by (refusalOf Kernel header rows) w
+  pub refused-leaves : {refusal : Refusal} {left : List ℕ} → Writes (print_result header rows page) (Refused refusal) left → left ≡ page
+  unfolding print_result
+  refused-leaves w = left-by (refusal_of Kernel header rows) w
 
 -- the page is the start of the output
-pub page-size : (out : List ℕ) (size : ℕ) → size ≡ outputRoom → outputRoom ≤ length out → length (mid_of 0 (size - 0) out) ≡ outputRoom
+pub page-size : (out : List ℕ) (size : ℕ) → size ≡ output_room → output_room ≤ length out → length (mid_of 0 (size - 0) out) ≡ output_room
 page-size out size e o = omega (arith, e, mid_len 0 size out (omega (arith, e, o)))
 
 -- and was left as it was

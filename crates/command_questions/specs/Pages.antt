@@ -4,19 +4,19 @@ use Rattle.words.specs.Word.{pick}
 use Rattle.words.specs.declared.Form.TheVariants.{Kernel}
 use Rattle.words.specs.declared.Verdict.{Verdict}
 use Rattle.words.specs.declared.Verdict.TheVariants.{Accepted, Refused}
-use Rattle.text_report.specs.Lines.{refusedLine}
-use Rattle.page.specs.Tables.{tablePage}
-use Rattle.program_runs.specs.Runs.{refusalOf}
-use Rattle.command_text.specs.Texts.{outputRoom}
+use Rattle.text_report.specs.Lines.{refused_line}
+use Rattle.page.specs.Tables.{table_page}
+use Rattle.program_runs.specs.Runs.{refusal_of}
+use Rattle.command_text.specs.Texts.{output_room}
 
 -- "A short page buffer gets 10": a page has the room that every output has.
-abbrev pub acceptedPage : (header rows : List ℤ) → List ℕ
-acceptedPage header rows = pick (leb (length (tablePage header rows)) outputRoom) (tablePage header rows) (refusedLine 10 0)
+abbrev pub accepted_page : (header rows : List ℤ) → List ℕ
+accepted_page header rows = pick (leb (length (table_page header rows)) output_room) (table_page header rows) (refused_line 10 0)
 
 -- The page of a kernel program, or its refusal.
-abbrev pub verdictPage : Verdict → (header rows : List ℤ) → List ℕ
-verdictPage (Refused refusal) header rows = refusedLine refusal.number refusal.place
-verdictPage Accepted header rows = acceptedPage header rows
+abbrev pub verdict_page : Verdict → (header rows : List ℤ) → List ℕ
+verdict_page (Refused refusal) header rows = refused_line refusal.number refusal.place
+verdict_page Accepted header rows = accepted_page header rows
 
-abbrev pub kernelPage : (header rows : List ℤ) → List ℕ
-kernelPage header rows = verdictPage (refusalOf Kernel header rows) header rows
+abbrev pub kernel_page : (header rows : List ℤ) → List ℕ
+kernel_page header rows = verdict_page (refusal_of Kernel header rows) header rows

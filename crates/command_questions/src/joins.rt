@@ -1,12 +1,12 @@
 // What `join` prints. A writer puts its bytes at the start of `out`, and answers how many they are.
 ghost use Rattle.std.specs.Prelude.{◌≡◌, true, ◌≤◌, length};
-ghost use Rattle.words.specs.Layout.{headerFits};
+ghost use Rattle.words.specs.Layout.{header_fits};
 ghost use Rattle.words.specs.declared.Form.TheVariants.{Source};
 ghost use Rattle.text_numbers.specs.Writer.{Put};
-ghost use Rattle.text_report.specs.Lines.{refusedLine};
-ghost use Rattle.program_runs.specs.Runs.{refusalOf};
-ghost use Rattle.command_text.specs.Texts.{outputRoom};
-ghost use Rattle.command_questions.specs.Joins.{afterCheck, joinText, secondOutput, joinOutput};
+ghost use Rattle.text_report.specs.Lines.{refused_line};
+ghost use Rattle.program_runs.specs.Runs.{refusal_of};
+ghost use Rattle.command_text.specs.Texts.{output_room};
+ghost use Rattle.command_questions.specs.Joins.{after_check, join_text, second_output, join_output};
 
 use clight::joins::join;
 use clight::runs::check;
@@ -26,8 +26,8 @@ fn put_join(
     out: &mut [u8],
 ) -> usize
     requires table_len { length table.old ≡ 12288 }
-    requires output_room_in_bounds { outputRoom ≤ length out.old }
-    ensures { Put (joinText header.now rows.now second_header.now second_rows.now) out.old result out.new }
+    requires output_room_in_bounds { output_room ≤ length out.old }
+    ensures { Put (join_text header.now rows.now second_header.now second_rows.now) out.old result out.new }
 {
     let answer = join(header, rows, second_header, second_rows, table);
     match answer {
@@ -44,8 +44,8 @@ fn put_join_text(
     second_rows: &[i32],
     out: &mut [u8],
 ) -> usize
-    requires { outputRoom ≤ length out.old }
-    ensures { Put (joinText header.now rows.now second_header.now second_rows.now) out.old result out.new }
+    requires { output_room ≤ length out.old }
+    ensures { Put (join_text header.now rows.now second_header.now second_rows.now) out.old result out.new }
 {
     let mut table = [0i32; 12288];
     put_join(header, rows, second_header, second_rows, &mut table, out)
@@ -53,8 +53,8 @@ fn put_join_text(
 
 // A second text that is refused: the first program's own causes come before it.
 fn put_refused(header: &[i32], rows: &[i32], refusal: Refusal, out: &mut [u8]) -> usize
-    requires { outputRoom ≤ length out.old }
-    ensures { Put (afterCheck (refusalOf Source header.now rows.now) (refusedLine refusal.number refusal.place)) out.old result out.new }
+    requires { output_room ≤ length out.old }
+    ensures { Put (after_check (refusal_of Source header.now rows.now) (refused_line refusal.number refusal.place)) out.old result out.new }
 {
     let verdict = check(header, rows);
     match verdict {
@@ -65,8 +65,8 @@ fn put_refused(header: &[i32], rows: &[i32], refusal: Refusal, out: &mut [u8]) -
 
 // The join of a program with the one of the second text.
 fn join_second(header: &[i32], rows: &[i32], text: &[u8], out: &mut [u8]) -> usize
-    requires { outputRoom ≤ length out.old }
-    ensures { Put (secondOutput text.now header.now rows.now) out.old result out.new }
+    requires { output_room ≤ length out.old }
+    ensures { Put (second_output text.now header.now rows.now) out.old result out.new }
 {
     let mut second_header = [0i32; 33];
     let mut second_rows = [0i32; 12288];
@@ -85,8 +85,8 @@ fn join_second(header: &[i32], rows: &[i32], text: &[u8], out: &mut [u8]) -> usi
 
 // `join`.
 pub fn join_answer(text: &[u8], second: &[u8], out: &mut [u8]) -> usize
-    requires { outputRoom ≤ length out.old }
-    ensures { Put (joinOutput text.now second.now) out.old result out.new }
+    requires { output_room ≤ length out.old }
+    ensures { Put (join_output text.now second.now) out.old result out.new }
 {
     let mut header = [0i32; 33];
     let mut rows = [0i32; 12288];

@@ -2,13 +2,13 @@
 // and `rows` are lent to read the text into; what stands in them after it is of no use to a caller.
 ghost use Rattle.std.specs.Prelude.{◌≡◌, ◌≤◌, length};
 ghost use Rattle.text_numbers.specs.Writer.{Put};
-ghost use Rattle.command_written_lines.specs.Lines.{isIn, writtenLines, writesRoom};
-ghost use Rattle.program_runs.specs.Runs.{refusalOf};
-ghost use Rattle.command_text.specs.Texts.{Roomy, outputRoom};
+ghost use Rattle.command_written_lines.specs.Lines.{is_in, written_lines, writes_room};
+ghost use Rattle.program_runs.specs.Runs.{refusal_of};
+ghost use Rattle.command_text.specs.Texts.{Roomy, output_room};
 ghost use Rattle.command_text.specs.Read.{ReadFor};
-ghost use Rattle.command_questions.specs.Checks.{checkLine};
-ghost use Rattle.command_questions.specs.Writes.{writesLines};
-ghost use Rattle.command_questions.specs.Questions.{questionForm, questionText, questionLines, questionOutput};
+ghost use Rattle.command_questions.specs.Checks.{check_line};
+ghost use Rattle.command_questions.specs.Writes.{writes_lines};
+ghost use Rattle.command_questions.specs.Questions.{question_form, question_text, question_lines, question_output};
 
 use super::translations::put_page;
 use clight::runs;
@@ -25,7 +25,7 @@ use write_sets_entry::{WritesVerdict, writes_of};
 use write_sets_programs::Writes;
 
 fn check_form(form: Form, header: &[i32], rows: &[i32]) -> Verdict
-    ensures { result ≡ refusalOf form header.now rows.now }
+    ensures { result ≡ refusal_of form header.now rows.now }
 {
     match form {
         Form::Source => runs::check(header, rows),
@@ -34,24 +34,24 @@ fn check_form(form: Form, header: &[i32], rows: &[i32]) -> Verdict
 }
 
 fn put_check(form: Form, header: &[i32], rows: &[i32], out: &mut [u8]) -> usize
-    requires { outputRoom ≤ length out.old }
-    ensures { Put (checkLine form header.now rows.now) out.old result out.new }
+    requires { output_room ≤ length out.old }
+    ensures { Put (check_line form header.now rows.now) out.old result out.new }
 {
     let verdict = check_form(form, header, rows);
     verdict_line(verdict, out)
 }
 
 fn put_sets(writes: Writes, out: &mut [u8]) -> usize
-    requires { writesRoom ≤ length out.old }
-    ensures { Put (writtenLines (isIn writes.variables writes.arrays)) out.old result out.new }
+    requires { writes_room ≤ length out.old }
+    ensures { Put (written_lines (is_in writes.variables writes.arrays)) out.old result out.new }
 {
     let set = writes.variables;
     put_lines(set, writes.arrays, out)
 }
 
 fn put_writes(header: &[i32], rows: &[i32], out: &mut [u8]) -> usize
-    requires { outputRoom ≤ length out.old }
-    ensures { Put (writesLines header.now rows.now) out.old result out.new }
+    requires { output_room ≤ length out.old }
+    ensures { Put (writes_lines header.now rows.now) out.old result out.new }
 {
     let verdict = writes_of(header, rows);
     match verdict {
@@ -67,8 +67,8 @@ fn read_question(
     header: &mut [i32],
     rows: &mut [i32],
 ) -> ReadAnswer
-    requires { Roomy (questionForm question) header.old rows.old }
-    ensures { ReadFor (questionText question text.now) (questionForm question) result header.new rows.new }
+    requires { Roomy (question_form question) header.old rows.old }
+    ensures { ReadFor (question_text question text.now) (question_form question) result header.new rows.new }
 {
     match question {
         Question::Check(form) => read_program(form, text, header, rows),
@@ -81,8 +81,8 @@ fn read_question(
 
 // Writes what is printed for a header and rows.
 fn put_question(question: Question, header: &[i32], rows: &[i32], out: &mut [u8]) -> usize
-    requires { outputRoom ≤ length out.old }
-    ensures { Put (questionLines question header.now rows.now) out.old result out.new }
+    requires { output_room ≤ length out.old }
+    ensures { Put (question_lines question header.now rows.now) out.old result out.new }
 {
     match question {
         Question::Check(form) => put_check(form, header, rows, out),
@@ -101,9 +101,9 @@ pub fn question_answer(
     rows: &mut [i32],
     out: &mut [u8],
 ) -> usize
-    requires roomy { Roomy (questionForm question) header.old rows.old }
-    requires output_room_in_bounds { outputRoom ≤ length out.old }
-    ensures { Put (questionOutput question text.now) out.old result out.new }
+    requires roomy { Roomy (question_form question) header.old rows.old }
+    requires output_room_in_bounds { output_room ≤ length out.old }
+    ensures { Put (question_output question text.now) out.old result out.new }
 {
     let answer = read_question(question, text, header, rows);
     match answer {

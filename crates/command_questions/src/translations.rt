@@ -3,9 +3,9 @@
 ghost use Rattle.std.specs.Prelude.{◌≤◌, length};
 ghost use Rattle.words.specs.declared.Form.TheVariants.{Kernel};
 ghost use Rattle.text_numbers.specs.Writer.{Put};
-ghost use Rattle.command_text.specs.Texts.{Roomy, outputRoom, Printable};
-ghost use Rattle.command_questions.specs.Pages.{kernelPage};
-ghost use Rattle.command_questions.specs.Translations.{sheetOf, translationSheet, translationOutput};
+ghost use Rattle.command_text.specs.Texts.{Roomy, output_room, Printable};
+ghost use Rattle.command_questions.specs.Pages.{kernel_page};
+ghost use Rattle.command_questions.specs.Translations.{sheet_of, translation_sheet, translation_output};
 
 use clight::pages::print_kernel;
 use clight::translate::translate;
@@ -18,8 +18,8 @@ use words::Form;
 
 // Prints a kernel program. The page has the room that every output has.
 pub fn put_page(header: &[i32], rows: &[i32], out: &mut [u8]) -> usize
-    requires { outputRoom ≤ length out.old }
-    ensures { Put (kernelPage header.now rows.now) out.old result out.new }
+    requires { output_room ≤ length out.old }
+    ensures { Put (kernel_page header.now rows.now) out.old result out.new }
 {
     let room = output_room();
     let answer = print_kernel(header, rows, &mut out[0..room]);
@@ -32,8 +32,8 @@ pub fn put_page(header: &[i32], rows: &[i32], out: &mut [u8]) -> usize
 // Shows a kernel program: its text, or its page.
 fn put_sheet(sheet: Sheet, header: &[i32], rows: &[i32], out: &mut [u8]) -> usize
     requires printable { Printable header.now rows.now }
-    requires output_room_in_bounds { outputRoom ≤ length out.old }
-    ensures { Put (sheetOf sheet header.now rows.now) out.old result out.new }
+    requires output_room_in_bounds { output_room ≤ length out.old }
+    ensures { Put (sheet_of sheet header.now rows.now) out.old result out.new }
 {
     match sheet {
         Sheet::Text => put_program(header, rows, out),
@@ -51,8 +51,8 @@ fn put_translation(
     out: &mut [u8],
 ) -> usize
     requires roomy { Roomy Kernel kernel_header.old kernel_rows.old }
-    requires output_room_in_bounds { outputRoom ≤ length out.old }
-    ensures { Put (translationSheet sheet header.now rows.now) out.old result out.new }
+    requires output_room_in_bounds { output_room ≤ length out.old }
+    ensures { Put (translation_sheet sheet header.now rows.now) out.old result out.new }
 {
     let answer = translate(header, rows, kernel_header, kernel_rows);
     match answer {
@@ -75,8 +75,8 @@ pub fn translation_answer(
     out: &mut [u8],
 ) -> usize
     requires roomy { Roomy Kernel kernel_header.old kernel_rows.old }
-    requires output_room_in_bounds { outputRoom ≤ length out.old }
-    ensures { Put (translationOutput sheet text.now) out.old result out.new }
+    requires output_room_in_bounds { output_room ≤ length out.old }
+    ensures { Put (translation_output sheet text.now) out.old result out.new }
 {
     let mut header = [0i32; 33];
     let mut rows = [0i32; 12288];

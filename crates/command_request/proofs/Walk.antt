@@ -10,33 +10,33 @@ use lib.IntN.{ℤ}
 use lib.ListN.{length, take, drop, length-append, length-drop, drop_of_length-le}
 use borrow.Author.Tests.{ltb-true, ltb-false}
 use Rattle.text_numbers.specs.Number.{number_of}
-use Rattle.text_lines.specs.Line.{fields_of, numbersOf}
+use Rattle.text_lines.specs.Line.{fields_of, numbers_of}
 use Rattle.text_form.specs.Text.{Parsed, parsed, malformed}
 use Rattle.words.specs.Over.{over}
 use Rattle.words.specs.Laws.{by_cases}
-use Rattle.text_lines.specs.Reader.{numbersIn, Holds}
+use Rattle.text_lines.specs.Reader.{numbers_in, Holds}
 use Rattle.words.specs.OverLaws.{part, back_in, part-is, length_over, over_none, over-next}
 use Rattle.text_form.proofs.Rows.{behind, behind-nil}
-use Rattle.command_request.specs.StoreFile.{pieces_of, filled, withWord, wordsFrom, storeIn, countAtStart, Stored}
+use Rattle.command_request.specs.StoreFile.{pieces_of, filled, with_word, words_from, store_in, count_at_start, Stored}
 use Rattle.command_request.proofs.Pieces.{Ends, ends-from, ends-inside, ends-opens, parting-ends, word-ends, number-line}
 
 -- ---- words, and then those that are left
 
-behind-bad : (before : List ℤ) (number : ℕ) (read : Parsed (List ℤ)) → behind before (withWord number none read) ≡ malformed number
-unfolding behind withWord
+behind-bad : (before : List ℤ) (number : ℕ) (read : Parsed (List ℤ)) → behind before (with_word number none read) ≡ malformed number
+unfolding behind with_word
 behind-bad before number read = refl
 
-behind-word : (before : List ℤ) (word : ℤ) (number : ℕ) (read : Parsed (List ℤ)) → behind before (withWord number (some word) read) ≡ behind (before ++ (word ∷ [])) read
-unfolding behind withWord
+behind-word : (before : List ℤ) (word : ℤ) (number : ℕ) (read : Parsed (List ℤ)) → behind before (with_word number (some word) read) ≡ behind (before ++ (word ∷ [])) read
+unfolding behind with_word
 behind-word before word number (parsed words) = ap parsed (sym (append_assoc before (word ∷ []) words))
 behind-word before word number (malformed later) = refl
 
-words-next : (number : ℕ) (piece : List ℕ) (pieces : List (List ℕ)) → wordsFrom number (piece ∷ pieces) ≡ withWord number (number_of piece) (wordsFrom (number + 1) pieces)
-unfolding wordsFrom
+words-next : (number : ℕ) (piece : List ℕ) (pieces : List (List ℕ)) → words_from number (piece ∷ pieces) ≡ with_word number (number_of piece) (words_from (number + 1) pieces)
+unfolding words_from
 words-next number piece pieces = refl
 
-words-end : (number : ℕ) (text : List ℕ) (at : ℕ) → length text ≤ at → wordsFrom number (filled (pieces_of (drop at text))) ≡ parsed []
-unfolding wordsFrom filled pieces_of
+words-end : (number : ℕ) (text : List ℕ) (at : ℕ) → length text ≤ at → words_from number (filled (pieces_of (drop at text))) ≡ parsed []
+unfolding words_from filled pieces_of
 words-end number text at h = rw (drop_of_length-le text {i = at} h)
 
 -- ---- the walk
@@ -46,14 +46,14 @@ pub record Walked (text : List ℕ) (table : List ℤ) (left : List ℤ) (count 
   pub room : length text ≤ 2 * length table
   pub most : 2 * count ≤ length text + 1
   pub few : at < length text → 2 * count ≤ at
-  pub opens : at < length text → 0 < countAtStart false (drop at text)
+  pub opens : at < length text → 0 < count_at_start false (drop at text)
   pub before : List ℤ
   pub size : length before ≡ count
-  pub same : storeIn text ≡ behind before (wordsFrom (count + 1) (filled (pieces_of (drop at text))))
+  pub same : store_in text ≡ behind before (words_from (count + 1) (filled (pieces_of (drop at text))))
   pub written : left ≡ over before table
 
 pub walked_start : (text : List ℕ) (table : List ℤ) (at : ℕ) → length text ≤ 2 * length table → Ends true text 0 at → Walked text table table 0 at
-unfolding storeIn
+unfolding store_in
 walked_start text table at h e = record {
   inside = ends-inside e;
   room = h;
@@ -62,7 +62,7 @@ walked_start text table at h e = record {
   opens = ends-opens e;
   before = [];
   size = refl;
-  same = behind-nil (wordsFrom 1 (filled (pieces_of text))) ∙ ap (λ (pieces : List (List ℕ)). behind [] (wordsFrom 1 pieces)) (sym (parting-ends e));
+  same = behind-nil (words_from 1 (filled (pieces_of text))) ∙ ap (λ (pieces : List (List ℕ)). behind [] (words_from 1 pieces)) (sym (parting-ends e));
   written = over_none table;
 }
 
@@ -73,7 +73,7 @@ module _ {text : List ℕ} {table left : List ℤ} {count at : ℕ} (w : Walked 
   pub walked-length : length left ≡ length table
   walked-length = length_over w.before table left w.written (omega (arith, w.size, walked-count))
 
-  pub walked_end : length text ≤ at → Stored (storeIn text) count table left
+  pub walked_end : length text ≤ at → Stored (store_in text) count table left
   unfolding behind
   walked_end h = record {
     words = w.before;
@@ -92,25 +92,25 @@ module _ {text : List ℕ} {table left : List ℤ} {count at : ℕ} (w : Walked 
     pub count-below : count < length table
     count-below = omega (arith, w.few more, w.room)
 
-    step : storeIn text ≡ behind w.before (withWord (count + 1) (number_of (take (end - at) (drop at text))) (wordsFrom (count + 1 + 1) (filled (pieces_of (drop end text)))))
+    step : store_in text ≡ behind w.before (with_word (count + 1) (number_of (take (end - at) (drop at text))) (words_from (count + 1 + 1) (filled (pieces_of (drop end text)))))
     step =
-        w.same ∙ ap (λ (pieces : List (List ℕ)). behind w.before (wordsFrom (count + 1) pieces)) (word-ends e word-from)
+        w.same ∙ ap (λ (pieces : List (List ℕ)). behind w.before (words_from (count + 1) pieces)) (word-ends e word-from)
         ∙ ap (behind w.before) (words-next (count + 1) _ _)
 
-    pub walked-bad : number_of (take (end - at) (drop at text)) ≡ none → storeIn text ≡ malformed (count + 1)
+    pub walked-bad : number_of (take (end - at) (drop at text)) ≡ none → store_in text ≡ malformed (count + 1)
     walked-bad n = step ∙ rw n (behind-bad w.before (count + 1) _)
 
     module _ (word : ℤ) (n : number_of (take (end - at) (drop at text)) ≡ some word) where
-      line : numbersOf (fields_of (take (end - at) (drop at text))) ≡ some (word ∷ [])
+      line : numbers_of (fields_of (take (end - at) (drop at text))) ≡ some (word ∷ [])
       line = number-line _ word n
 
-      pub word_holds : Holds (numbersOf (fields_of (take (end - at) (drop at text)))) (part count left)
+      pub word_holds : Holds (numbers_of (fields_of (take (end - at) (drop at text)))) (part count left)
       word_holds = record {
-        well-formed = rw line;
+        well_formed = rw line;
         room = rw (line, part-is count left, length-drop) (omega (arith, count-below, walked-length));
       }
 
-      pub walked_next : (lent : List ℤ) → lent ≡ over (numbersIn (numbersOf (fields_of (take (end - at) (drop at text))))) (part count left)
+      pub walked_next : (lent : List ℤ) → lent ≡ over (numbers_in (numbers_of (fields_of (take (end - at) (drop at text))))) (part count left)
           → (next : ℕ) → Ends true text end next → Walked text table (back_in count left lent) (count + 1) next
       walked_next lent l next g = record {
         inside = ends-inside g;
@@ -121,7 +121,7 @@ module _ {text : List ℕ} {table left : List ℤ} {count at : ℕ} (w : Walked 
         before = w.before ++ (word ∷ []);
         size = length-append w.before (word ∷ []) ∙ omega (arith, w.size);
         same = step ∙ rw n (behind-word w.before word (count + 1) _)
-            ∙ ap (λ (pieces : List (List ℕ)). behind (w.before ++ (word ∷ [])) (wordsFrom (count + 1 + 1) pieces)) (sym (parting-ends g));
+            ∙ ap (λ (pieces : List (List ℕ)). behind (w.before ++ (word ∷ [])) (words_from (count + 1 + 1) pieces)) (sym (parting-ends g));
         written = over-next w.before (word ∷ []) table left lent count (sym w.size) w.written (rw line at l);
       }
         where

@@ -3,7 +3,7 @@ use Rattle.std.specs.Prelude.{◌≡◌, Bool, true, false, not, ◌||◌, List,
 use Rattle.std.proofs.Math.Option.{Option, none, some}
 use Rattle.words.specs.Word.{pick}
 use Rattle.text_numbers.specs.Number.{number_of}
-use Rattle.text_lines.specs.Line.{newline, longerField}
+use Rattle.text_lines.specs.Line.{newline, longer_field}
 use Rattle.text_form.specs.Text.{Parsed, parsed, malformed}
 use Rattle.words.specs.Over.{over}
 use Rattle.text_report.specs.Lines.{blank}
@@ -11,13 +11,13 @@ use Rattle.command_request.specs.declared.store_file.StoreRead.{StoreRead}
 use Rattle.command_request.specs.declared.store_file.StoreRead.TheVariants as read-cases
 
 -- Blanks and newlines part words, any number of them.
-unfoldable pub isParting : ℕ → Bool
-isParting byte = eqb byte blank || eqb byte newline
+unfoldable pub is_parting : ℕ → Bool
+is_parting byte = eqb byte blank || eqb byte newline
 
 -- What they part: one piece more than there are such bytes.
 unfoldable pub pieces_of : List ℕ → List (List ℕ)
 pieces_of [] = [] ∷ []
-pieces_of (byte ∷ bytes) = pick (isParting byte) ([] ∷ pieces_of bytes) (longerField byte (pieces_of bytes))
+pieces_of (byte ∷ bytes) = pick (is_parting byte) ([] ∷ pieces_of bytes) (longer_field byte (pieces_of bytes))
 
 -- The pieces that have a byte.
 unfoldable pub filled : List (List ℕ) → List (List ℕ)
@@ -26,31 +26,31 @@ filled ([] ∷ pieces) = filled pieces
 filled ((byte ∷ bytes) ∷ pieces) = (byte ∷ bytes) ∷ filled pieces
 
 -- A piece of this number gave a word or was malformed, and so did the pieces behind it.
-unfoldable pub withWord : ℕ → Option ℤ → Parsed (List ℤ) → Parsed (List ℤ)
-withWord number none others = malformed number
-withWord number (some word) (parsed words) = parsed (word ∷ words)
-withWord number (some word) (malformed later) = malformed later
+unfoldable pub with_word : ℕ → Option ℤ → Parsed (List ℤ) → Parsed (List ℤ)
+with_word number none others = malformed number
+with_word number (some word) (parsed words) = parsed (word ∷ words)
+with_word number (some word) (malformed later) = malformed later
 
 -- The words of pieces that are numbered from here on, each written as in a text; or the number of the first that is malformed.
-unfoldable pub wordsFrom : ℕ → List (List ℕ) → Parsed (List ℤ)
-wordsFrom number [] = parsed []
-wordsFrom number (piece ∷ pieces) = withWord number (number_of piece) (wordsFrom (number + 1) pieces)
+unfoldable pub words_from : ℕ → List (List ℕ) → Parsed (List ℤ)
+words_from number [] = parsed []
+words_from number (piece ∷ pieces) = with_word number (number_of piece) (words_from (number + 1) pieces)
 
 -- The words of a store file; or the number, from 1, of its first malformed word.
-unfoldable pub storeIn : List ℕ → Parsed (List ℤ)
-storeIn file = wordsFrom 1 (filled (pieces_of file))
+unfoldable pub store_in : List ℕ → Parsed (List ℤ)
+store_in file = words_from 1 (filled (pieces_of file))
 
 -- ---- the reader
 
 -- A byte that parts words, or one that does not.
 abbrev pub is_of : Bool → ℕ → Bool
-is_of true byte = isParting byte
-is_of false byte = not (isParting byte)
+is_of true byte = is_parting byte
+is_of false byte = not (is_parting byte)
 
 -- How many bytes of that sort stand at the start.
-unfoldable pub countAtStart : Bool → List ℕ → ℕ
-countAtStart parting [] = 0
-countAtStart parting (byte ∷ bytes) = pick (is_of parting byte) (suc (countAtStart parting bytes)) 0
+unfoldable pub count_at_start : Bool → List ℕ → ℕ
+count_at_start parting [] = 0
+count_at_start parting (byte ∷ bytes) = pick (is_of parting byte) (suc (count_at_start parting bytes)) 0
 
 abbrev pub is_number : Option ℤ → Bool
 is_number none = false

@@ -1,17 +1,17 @@
 // What the arguments ask for.
 ghost use Rattle.std.specs.Prelude.{◌≡◌, eqb};
 ghost use Rattle.words.specs.Word.{pick};
-ghost use Rattle.text_numbers.specs.Reader.{digitsValue};
+ghost use Rattle.text_numbers.specs.Reader.{digits_value};
 ghost use Rattle.command_request.specs.declared.request.Verb.TheVariants.{Start as StartVerb};
 ghost use Rattle.command_request.specs.declared.request.Request.TheVariants.{WrongArguments};
-ghost use Rattle.command_request.specs.Requests.{sameBytes, Tried, verbOf, startRequest, requestBy, requestOf, readsText, readsStore, fileArgument};
+ghost use Rattle.command_request.specs.Requests.{same_bytes, Tried, verb_of, start_request, request_by, request_of, reads_text, reads_store, file_argument};
 
 use text_numbers::number::{Digits, natural_of};
 use words::Form;
 
 // What starts from a store: the run of a program, the preview of a source program's run, the run of a kernel program that a dispatcher
 // sees, or the run of a flat list.
-#[derive(Drop)]
+#[derive(Clone, Copy)]
 pub enum Task {
     Run(Form),
     Preview,
@@ -21,7 +21,7 @@ pub enum Task {
 
 // What is asked of one text: the check of a program, what a source program can write, the page or the flat list of a kernel program, the check of
 // a flat list.
-#[derive(Drop)]
+#[derive(Clone, Copy)]
 pub enum Question {
     Check(Form),
     Writes,
@@ -31,14 +31,14 @@ pub enum Question {
 }
 
 // How the translation of a source text is shown: its text, or its page.
-#[derive(Drop)]
+#[derive(Clone, Copy)]
 pub enum Sheet {
     Text,
     Page,
 }
 
 // What the first argument says.
-#[derive(Drop)]
+#[derive(Clone, Copy)]
 pub enum Verb {
     Ask(Question),
     Translate(Sheet),
@@ -49,7 +49,7 @@ pub enum Verb {
 
 // What all arguments ask for; what starts from a store has its budget, and says whether a store file is named. A join names a file with the
 // second text.
-#[derive(Drop)]
+#[derive(Clone, Copy)]
 pub enum Request {
     Ask(Question),
     Translate(Sheet),
@@ -60,7 +60,7 @@ pub enum Request {
 }
 
 fn is_same(bytes: &[u8], name: &[u8]) -> bool
-    ensures { result ≡ sameBytes bytes.now name.now }
+    ensures { result ≡ same_bytes bytes.now name.now }
 {
     if bytes.len() != name.len() {
         return false;
@@ -87,7 +87,7 @@ fn verb_or(name: &[u8], known: &[u8], verb: Verb, others: Verb) -> Verb
 
 // The names from the last to the first: those of what is done with the text of a flat list, with a kernel text, with a source text.
 fn verb_of(name: &[u8]) -> Verb
-    ensures { result ≡ verbOf name.now }
+    ensures { result ≡ verb_of name.now }
 {
     let flat_run = verb_or(name, b"flat-run", Verb::Start(Task::FlatRun), Verb::Unknown);
     let flat_check = verb_or(
@@ -141,7 +141,7 @@ fn verb_of(name: &[u8]) -> Verb
 }
 
 fn start_request(task: Task, budget: Digits, stored: bool) -> Request
-    ensures { result ≡ startRequest task (digitsValue budget) stored }
+    ensures { result ≡ start_request task (digits_value budget) stored }
 {
     match budget {
         Digits::Value(steps) => Request::Start(task, steps, stored),
@@ -171,7 +171,7 @@ fn with_file(request: Request, count: usize) -> Request
 
 // Two arguments or three, of which the second is the budget, any unsigned 32-bit number, and the third names a store file.
 fn start_arguments(task: Task, count: usize, second: &[u8]) -> Request
-    ensures { result ≡ requestBy (StartVerb task) count second.now }
+    ensures { result ≡ request_by (StartVerb task) count second.now }
 {
     if count < 2 {
         return Request::WrongArguments;
@@ -183,7 +183,7 @@ fn start_arguments(task: Task, count: usize, second: &[u8]) -> Request
 }
 
 fn request_by(verb: Verb, count: usize, second: &[u8]) -> Request
-    ensures { result ≡ requestBy verb count second.now }
+    ensures { result ≡ request_by verb count second.now }
 {
     match verb {
         Verb::Ask(question) => alone(Request::Ask(question), count),
@@ -196,14 +196,14 @@ fn request_by(verb: Verb, count: usize, second: &[u8]) -> Request
 
 // What so many arguments ask for, of which these are the first and the second.
 pub fn request_of(count: usize, first: &[u8], second: &[u8]) -> Request
-    ensures { result ≡ requestOf count first.now second.now }
+    ensures { result ≡ request_of count first.now second.now }
 {
     request_by(verb_of(first), count, second)
 }
 
 // Whether standard input is read. With wrong arguments nothing is.
 pub fn reads_text(request: Request) -> bool
-    ensures { result ≡ readsText request }
+    ensures { result ≡ reads_text request }
 {
     match request {
         Request::Ask(_) => true,
@@ -217,7 +217,7 @@ pub fn reads_text(request: Request) -> bool
 
 // Whether a file is read: the store, or the second text of a join.
 pub fn reads_store(request: Request) -> bool
-    ensures { result ≡ readsStore request }
+    ensures { result ≡ reads_store request }
 {
     match request {
         Request::Ask(_) => false,
@@ -231,7 +231,7 @@ pub fn reads_store(request: Request) -> bool
 
 // Which argument names that file.
 pub fn file_argument(request: Request) -> usize
-    ensures { result ≡ fileArgument request }
+    ensures { result ≡ file_argument request }
 {
     match request {
         Request::Ask(_) => 3,

@@ -1,19 +1,19 @@
 // The words of a store file.
 ghost use Rattle.std.specs.Prelude.{◌≡◌, ◌+◌, ◌*◌, ◌≤◌, length, drop};
 ghost use Rattle.text_numbers.specs.Number.{number_of};
-ghost use Rattle.command_request.specs.StoreFile.{isParting, is_of, countAtStart, is_number, storeIn, ReadsStore};
+ghost use Rattle.command_request.specs.StoreFile.{is_parting, is_of, count_at_start, is_number, store_in, ReadsStore};
 
 use text_lines::line::{Count, count_numbers, store_numbers};
 
 // How many words a file has, or the number of its first malformed word.
-#[derive(Drop)]
+#[derive(Clone, Copy)]
 pub enum StoreRead {
     Words(usize),
     Malformed(usize),
 }
 
 fn is_parting(byte: u8) -> bool
-    ensures { result ≡ isParting byte }
+    ensures { result ≡ is_parting byte }
 {
     if byte == b' ' {
         return true;
@@ -34,7 +34,7 @@ fn is_of(parting: bool, byte: u8) -> bool
 // Where the bytes of a sort end that stand from `at` on.
 fn passed(parting: bool, text: &[u8], at: usize) -> usize
     requires { at ≤ length text.now }
-    ensures { result ≡ at + countAtStart parting (drop at text.now) }
+    ensures { result ≡ at + count_at_start parting (drop at text.now) }
 {
     let mut end = at;
     while end < text.len() {
@@ -60,7 +60,7 @@ fn is_number(piece: &[u8]) -> bool
 // the next.
 pub fn read_words(text: &[u8], table: &mut [i32]) -> StoreRead
     requires { length text.now ≤ 2 * length table.old }
-    ensures { ReadsStore (storeIn text.now) result table.old table.new }
+    ensures { ReadsStore (store_in text.now) result table.old table.new }
 {
     let mut count: usize = 0;
     let mut at = passed(true, text, 0);

@@ -1,11 +1,11 @@
 // Previews a program, and writes what a preview prints at the start of `text`.
 ghost use Rattle.std.specs.Prelude.{◌≡◌, true, ◌≤◌, length};
-ghost use Rattle.words.specs.Layout.{headerFits, store_words, zeros};
+ghost use Rattle.words.specs.Layout.{header_fits, store_words, zeros};
 ghost use Rattle.words.specs.declared.Form.TheVariants.{Source};
 ghost use Rattle.text_numbers.specs.Writer.{Put};
-ghost use Rattle.program_previews.specs.Previews.{previewResult};
-ghost use Rattle.command_text.specs.Texts.{mostStore, outputRoom};
-ghost use Rattle.command_runs.specs.Tasks.{resultLines};
+ghost use Rattle.program_previews.specs.Previews.{preview_result};
+ghost use Rattle.command_text.specs.Texts.{most_store, output_room};
+ghost use Rattle.command_runs.specs.Tasks.{result_lines};
 
 use clight::previews::preview;
 use command_preview_lines::preview_lines;
@@ -21,10 +21,10 @@ fn put_previewed(
     scratch: &mut [i32],
     text: &mut [u8],
 ) -> usize
-    requires header_value { headerFits Source header.now ≡ true }
-    requires scratch_len_bound { length scratch.old ≤ mostStore }
-    requires output_room_in_bounds { outputRoom ≤ length text.old }
-    ensures { Put (resultLines header.now (previewResult header.now rows.now budget store.now scratch.old)) text.old result text.new }
+    requires header_value { header_fits Source header.now ≡ true }
+    requires scratch_len_bound { length scratch.old ≤ most_store }
+    requires output_room_in_bounds { output_room ≤ length text.old }
+    ensures { Put (result_lines header.now (preview_result header.now rows.now budget store.now scratch.old)) text.old result text.new }
 {
     let size = store_size(Form::Source, header);
     let verdict = preview(header, rows, store, budget, scratch);
@@ -39,10 +39,10 @@ pub fn put_preview(
     budget: u32,
     text: &mut [u8],
 ) -> usize
-    requires header_value { headerFits Source header.now ≡ true }
-    requires rows_bound { store_words Source header.now rows.now ≤ mostStore }
-    requires output_room_in_bounds { outputRoom ≤ length text.old }
-    ensures { Put (resultLines header.now (previewResult header.now rows.now budget store.now (zeros (store_words Source header.now rows.now)))) text.old result text.new }
+    requires header_value { header_fits Source header.now ≡ true }
+    requires rows_bound { store_words Source header.now rows.now ≤ most_store }
+    requires output_room_in_bounds { output_room ≤ length text.old }
+    ensures { Put (result_lines header.now (preview_result header.now rows.now budget store.now (zeros (store_words Source header.now rows.now)))) text.old result text.new }
 {
     let words = store_words(Form::Source, header, rows);
     let mut scratch = [0i32; 16448];

@@ -1,15 +1,15 @@
 // What the runs and previews print. A writer puts its bytes at the start of `out`, and answers how many they are. The tables `header` and `rows` are
 // lent to read the text into; what stands in them after it is of no use to a caller.
 ghost use Rattle.std.specs.Prelude.{◌≡◌, true, ◌≤◌, length};
-ghost use Rattle.words.specs.Layout.{headerFits, store_words};
+ghost use Rattle.words.specs.Layout.{header_fits, store_words};
 ghost use Rattle.text_numbers.specs.Writer.{Put};
-ghost use Rattle.text_report.specs.Lines.{lineRoom};
-ghost use Rattle.program_dispatcher.specs.DispatcherRuns.{dispatcherResult};
-ghost use Rattle.program_runs.specs.Runs.{runResult, answerAndStore};
-ghost use Rattle.command_request.specs.StoreFile.{storeIn};
-ghost use Rattle.command_text.specs.Texts.{Roomy, mostStore, outputRoom, storeLimit};
+ghost use Rattle.text_report.specs.Lines.{line_room};
+ghost use Rattle.program_dispatcher.specs.DispatcherRuns.{dispatcher_result};
+ghost use Rattle.program_runs.specs.Runs.{run_result, answer_and_store};
+ghost use Rattle.command_request.specs.StoreFile.{store_in};
+ghost use Rattle.command_text.specs.Texts.{Roomy, most_store, output_room, store_limit};
 ghost use Rattle.command_text.specs.Read.{ReadFor};
-ghost use Rattle.command_runs.specs.Tasks.{form_of, taskText, startWords, resultLine, shownLine, taskLines, taskOutput, zerosLines, zerosOutput, storedOutput, startedOutput};
+ghost use Rattle.command_runs.specs.Tasks.{form_of, task_text, start_words, result_line, shown_line, task_lines, task_output, zeros_lines, zeros_output, stored_output, started_output};
 
 use super::previews::put_preview;
 use clight::dispatcher::dispatcher_run;
@@ -25,7 +25,7 @@ use words::layout::{header_store, store_size, store_words};
 use words::{Form, RunVerdict};
 
 fn run_form(form: Form, header: &[i32], rows: &[i32], store: &mut [i32], budget: u32) -> RunVerdict
-    ensures { answerAndStore result store.new ≡ runResult form header.now rows.now budget store.old }
+    ensures { answer_and_store result store.new ≡ run_result form header.now rows.now budget store.old }
 {
     match form {
         Form::Source => runs::run(header, rows, store, budget),
@@ -42,8 +42,8 @@ fn put_run(
     budget: u32,
     out: &mut [u8],
 ) -> usize
-    requires { lineRoom (length store.old) ≤ length out.old }
-    ensures { Put (resultLine (runResult form header.now rows.now budget store.old)) out.old result out.new }
+    requires { line_room (length store.old) ≤ length out.old }
+    ensures { Put (result_line (run_result form header.now rows.now budget store.old)) out.old result out.new }
 {
     let verdict = run_form(form, header, rows, store, budget);
     run_line(verdict, store, out)
@@ -57,8 +57,8 @@ fn put_dispatcher_run(
     budget: u32,
     out: &mut [u8],
 ) -> usize
-    requires { lineRoom (length words.old) ≤ length out.old }
-    ensures { Put (shownLine (dispatcherResult header.now rows.now budget words.old)) out.old result out.new }
+    requires { line_room (length words.old) ≤ length out.old }
+    ensures { Put (shown_line (dispatcher_result header.now rows.now budget words.old)) out.old result out.new }
 {
     let verdict = dispatcher_run(header, rows, words, budget);
     dispatcher_line(verdict, words, out)
@@ -67,7 +67,7 @@ fn put_dispatcher_run(
 // Reads the text that a task is about.
 fn read_task(task: Task, text: &[u8], header: &mut [i32], rows: &mut [i32]) -> ReadAnswer
     requires { Roomy (form_of task) header.old rows.old }
-    ensures { ReadFor (taskText task text.now) (form_of task) result header.new rows.new }
+    ensures { ReadFor (task_text task text.now) (form_of task) result header.new rows.new }
 {
     match task {
         Task::Run(form) => read_program(form, text, header, rows),
@@ -79,8 +79,8 @@ fn read_task(task: Task, text: &[u8], header: &mut [i32], rows: &mut [i32]) -> R
 
 // How many words a task starts from.
 fn start_words(task: Task, header: &[i32], rows: &[i32]) -> usize
-    requires { headerFits (form_of task) header.now ≡ true }
-    ensures { result ≡ startWords task header.now rows.now }
+    requires { header_fits (form_of task) header.now ≡ true }
+    ensures { result ≡ start_words task header.now rows.now }
 {
     match task {
         Task::Run(form) => store_words(form, header, rows),
@@ -99,11 +99,11 @@ fn put_task(
     budget: u32,
     out: &mut [u8],
 ) -> usize
-    requires header_value { headerFits (form_of task) header.now ≡ true }
-    requires rows_bound { store_words (form_of task) header.now rows.now ≤ mostStore }
-    requires store_in_bounds { lineRoom (length store.old) ≤ length out.old }
-    requires output_room_in_bounds { outputRoom ≤ length out.old }
-    ensures { Put (taskLines task budget store.old header.now rows.now) out.old result out.new }
+    requires header_value { header_fits (form_of task) header.now ≡ true }
+    requires rows_bound { store_words (form_of task) header.now rows.now ≤ most_store }
+    requires store_in_bounds { line_room (length store.old) ≤ length out.old }
+    requires output_room_in_bounds { output_room ≤ length out.old }
+    ensures { Put (task_lines task budget store.old header.now rows.now) out.old result out.new }
 {
     match task {
         Task::Run(form) => put_run(form, header, rows, store, budget, out),
@@ -124,9 +124,9 @@ fn start_text(
     out: &mut [u8],
 ) -> usize
     requires roomy { Roomy (form_of task) header.old rows.old }
-    requires store_in_bounds { lineRoom (length store.old) ≤ length out.old }
-    requires output_room_in_bounds { outputRoom ≤ length out.old }
-    ensures { Put (taskOutput task budget text.now store.old) out.old result out.new }
+    requires store_in_bounds { line_room (length store.old) ≤ length out.old }
+    requires output_room_in_bounds { output_room ≤ length out.old }
+    ensures { Put (task_output task budget text.now store.old) out.old result out.new }
 {
     let answer = read_task(task, text, header, rows);
     match answer {
@@ -144,10 +144,10 @@ fn start_text(
 
 // The same of a store of zeros.
 fn put_zeros_task(task: Task, header: &[i32], rows: &[i32], budget: u32, out: &mut [u8]) -> usize
-    requires header_value { headerFits (form_of task) header.now ≡ true }
-    requires rows_bound { store_words (form_of task) header.now rows.now ≤ mostStore }
-    requires output_room_in_bounds { outputRoom ≤ length out.old }
-    ensures { Put (zerosLines task budget header.now rows.now) out.old result out.new }
+    requires header_value { header_fits (form_of task) header.now ≡ true }
+    requires rows_bound { store_words (form_of task) header.now rows.now ≤ most_store }
+    requires output_room_in_bounds { output_room ≤ length out.old }
+    ensures { Put (zeros_lines task budget header.now rows.now) out.old result out.new }
 {
     let count = start_words(task, header, rows);
     let mut store = [0i32; 16448];
@@ -164,8 +164,8 @@ fn start_zeros(
     out: &mut [u8],
 ) -> usize
     requires roomy { Roomy (form_of task) header.old rows.old }
-    requires output_room_in_bounds { outputRoom ≤ length out.old }
-    ensures { Put (zerosOutput task budget text.now) out.old result out.new }
+    requires output_room_in_bounds { output_room ≤ length out.old }
+    ensures { Put (zeros_output task budget text.now) out.old result out.new }
 {
     let answer = read_task(task, text, header, rows);
     match answer {
@@ -187,9 +187,9 @@ fn start_stored(
     out: &mut [u8],
 ) -> usize
     requires roomy { Roomy (form_of task) header.old rows.old }
-    requires stored_len_bound { length stored.now ≤ storeLimit }
-    requires output_room_in_bounds { outputRoom ≤ length out.old }
-    ensures { Put (storedOutput task budget text.now (storeIn stored.now)) out.old result out.new }
+    requires stored_len_bound { length stored.now ≤ store_limit }
+    requires output_room_in_bounds { output_room ≤ length out.old }
+    ensures { Put (stored_output task budget text.now (store_in stored.now)) out.old result out.new }
 {
     let mut store = [0i32; 98688];
     let read = read_words(stored, &mut store);
@@ -219,9 +219,9 @@ pub fn start_answer(
     out: &mut [u8],
 ) -> usize
     requires roomy { Roomy (form_of task) header.old rows.old }
-    requires stored_len_bound { length stored.now ≤ storeLimit }
-    requires output_room_in_bounds { outputRoom ≤ length out.old }
-    ensures { Put (startedOutput task budget text.now given stored.now) out.old result out.new }
+    requires stored_len_bound { length stored.now ≤ store_limit }
+    requires output_room_in_bounds { output_room ≤ length out.old }
+    ensures { Put (started_output task budget text.now given stored.now) out.old result out.new }
 {
     if given {
         return start_stored(task, budget, text, stored, header, rows, out);

@@ -13,7 +13,7 @@ use Rattle.text_numbers.specs.Writer.{Put}
 use Rattle.text_numbers.specs.PutLaws.{put-none, Put-as, put-length, put_next, put-space, put-inside}
 use Rattle.text_lines.specs.Line.{newline}
 use Rattle.text_report.specs.Lines.{blank}
-use Rattle.command_written_lines.specs.Lines.{numbers, name_of, bitsOf, writtenLine, writtenLines}
+use Rattle.command_written_lines.specs.Lines.{numbers, name_of, bits_of, written_line, written_lines}
 use Rattle.command_written_lines.specs.declared.PlaceSort.{PlaceSort}
 use Rattle.command_written_lines.specs.declared.PlaceSort.TheVariants.{Variables, Arrays, Declared}
 
@@ -81,12 +81,12 @@ unfolding numbers
 numbers-same zero p q h = refl
 numbers-same (suc k) p q h = ap₂ ◌++◌ (numbers-same k p q (λ i l. h i (omega arith))) (ap (λ (b : Bool). pick b (blank ∷ digits k) []) (h k (omega arith)))
 
-line_same : (sort : PlaceSort) (p q : ℕ → Bool) → ((i : ℕ) → i < bitsOf sort → p i ≡ q i) → writtenLine sort p ≡ writtenLine sort q
-unfolding writtenLine
-line_same sort p q h = ap (λ (l : List ℕ). (name_of sort ++ l) ++ (newline ∷ [])) (numbers-same (bitsOf sort) p q h)
+line_same : (sort : PlaceSort) (p q : ℕ → Bool) → ((i : ℕ) → i < bits_of sort → p i ≡ q i) → written_line sort p ≡ written_line sort q
+unfolding written_line
+line_same sort p q h = ap (λ (l : List ℕ). (name_of sort ++ l) ++ (newline ∷ [])) (numbers-same (bits_of sort) p q h)
 
-pub lines_same : (p q : PlaceSort → ℕ → Bool) → ((sort : PlaceSort) (i : ℕ) → i < bitsOf sort → p sort i ≡ q sort i) → writtenLines p ≡ writtenLines q
+pub lines_same : (p q : PlaceSort → ℕ → Bool) → ((sort : PlaceSort) (i : ℕ) → i < bits_of sort → p sort i ≡ q sort i) → written_lines p ≡ written_lines q
 lines_same p q h = ap₂ ◌++◌ (ap₂ ◌++◌ (same Variables) (same Arrays)) (same Declared)
   where
-    same : (sort : PlaceSort) → writtenLine sort (p sort) ≡ writtenLine sort (q sort)
+    same : (sort : PlaceSort) → written_line sort (p sort) ≡ written_line sort (q sort)
     same sort = line_same sort (p sort) (q sort) (h sort)

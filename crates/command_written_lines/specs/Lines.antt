@@ -5,7 +5,7 @@ use Rattle.words.specs.Word.{pick}
 use Rattle.text_numbers.specs.Number.{digits}
 use Rattle.text_lines.specs.Line.{newline}
 use Rattle.text_report.specs.Lines.{blank}
-use Rattle.write_sets.specs.Sets.{variableBits, declaredBits, arrayBits, variableBit, declaredBit, memberArray}
+use Rattle.write_sets.specs.Sets.{variable_bits, declared_bits, array_bits, variable_bit, declared_bit, member_array}
 use Rattle.write_sets.specs.declared.WriteSet.{WriteSet}
 use Rattle.command_request.specs.Ascii.{ascii}
 use Rattle.command_written_lines.specs.declared.PlaceSort.{PlaceSort}
@@ -22,24 +22,24 @@ name_of Variables = ascii "variables"
 name_of Arrays = ascii "arrays"
 name_of Declared = ascii "declared"
 
-abbrev pub bitsOf : PlaceSort → ℕ
-bitsOf Variables = variableBits
-bitsOf Arrays = arrayBits
-bitsOf Declared = declaredBits
+abbrev pub bits_of : PlaceSort → ℕ
+bits_of Variables = variable_bits
+bits_of Arrays = array_bits
+bits_of Declared = declared_bits
 
 -- The bits of both sets.
-abbrev pub isIn : WriteSet → (arrays : ℕ) → PlaceSort → ℕ → Bool
-isIn set arrays Variables = variableBit set
-isIn set arrays Arrays = memberArray arrays
-isIn set arrays Declared = declaredBit set
+abbrev pub is_in : WriteSet → (arrays : ℕ) → PlaceSort → ℕ → Bool
+is_in set arrays Variables = variable_bit set
+is_in set arrays Arrays = member_array arrays
+is_in set arrays Declared = declared_bit set
 
 -- A line with none is its word alone.
-unfoldable pub writtenLine : PlaceSort → (ℕ → Bool) → List ℕ
-writtenLine sort p = (name_of sort ++ numbers (bitsOf sort) p) ++ (newline ∷ [])
+unfoldable pub written_line : PlaceSort → (ℕ → Bool) → List ℕ
+written_line sort p = (name_of sort ++ numbers (bits_of sort) p) ++ (newline ∷ [])
 
-abbrev pub writtenLines : (PlaceSort → ℕ → Bool) → List ℕ
-writtenLines p = (writtenLine Variables (p Variables) ++ writtenLine Arrays (p Arrays)) ++ writtenLine Declared (p Declared)
+abbrev pub written_lines : (PlaceSort → ℕ → Bool) → List ℕ
+written_lines p = (written_line Variables (p Variables) ++ written_line Arrays (p Arrays)) ++ written_line Declared (p Declared)
 
 -- Bytes enough for all lines: at most twenty-one for each number with its blank, and ten for what else a line has.
-abbrev pub writesRoom : ℕ
-writesRoom = 7422
+abbrev pub writes_room : ℕ
+writes_room = 7422

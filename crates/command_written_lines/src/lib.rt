@@ -1,18 +1,20 @@
 // The lines that tell what sets hold: the numbers of the variables, in a second line those of the arrays, and in a third those of the
 // declared words. A writer puts its bytes at the start of `text`, and answers how many they are.
+#![tactic(auto)]
+
 ghost use Rattle.std.specs.Prelude.{◌≡◌, [], ◌∷◌, ◌+◌, ◌*◌, ◌≤◌, ◌<◌, length};
 ghost use Rattle.words.specs.Word.{pick};
 ghost use Rattle.text_numbers.specs.Number.{digits};
 ghost use Rattle.text_numbers.specs.Writer.{Put};
 ghost use Rattle.text_report.specs.Lines.{blank};
-ghost use Rattle.command_written_lines.specs.Lines.{numbers, name_of, bitsOf, isIn, writtenLine, writtenLines, writesRoom};
+ghost use Rattle.command_written_lines.specs.Lines.{numbers, name_of, bits_of, is_in, written_line, written_lines, writes_room};
 
 use text_report::field::{put_bytes, put_count};
 use write_sets::arrays::has_array;
 use write_sets::{WriteSet, has_declared, has_variable};
 
 // What a line is about.
-#[derive(Drop)]
+#[derive(Clone, Copy)]
 pub enum PlaceSort {
     Variables,
     Arrays,
@@ -33,7 +35,7 @@ fn put_if(wanted: bool, number: usize, text: &mut [u8]) -> usize
 
 // How many numbers there are.
 fn bits_of(sort: PlaceSort) -> usize
-    ensures { result ≡ bitsOf sort }
+    ensures { result ≡ bits_of sort }
 {
     match sort {
         PlaceSort::Variables => 256,
@@ -44,8 +46,8 @@ fn bits_of(sort: PlaceSort) -> usize
 
 // Whether the number i is in its set.
 fn is_in(set: WriteSet, arrays: u32, sort: PlaceSort, i: usize) -> bool
-    requires { i < bitsOf sort }
-    ensures { result ≡ isIn set arrays sort i }
+    requires { i < bits_of sort }
+    ensures { result ≡ is_in set arrays sort i }
 {
     match sort {
         PlaceSort::Variables => has_variable(set, i),
@@ -55,9 +57,9 @@ fn is_in(set: WriteSet, arrays: u32, sort: PlaceSort, i: usize) -> bool
 }
 
 fn put_numbers(set: WriteSet, arrays: u32, sort: PlaceSort, text: &mut [u8]) -> usize
-    requires { 21 * bitsOf sort ≤ length text.old }
-    ensures put { Put (numbers (bitsOf sort) (isIn set arrays sort)) text.old result text.new }
-    ensures upper_bound { result ≤ 21 * bitsOf sort }
+    requires { 21 * bits_of sort ≤ length text.old }
+    ensures put { Put (numbers (bits_of sort) (is_in set arrays sort)) text.old result text.new }
+    ensures upper_bound { result ≤ 21 * bits_of sort }
 {
     let bits = bits_of(sort);
     let mut at: usize = 0;
@@ -81,9 +83,9 @@ fn put_name(sort: PlaceSort, text: &mut [u8]) -> usize
 }
 
 fn put_line(set: WriteSet, arrays: u32, sort: PlaceSort, text: &mut [u8]) -> usize
-    requires { 21 * bitsOf sort + 10 ≤ length text.old }
-    ensures put { Put (writtenLine sort (isIn set arrays sort)) text.old result text.new }
-    ensures upper_bound { result ≤ 21 * bitsOf sort + 10 }
+    requires { 21 * bits_of sort + 10 ≤ length text.old }
+    ensures put { Put (written_line sort (is_in set arrays sort)) text.old result text.new }
+    ensures upper_bound { result ≤ 21 * bits_of sort + 10 }
 {
     let named = put_name(sort, text);
     let end = named + put_numbers(set, arrays, sort, &mut text[named..]);
@@ -93,8 +95,8 @@ fn put_line(set: WriteSet, arrays: u32, sort: PlaceSort, text: &mut [u8]) -> usi
 
 // All lines.
 pub fn put_lines(set: WriteSet, arrays: u32, text: &mut [u8]) -> usize
-    requires { writesRoom ≤ length text.old }
-    ensures { Put (writtenLines (isIn set arrays)) text.old result text.new }
+    requires { writes_room ≤ length text.old }
+    ensures { Put (written_lines (is_in set arrays)) text.old result text.new }
 {
     let first = put_line(set, arrays, PlaceSort::Variables, text);
     let second = first + put_line(set, arrays, PlaceSort::Arrays, &mut text[first..]);

@@ -46,18 +46,18 @@ and_then (ok a σ) next = next a σ
 and_then (stopped why σ) next = stopped why σ
 
 -- Whether one step more is within the limit.
-abbrev pub hasRoom : Limit → State → Bool
-hasRoom (steps b) σ = ltb σ.count b
-hasRoom (rounds c) σ = true
+abbrev pub has_room : Limit → State → Bool
+has_room (steps b) σ = ltb σ.count b
+has_room (rounds c) σ = true
 
 -- "Spent is given where one step more than the budget would be needed, and the store is as it stood when that step fell due".
-abbrev pub runStep : Limit → State → Result (Unit {0})
-runStep l σ = pick (hasRoom l σ) (ok tt (stepped σ)) (stopped spent σ)
+abbrev pub run_step : Limit → State → Result (Unit {0})
+run_step l σ = pick (has_room l σ) (ok tt (stepped σ)) (stopped spent σ)
 
 -- How many rounds a loop may go. A round takes a step, so under `steps b` one round more than the steps left is never made.
-abbrev pub roundsFrom : Limit → State → ℕ
-roundsFrom (steps b) σ = suc (b - σ.count)
-roundsFrom (rounds c) σ = c
+abbrev pub rounds_from : Limit → State → ℕ
+rounds_from (steps b) σ = suc (b - σ.count)
+rounds_from (rounds c) σ = c
 
 -- After a round: go round again, or be done.
 abbrev pub after_turn : {A : Type 0} → (State → Result A) → Turn A → State → Result A
@@ -67,17 +67,17 @@ after_turn more (leave a) σ = ok a σ
 -- At most n rounds of a body, each begun by a counted step.
 abbrev pub iterate : {A : Type 0} → Limit → ℕ → (State → Result (Turn A)) → State → Result A
 iterate l zero body σ = stopped spent σ
-iterate l (suc n) body σ = and_then (runStep l σ) (λ _ τ. and_then (body τ) (after_turn (iterate l n body)))
+iterate l (suc n) body σ = and_then (run_step l σ) (λ _ τ. and_then (body τ) (after_turn (iterate l n body)))
 
 unfoldable pub run : {A : Type 0} → Limit → Computation A → State → Result A
 run l m = elim m as (λ A _. State → Result A) [
   | ret a ↦ λ σ. ok a σ
   | (m → run-m) >>= (k → run-k) ↦ λ σ. and_then (run-m σ) run-k
-  | step ↦ λ σ. runStep l σ
+  | step ↦ λ σ. run_step l σ
   | load i ↦ λ σ. ok (get_or σ.store i (pos 0)) σ
   | save i v ↦ λ σ. ok tt (written i v σ)
   | fail sort ↦ λ σ. stopped (fault sort) σ
-  | loop (body → run-body) ↦ λ σ. iterate l (roundsFrom l σ) run-body σ
+  | loop (body → run-body) ↦ λ σ. iterate l (rounds_from l σ) run-body σ
 ]
 
 -- The state in which a run came to its end or stopped.
@@ -86,10 +86,10 @@ final (ok a σ) = σ
 final (stopped why σ) = σ
 
 -- "A run ends plainly, spent, or with a fault", of one of four sorts.
-abbrev pub endingOf : {A : Type 0} → Result A → Ending
-endingOf (ok a σ) = Plain
-endingOf (stopped spent σ) = Spent
-endingOf (stopped (fault sort) σ) = Fault sort
+abbrev pub ending_of : {A : Type 0} → Result A → Ending
+ending_of (ok a σ) = Plain
+ending_of (stopped spent σ) = Spent
+ending_of (stopped (fault sort) σ) = Fault sort
 
 -- "Another ending than spent."
 abbrev pub Settled : {A : Type 0} → Result A → Type 0

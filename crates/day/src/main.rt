@@ -1,6 +1,8 @@
 // The day program: reads a rule and a day from standard input, and prints for each value of the setting what the day leaves, or the refusal.
 //
 // What is printed for an input is the contract of `output::day`; this file only reads, calls and writes.
+#![tactic(auto)]
+
 mod output; // output.rt: what is printed for an input
 
 use self::output::day;

@@ -2,17 +2,17 @@
 ghost use Rattle.std.specs.Prelude.{◌≡◌, ◌≤◌, length};
 ghost use Rattle.words.specs.Layout.{layout_of};
 ghost use Rattle.words.specs.declared.Form.TheVariants.{Source};
-ghost use Rattle.language_programs.specs.Program.{resolvedRows};
+ghost use Rattle.language_programs.specs.Program.{resolved_rows};
 ghost use Rattle.text_lines.specs.Line.{lines_of};
 ghost use Rattle.text_numbers.specs.Writer.{Put};
 ghost use Rattle.text_rules.specs.Rules.{IsAccepted};
-ghost use Rattle.day_form.specs.Input.{ruleSize};
-ghost use Rattle.day_form.specs.Lines.{mostDays};
+ghost use Rattle.day_form.specs.Input.{rule_size};
+ghost use Rattle.day_form.specs.Lines.{most_days};
 ghost use Rattle.day_form.specs.Plans.{Sets, plan_of};
-ghost use Rattle.day_run.specs.Days.{pairsOf};
-ghost use Rattle.day_values.specs.Values.{settingOutput};
-ghost use Rattle.day_values.specs.Conditions.{dayRoom};
-ghost use Rattle.day.specs.Output.{planOutput, dayOutput};
+ghost use Rattle.day_run.specs.Days.{pairs_of};
+ghost use Rattle.day_values.specs.Values.{setting_output};
+ghost use Rattle.day_values.specs.Conditions.{day_room};
+ghost use Rattle.day.specs.Output.{plan_output, day_output};
 
 use accepted_rows::resolve_accepted;
 use day_form::input::rule_size;
@@ -33,10 +33,10 @@ fn put_resolved(
     output: &mut [u8],
 ) -> usize
     requires accepted { IsAccepted header.now rows.now }
-    requires days_len_bound { length (lines_of days.now) ≤ mostDays }
+    requires days_len_bound { length (lines_of days.now) ≤ most_days }
     requires sets { Sets setting }
-    requires day_room_in_bounds { dayRoom ≤ length output.old }
-    ensures { Put (settingOutput header.now (resolvedRows Source header.now rows.now) setting (pairsOf (lines_of days.now))) output.old result output.new }
+    requires day_room_in_bounds { day_room ≤ length output.old }
+    ensures { Put (setting_output header.now (resolved_rows Source header.now rows.now) setting (pairs_of (lines_of days.now))) output.old result output.new }
 {
     let words = rows.len();
     let mut table = [0i32; 768];
@@ -47,9 +47,9 @@ fn put_resolved(
 // What stands behind an accepted rule of so many bytes: 21, then 22, then the values.
 fn put_plan(header: &[i32], rows: &[i32], input: &[u8], size: usize, output: &mut [u8]) -> usize
     requires accepted { IsAccepted header.now rows.now }
-    requires size_value { size ≡ ruleSize input.now }
-    requires day_room_in_bounds { dayRoom ≤ length output.old }
-    ensures { Put (planOutput header.now rows.now (plan_of (layout_of Source header.now).variables input.now)) output.old result output.new }
+    requires size_value { size ≡ rule_size input.now }
+    requires day_room_in_bounds { day_room ≤ length output.old }
+    ensures { Put (plan_output header.now rows.now (plan_of (layout_of Source header.now).variables input.now)) output.old result output.new }
 {
     let variables = natural(header[0]);
     let answer = read_plan(variables, input, size);
@@ -67,8 +67,8 @@ fn put_plan(header: &[i32], rows: &[i32], input: &[u8], size: usize, output: &mu
 
 // The rule's own causes, then what stands behind it. The rule is read, checked and resolved once.
 pub fn day(input: &[u8], output: &mut [u8]) -> usize
-    requires { dayRoom ≤ length output.old }
-    ensures { Put (dayOutput input.now) output.old result output.new }
+    requires { day_room ≤ length output.old }
+    ensures { Put (day_output input.now) output.old result output.new }
 {
     let size = rule_size(input);
     let mut header = [0i32; 35];

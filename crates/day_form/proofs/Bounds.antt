@@ -10,57 +10,57 @@ use lib.ListN.{length, take, drop, get_or, drop_of_length-le}
 use lib.Seq.{drop-cons, take_all}
 use borrow.Author.Tests.{ltb-true, ltb-false}
 use Rattle.words.specs.Laws.{by_cases}
-use Rattle.text_lines.specs.Line.{newline, TextLine, ended, unended, longerLine, lines_of}
+use Rattle.text_lines.specs.Line.{newline, TextLine, ended, unended, longer_line, lines_of}
 use Rattle.text_lines.specs.LineLaws.{lines_none}
 use Rattle.text_lines.proofs.Pieces.{Piece}
 use Rattle.text_lines.proofs.Pieces.{lines_step, lines-last}
-use Rattle.day_form.specs.Input.{bytesBefore, ruleSize, Behind}
+use Rattle.day_form.specs.Input.{bytes_before, rule_size, Behind}
 
 -- ---- the rule's bytes
 
 -- none of the bytes before `at` ends the rule
 pub record Passed (input : List ℕ) (at : ℕ) (starts : Bool) : Type 0 where
   pub inside : at ≤ length input
-  pub same : ruleSize input ≡ at + bytesBefore starts (drop at input)
+  pub same : rule_size input ≡ at + bytes_before starts (drop at input)
 
 pub passed_start : (input : List ℕ) → Passed input 0 true
-unfolding ruleSize
+unfolding rule_size
 passed_start input = record { inside = omega arith; same = omega arith }
 
-before-end : (starts : Bool) (input : List ℕ) (at : ℕ) → length input ≤ at → bytesBefore starts (drop at input) ≡ 0
-unfolding bytesBefore
+before-end : (starts : Bool) (input : List ℕ) (at : ℕ) → length input ≤ at → bytes_before starts (drop at input) ≡ 0
+unfolding bytes_before
 before-end starts input at h = rw (drop_of_length-le input {i = at} h)
 
 module _ {input : List ℕ} {at : ℕ} {starts : Bool} (p : Passed input at starts) where
-  pub passed-end : length input ≤ at → at ≡ ruleSize input
+  pub passed-end : length input ≤ at → at ≡ rule_size input
   passed-end h = omega (arith, p.same, before-end starts input at h)
 
   module _ (more : at < length input) where
-    here : (starts && eqb (get_or input at 0) newline) ≡ true → bytesBefore starts (drop at input) ≡ 0
-    unfolding bytesBefore
+    here : (starts && eqb (get_or input at 0) newline) ≡ true → bytes_before starts (drop at input) ≡ 0
+    unfolding bytes_before
     here e = rw (drop-cons input at 0 more, e)
 
-    further : (starts && eqb (get_or input at 0) newline) ≡ false → bytesBefore starts (drop at input) ≡ suc (bytesBefore (eqb (get_or input at 0) newline) (drop (at + 1) input))
-    unfolding bytesBefore
+    further : (starts && eqb (get_or input at 0) newline) ≡ false → bytes_before starts (drop at input) ≡ suc (bytes_before (eqb (get_or input at 0) newline) (drop (at + 1) input))
+    unfolding bytes_before
     further e = rw (add-one at, drop-cons input at 0 more, e)
 
-    pub passed_here : (starts && eqb (get_or input at 0) newline) ≡ true → at ≡ ruleSize input
+    pub passed_here : (starts && eqb (get_or input at 0) newline) ≡ true → at ≡ rule_size input
     passed_here e = omega (arith, p.same, here e)
 
     pub passed-next : (starts && eqb (get_or input at 0) newline) ≡ false → Passed input (at + 1) (eqb (get_or input at 0) newline)
     passed-next e = record { inside = omega arith; same = omega (arith, p.same, further e) }
 
-before-inside : (starts : Bool) (bytes : List ℕ) → bytesBefore starts bytes ≤ length bytes
-unfolding bytesBefore
-before-inside starts [] = omega arith
-before-inside starts (byte ∷ bytes) =
+before_inside : (starts : Bool) (bytes : List ℕ) → bytes_before starts bytes ≤ length bytes
+unfolding bytes_before
+before_inside starts [] = omega arith
+before_inside starts (byte ∷ bytes) =
     by_cases (starts && eqb byte newline)
     (λ t. rw t (omega arith))
-    (λ t. rw t (omega (arith, before-inside (eqb byte newline) bytes)))
+    (λ t. rw t (omega (arith, before_inside (eqb byte newline) bytes)))
 
-pub rule-inside : (input : List ℕ) → ruleSize input ≤ length input
-unfolding ruleSize
-rule-inside input = before-inside true input
+pub rule-inside : (input : List ℕ) → rule_size input ≤ length input
+unfolding rule_size
+rule-inside input = before_inside true input
 
 pub behind-end : (input : List ℕ) (size : ℕ) → size ≡ length input → Behind input size size
 behind-end input size e = record {
@@ -97,7 +97,7 @@ module _ {text : List ℕ} {at end : ℕ} (p : Piece 10 text at end) (more : at 
       past t = omega (arith, ltb-false end (length text) t)
 
 -- every line has a byte
-longer-few : (byte : ℕ) (lines : List TextLine) → length (longerLine byte lines) ≤ length lines + 1
+longer-few : (byte : ℕ) (lines : List TextLine) → length (longer_line byte lines) ≤ length lines + 1
 longer-few byte [] = omega arith
 longer-few byte (ended line ∷ lines) = omega arith
 longer-few byte (unended line ∷ lines) = omega arith

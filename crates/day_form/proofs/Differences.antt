@@ -10,13 +10,13 @@ use lib.IntN.{ℤ, pos, negsuc, ◌-ℤ◌}
 use lib.ListN.{length, get_or}
 use lib.Signed.{mag}
 use borrow.Author.Tests.{ltb-true, ltb-false, lt-ltb, le-ltb}
-use Rattle.words.specs.Word.{isWord, natural, pick}
+use Rattle.words.specs.Word.{is_word, natural, pick}
 use Rattle.words.specs.Laws.{by_cases}
 use Rattle.arithmetic.specs.Arithmetic.{Outcome, value, fault, in_word, apply}
 use Rattle.words.specs.declared.FaultSort.{FaultSort}
 use Rattle.words.specs.declared.FaultSort.TheVariants.{Overflow}
 use Rattle.words.specs.declared.Operator.TheVariants.{Subtract}
-use Rattle.day_form.specs.Settings.{settingBy, setting_of}
+use Rattle.day_form.specs.Settings.{setting_by, setting_of}
 
 not-value : {G : Type 0} {sort : FaultSort} {z : ℤ} → fault sort ≡ value z → G
 not-value e = absurd (let w : ◌≡◌ {A = ℕ} 0 1 = cc in omega arith)
@@ -28,12 +28,12 @@ large (pos n) h = omega arith
 large (negsuc n) h = omega arith
 
 module _ (variable lowest highest : ℤ) where
-  no-setting : 100 ≤ natural (highest -ℤ lowest) → none ≡ settingBy variable lowest highest
-  unfolding settingBy
+  no-setting : 100 ≤ natural (highest -ℤ lowest) → none ≡ setting_by variable lowest highest
+  unfolding setting_by
   no-setting h = rw (le-ltb _ _ h)
 
-  pub overflows : (sort : FaultSort) → fault sort ≡ apply Subtract highest lowest → none ≡ settingBy variable lowest highest
-  unfolding apply in_word isWord
+  pub overflows : (sort : FaultSort) → fault sort ≡ apply Subtract highest lowest → none ≡ setting_by variable lowest highest
+  unfolding apply in_word is_word
   overflows sort e =
       by_cases (ltb (mag (highest -ℤ lowest)) (2 ^ 31))
       (λ t. let word : fault sort ≡ value (highest -ℤ lowest) = e ∙ rw t in not-value word)
@@ -44,24 +44,24 @@ module _ (variable lowest highest : ℤ) where
     pub word : mag gap < 2 ^ 31
 
   pub gap_of : (gap : ℤ) → value gap ≡ apply Subtract highest lowest → Gap gap
-  unfolding apply in_word isWord
+  unfolding apply in_word is_word
   gap_of gap e =
       by_cases (ltb (mag (highest -ℤ lowest)) (2 ^ 31))
       (λ t. let s : value gap ≡ value (highest -ℤ lowest) = e ∙ rw t in let same : gap ≡ highest -ℤ lowest = cc in record { is = same; word = rw same (ltb-true _ _ t) })
       (λ t. let word : value gap ≡ fault Overflow = e ∙ rw t in not-value (sym word))
 
-  pub too_many : {gap : ℤ} → Gap gap → 100 ≤ natural gap → none ≡ settingBy variable lowest highest
-  too_many g h = no-setting (rw g.is at h)
+  pub too-many : {gap : ℤ} → Gap gap → 100 ≤ natural gap → none ≡ setting_by variable lowest highest
+  too-many g h = no-setting (rw g.is at h)
 
   pub is-setting : {gap : ℤ} → Gap gap → (more : ℕ) → more ≡ natural gap → more < 100 → (number : ℕ) → number ≡ natural variable
-      → some (record { variable = number; lowest = lowest; values = more + 1 }) ≡ settingBy variable lowest highest
-  unfolding settingBy
+      → some (record { variable = number; lowest = lowest; values = more + 1 }) ≡ setting_by variable lowest highest
+  unfolding setting_by
   is-setting g more m h number n =
       let same : more ≡ natural (highest -ℤ lowest) = m ∙ ap natural g.is in
       rw (← same, lt-ltb _ _ h, n)
 
 -- three numbers, each handed on as a word
 pub three-numbers : (numbers : List ℤ) → length numbers ≡ 3
-    → settingBy (get_or numbers 0 (pos 0)) (get_or numbers 1 (pos 0)) (get_or numbers 2 (pos 0)) ≡ setting_of numbers
+    → setting_by (get_or numbers 0 (pos 0)) (get_or numbers 1 (pos 0)) (get_or numbers 2 (pos 0)) ≡ setting_of numbers
 unfolding setting_of
 three-numbers numbers e = rw e

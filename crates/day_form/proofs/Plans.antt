@@ -19,10 +19,10 @@ use Rattle.words.specs.declared.Refusal.{Refusal}
 use Rattle.words.specs.declared.Verdict.{Verdict}
 use Rattle.words.specs.declared.Verdict.TheVariants.{Accepted, Refused}
 use Rattle.text_lines.specs.Line.{TextLine, lines_of}
-use Rattle.day_form.specs.Input.{ruleSize, firstNumber, linesBehind, Behind}
-use Rattle.day_form.specs.Lines.{mostDays, lineWords, turnsAway, firstLine, NextRead}
+use Rattle.day_form.specs.Input.{rule_size, first_number, lines_behind, Behind}
+use Rattle.day_form.specs.Lines.{most_days, line_words, turns_away, first_line, NextRead}
 use Rattle.day_form.specs.Settings.{setting_of}
-use Rattle.day_form.specs.Plans.{planned, refused, refusedAt, outsideLine, daysVerdict, checkedPlan, settingPlan, linesPlan, plan_of, IsPlanned}
+use Rattle.day_form.specs.Plans.{planned, refused, refused_at, outside_line, days_verdict, checked_plan, setting_plan, lines_plan, plan_of, IsPlanned}
 use Rattle.day_form.specs.declared.lines.LineTest.TheVariants.{Pairs, Names}
 use Rattle.day_form.specs.declared.lines.NextLine.{NextLine}
 use Rattle.day_form.specs.declared.setting.Setting.{Setting}
@@ -31,97 +31,97 @@ use Rattle.day_form.proofs.Values.{setting-sets}
 
 -- ---- the day lines
 
-late_turned : (last number : ℕ) (numbers : List ℤ) → turnsAway (Pairs last) number numbers ≡ false → number ≤ last
-unfolding turnsAway
+late_turned : (last number : ℕ) (numbers : List ℤ) → turns_away (Pairs last) number numbers ≡ false → number ≤ last
+unfolding turns_away
 late_turned last number numbers e =
     by_cases (ltb last number)
     (λ t. absurd (let w : true ≡ false = sym (rw t) ∙ e in let z : ◌≡◌ {A = ℕ} 0 1 = cc in omega arith))
     (λ t. ltb-false _ _ t)
 
 -- where none is turned away, none is past the last
-few-lines : (last number : ℕ) (lines : List TextLine) → number ≤ last + 1 → firstLine (Pairs last) number lines ≡ Nothing → number + length lines ≤ last + 1
-unfolding firstLine
+few-lines : (last number : ℕ) (lines : List TextLine) → number ≤ last + 1 → first_line (Pairs last) number lines ≡ Nothing → number + length lines ≤ last + 1
+unfolding first_line
 few-lines last number [] h e = omega arith
 few-lines last number (line ∷ lines) h e =
-    by_cases (turnsAway (Pairs last) number (lineWords line))
+    by_cases (turns_away (Pairs last) number (line_words line))
     (λ t. not_found number (sym (rw t) ∙ e))
-    (λ t. let inside = late_turned last number (lineWords line) t in let rest = few-lines last (number + 1) lines (omega arith) (rw t at e) in omega arith)
+    (λ t. let inside = late_turned last number (line_words line) t in let rest = few-lines last (number + 1) lines (omega arith) (rw t at e) in omega arith)
 
-none-turned : (number : ℕ) (found : Found) (others : Verdict) → Accepted ≡ refusedAt number found others → found ≡ Nothing
+none-turned : (number : ℕ) (found : Found) (others : Verdict) → Accepted ≡ refused_at number found others → found ≡ Nothing
 none-turned number (At line) others e = absurd (let z : ◌≡◌ {A = ℕ} 0 1 = cc in omega arith)
 none-turned number Nothing others e = refl
 
 module _ (variables first variable : ℕ) (days : List TextLine) where
-  pub setting-outside : variables ≤ variable → At first ≡ outsideLine variables first variable days
-  unfolding outsideLine
+  pub setting-outside : variables ≤ variable → At first ≡ outside_line variables first variable days
+  unfolding outside_line
   setting-outside h = rw (le-ltb _ _ h)
 
-  pub setting-inside : variable < variables → firstLine (Names variables) (first + 1) days ≡ outsideLine variables first variable days
-  unfolding outsideLine
+  pub setting-inside : variable < variables → first_line (Names variables) (first + 1) days ≡ outside_line variables first variable days
+  unfolding outside_line
   setting-inside h = rw (lt-ltb _ _ h)
 
   module _ (line : ℕ) where
-    pub malformed-at : At line ≡ firstLine (Pairs (first + mostDays)) (first + 1) days → Refused (record { number = 21; place = line }) ≡ daysVerdict variables first variable days
-    unfolding daysVerdict
+    pub malformed-at : At line ≡ first_line (Pairs (first + most_days)) (first + 1) days → Refused (record { number = 21; place = line }) ≡ days_verdict variables first variable days
+    unfolding days_verdict
     malformed-at e = rw (← e)
 
-    pub outside-at : Nothing ≡ firstLine (Pairs (first + mostDays)) (first + 1) days → At line ≡ outsideLine variables first variable days
-        → Refused (record { number = 22; place = line }) ≡ daysVerdict variables first variable days
-    unfolding daysVerdict
+    pub outside-at : Nothing ≡ first_line (Pairs (first + most_days)) (first + 1) days → At line ≡ outside_line variables first variable days
+        → Refused (record { number = 22; place = line }) ≡ days_verdict variables first variable days
+    unfolding days_verdict
     outside-at e o = rw (← e, ← o)
 
-  pub days-accepted : Nothing ≡ firstLine (Pairs (first + mostDays)) (first + 1) days → Nothing ≡ outsideLine variables first variable days → Accepted ≡ daysVerdict variables first variable days
-  unfolding daysVerdict
+  pub days-accepted : Nothing ≡ first_line (Pairs (first + most_days)) (first + 1) days → Nothing ≡ outside_line variables first variable days → Accepted ≡ days_verdict variables first variable days
+  unfolding days_verdict
   days-accepted e o = rw (← e, ← o)
 
-  few-days : Accepted ≡ daysVerdict variables first variable days → length days ≤ mostDays
-  unfolding daysVerdict
-  few-days e = let few = few-lines (first + mostDays) (first + 1) days (omega arith) (none-turned 21 _ _ e) in omega arith
+  few_days : Accepted ≡ days_verdict variables first variable days → length days ≤ most_days
+  unfolding days_verdict
+  few_days e = let few = few-lines (first + most_days) (first + 1) days (omega arith) (none-turned 21 _ _ e) in omega arith
 
 -- ---- the setting's line and the day's
 
-pub setting-missing : (variables first : ℕ) (text : List ℕ) → lines_of text ≡ [] → linesPlan variables first (lines_of text) ≡ refused 21 first
-unfolding linesPlan
+pub setting-missing : (variables first : ℕ) (text : List ℕ) → lines_of text ≡ [] → lines_plan variables first (lines_of text) ≡ refused 21 first
+unfolding lines_plan
 setting-missing variables first text e = rw e
 
-module _ (variables first : ℕ) {text : List ℕ} {next : NextLine} {table left : List ℤ} (r : NextRead text 0 next table left) (lent : List ℤ) (is : lent ≡ lineWords r.line) where
-  by-setting : linesPlan variables first (lines_of text) ≡ settingPlan variables first (setting_of lent) (lines_of (drop next.at text))
-  unfolding linesPlan
+module _ (variables first : ℕ) {text : List ℕ} {next : NextLine} {table left : List ℤ} (r : NextRead text 0 next table left) (lent : List ℤ) (is : lent ≡ line_words r.line) where
+  by-setting : lines_plan variables first (lines_of text) ≡ setting_plan variables first (setting_of lent) (lines_of (drop next.at text))
+  unfolding lines_plan
   by-setting = rw (r.is-first, ← is)
 
-  pub setting-malformed : none ≡ setting_of lent → linesPlan variables first (lines_of text) ≡ refused 21 first
-  unfolding settingPlan
+  pub setting-malformed : none ≡ setting_of lent → lines_plan variables first (lines_of text) ≡ refused 21 first
+  unfolding setting_plan
   setting-malformed e = by-setting ∙ rw (← e)
 
   module _ (setting : Setting) (e : some setting ≡ setting_of lent) where
-    by-verdict : linesPlan variables first (lines_of text)
-        ≡ checkedPlan (daysVerdict variables first setting.variable (lines_of (drop next.at text))) setting (lines_of (drop next.at text))
-    unfolding settingPlan
+    by-verdict : lines_plan variables first (lines_of text)
+        ≡ checked_plan (days_verdict variables first setting.variable (lines_of (drop next.at text))) setting (lines_of (drop next.at text))
+    unfolding setting_plan
     by-verdict = by-setting ∙ rw (← e)
 
     rest : lines_of (take (length text - next.at) (drop next.at text)) ≡ lines_of (drop next.at text)
     rest = ap lines_of (rest_of text next.at)
 
-    pub days-refused : (cause : Refusal) → Refused cause ≡ daysVerdict variables first setting.variable (lines_of (take (length text - next.at) (drop next.at text)))
-        → linesPlan variables first (lines_of text) ≡ refused cause.number cause.place
-    unfolding checkedPlan
+    pub days-refused : (cause : Refusal) → Refused cause ≡ days_verdict variables first setting.variable (lines_of (take (length text - next.at) (drop next.at text)))
+        → lines_plan variables first (lines_of text) ≡ refused cause.number cause.place
+    unfolding checked_plan
     days-refused cause v = by-verdict ∙ rw (← rest, ← v)
 
-    pub days-planned : Accepted ≡ daysVerdict variables first setting.variable (lines_of (take (length text - next.at) (drop next.at text)))
-        → IsPlanned (linesPlan variables first (lines_of text)) setting next.at text
-    unfolding checkedPlan
+    pub days-planned : Accepted ≡ days_verdict variables first setting.variable (lines_of (take (length text - next.at) (drop next.at text)))
+        → IsPlanned (lines_plan variables first (lines_of text)) setting next.at text
+    unfolding checked_plan
     days-planned v =
-        let verdict : Accepted ≡ daysVerdict variables first setting.variable (lines_of (drop next.at text)) = v ∙ ap (daysVerdict variables first setting.variable) rest in
+        let verdict : Accepted ≡ days_verdict variables first setting.variable (lines_of (drop next.at text)) = v ∙ ap (days_verdict variables first setting.variable) rest in
         record {
           is = by-verdict ∙ rw (← verdict);
           inside = r.inside;
           sets = setting-sets r.line setting (e ∙ ap setting_of is);
-          few-days = few-days variables first setting.variable (lines_of (drop next.at text)) verdict;
+          few_days = few_days variables first setting.variable (lines_of (drop next.at text)) verdict;
         }
 
 -- ---- the whole input
 
-module _ (input : List ℕ) {size start : ℕ} (s : size ≡ ruleSize input) (b : Behind input size start) where
+module _ (input : List ℕ) {size start : ℕ} (s : size ≡ rule_size input) (b : Behind input size start) where
   part-size : length (take (length input - start) (drop start input)) ≡ length input - start
   part-size = ap length (rest_of input start) ∙ length-drop start input
 
@@ -134,15 +134,15 @@ module _ (input : List ℕ) {size start : ℕ} (s : size ≡ ruleSize input) (b 
         omega (arith, part-size, b.inside)
 
     module _ (variables : ℕ) where
-      plan-is : linesPlan variables (count + 1) (lines_of (take (length input - start) (drop start input))) ≡ plan_of variables input
-      unfolding plan_of firstNumber linesBehind
+      plan-is : lines_plan variables (count + 1) (lines_of (take (length input - start) (drop start input))) ≡ plan_of variables input
+      unfolding plan_of first_number lines_behind
       plan-is = rw (e, first_of input start, rest_of input start, b.before, b.behind, s)
 
-      pub plan-refused : (number line : ℕ) → linesPlan variables (count + 1) (lines_of (take (length input - start) (drop start input))) ≡ refused number line → plan_of variables input ≡ refused number line
+      pub plan-refused : (number line : ℕ) → lines_plan variables (count + 1) (lines_of (take (length input - start) (drop start input))) ≡ refused number line → plan_of variables input ≡ refused number line
       plan-refused number line p = sym plan-is ∙ p
 
       -- the day lines begin so far behind the start
-      pub plan-planned : (setting : Setting) (at : ℕ) → IsPlanned (linesPlan variables (count + 1) (lines_of (take (length input - start) (drop start input)))) setting at (take (length input - start) (drop start input))
+      pub plan-planned : (setting : Setting) (at : ℕ) → IsPlanned (lines_plan variables (count + 1) (lines_of (take (length input - start) (drop start input)))) setting at (take (length input - start) (drop start input))
           → IsPlanned (plan_of variables input) setting (start + at) input
       plan-planned setting at p =
           let moved : drop at (take (length input - start) (drop start input)) ≡ drop (start + at) input = ap (drop at) (rest_of input start) ∙ drop-drop at start input in
@@ -150,5 +150,5 @@ module _ (input : List ℕ) {size start : ℕ} (s : size ≡ ruleSize input) (b 
             is = sym plan-is ∙ p.is ∙ ap (λ (l : List ℕ). planned setting (lines_of l)) moved;
             inside = omega (arith, p.inside, part-size, b.inside);
             sets = p.sets;
-            few-days = rw (← moved) p.few-days;
+            few_days = rw (← moved) p.few_days;
           }

@@ -11,33 +11,33 @@ use lib.Signed.{mag}
 use borrow.Author.Tests.{ltb-true, ltb-false, eqb-true}
 use Rattle.words.specs.Word.{natural}
 use Rattle.words.specs.Laws.{by_cases}
-use Rattle.text_lines.specs.Line.{TextLine, lineNumbers}
+use Rattle.text_lines.specs.Line.{TextLine, line_numbers}
 use Rattle.text_lines.specs.LineLaws.{Words, line_reads}
 use Rattle.text_numbers.specs.NumberLaws.{not_some}
-use Rattle.text_lines.specs.Reader.{numbersIn}
+use Rattle.text_lines.specs.Reader.{numbers_in}
 use Rattle.text_form.specs.Text.{keep}
-use Rattle.text_form.specs.TextLaws.{keep-reads}
-use Rattle.day_form.specs.Lines.{isFew, lineWords}
-use Rattle.day_form.specs.Settings.{settingBy, setting_of}
+use Rattle.text_form.proofs.TextLaws.{keep-reads}
+use Rattle.day_form.specs.Lines.{is_few, line_words}
+use Rattle.day_form.specs.Settings.{setting_by, setting_of}
 use Rattle.day_form.specs.Plans.{InWords, Sets}
 use Rattle.day_form.specs.declared.setting.Setting.{Setting}
 
 -- ---- the numbers of a line are words
 
-words-in : (read : Option (List ℤ)) → ((numbers : List ℤ) → read ≡ some numbers → Words numbers) → Words (numbersIn read)
+words-in : (read : Option (List ℤ)) → ((numbers : List ℤ) → read ≡ some numbers → Words numbers) → Words (numbers_in read)
 unfolding Words
 words-in none fits = tt
 words-in (some numbers) fits = fits numbers refl
 
-line-words : (line : TextLine) → Words (lineWords line)
-unfolding lineWords
-line-words line = words-in (keep isFew (lineNumbers line)) (λ numbers e. (line_reads line numbers (keep-reads isFew (lineNumbers line) numbers e).same).fits)
+line-words : (line : TextLine) → Words (line_words line)
+unfolding line_words
+line-words line = words-in (keep is_few (line_numbers line)) (λ numbers e. (line_reads line numbers (keep-reads is_few (line_numbers line) numbers e).same).fits)
 
-word_at : (numbers : List ℤ) → Words numbers → (i : ℕ) → i < length numbers → mag (get_or numbers i (pos 0)) < 2 ^ 31
+word-at : (numbers : List ℤ) → Words numbers → (i : ℕ) → i < length numbers → mag (get_or numbers i (pos 0)) < 2 ^ 31
 unfolding Words
-word_at [] w i h = absurd (omega arith)
-word_at (z ∷ zs) w zero h = w.0
-word_at (z ∷ zs) w (suc i) h = word_at zs w.1 i (omega arith)
+word-at [] w i h = absurd (omega arith)
+word-at (z ∷ zs) w zero h = w.0
+word-at (z ∷ zs) w (suc i) h = word-at zs w.1 i (omega arith)
 
 -- ---- the values between lowest and highest
 
@@ -58,8 +58,8 @@ above lowest highest (pos n) e h = record { is = sym (-ℤ-+ℤ_cancel highest l
 above lowest highest (negsuc n) e h = absurd (omega arith)
 
 module _ (variable lowest highest : ℤ) (low : mag lowest < 2 ^ 31) (high : mag highest < 2 ^ 31) where
-  sets-by : (setting : Setting) → some setting ≡ settingBy variable lowest highest → Sets setting
-  unfolding settingBy
+  sets-by : (setting : Setting) → some setting ≡ setting_by variable lowest highest → Sets setting
+  unfolding setting_by
   sets-by setting e =
       by_cases (ltb (natural (highest -ℤ lowest)) 100)
       (λ t.
@@ -68,7 +68,7 @@ module _ (variable lowest highest : ℤ) (low : mag lowest < 2 ^ 31) (high : mag
       let s : some setting ≡ some (record { variable = natural variable; lowest = lowest; values = natural (highest -ℤ lowest) + 1 }) = e ∙ rw t in
       let same : setting ≡ record { variable = natural variable; lowest = lowest; values = natural (highest -ℤ lowest) + 1 } = cc in
       rw same (record {
-        some-value = omega arith;
+        some_value = omega arith;
         few = omega arith;
         words = record { each = λ k h. between lowest (natural (highest -ℤ lowest)) k low (rw (← a.is) high) few (omega arith) };
       }))
@@ -80,8 +80,8 @@ sets_of numbers w setting e =
     by_cases (eqb (length numbers) 3)
     (λ t.
     let three : length numbers ≡ 3 = eqb-true _ _ t in
-    sets-by (get_or numbers 0 (pos 0)) (get_or numbers 1 (pos 0)) (get_or numbers 2 (pos 0)) (word_at numbers w 1 (omega arith)) (word_at numbers w 2 (omega arith)) setting (e ∙ rw t))
+    sets-by (get_or numbers 0 (pos 0)) (get_or numbers 1 (pos 0)) (get_or numbers 2 (pos 0)) (word-at numbers w 1 (omega arith)) (word-at numbers w 2 (omega arith)) setting (e ∙ rw t))
     (λ t. not_some (sym (e ∙ rw t)))
 
-pub setting-sets : (line : TextLine) (setting : Setting) → some setting ≡ setting_of (lineWords line) → Sets setting
-setting-sets line setting e = sets_of (lineWords line) (line-words line) setting e
+pub setting-sets : (line : TextLine) (setting : Setting) → some setting ≡ setting_of (line_words line) → Sets setting
+setting-sets line setting e = sets_of (line_words line) (line-words line) setting e

@@ -4,24 +4,24 @@ use Rattle.words.specs.Word.{pick}
 use Rattle.text_lines.specs.Line.{newline, TextLine, lines_of}
 
 -- How many bytes stand before the first empty line; all, where there is none. `starts` says whether a line begins here.
-unfoldable pub bytesBefore : Bool → List ℕ → ℕ
-bytesBefore starts [] = 0
-bytesBefore starts (byte ∷ bytes) = pick (starts && eqb byte newline) 0 (suc (bytesBefore (eqb byte newline) bytes))
+unfoldable pub bytes_before : Bool → List ℕ → ℕ
+bytes_before starts [] = 0
+bytes_before starts (byte ∷ bytes) = pick (starts && eqb byte newline) 0 (suc (bytes_before (eqb byte newline) bytes))
 
-unfoldable pub ruleSize : List ℕ → ℕ
-ruleSize input = bytesBefore true input
+unfoldable pub rule_size : List ℕ → ℕ
+rule_size input = bytes_before true input
 
 -- "A rule text": without an empty line it is the whole input.
-unfoldable pub ruleText : List ℕ → List ℕ
-ruleText input = take (ruleSize input) input
+unfoldable pub rule_text : List ℕ → List ℕ
+rule_text input = take (rule_size input) input
 
 -- The lines behind the empty line: the setting's, and the day's.
-unfoldable pub linesBehind : List ℕ → List TextLine
-linesBehind input = lines_of (drop (ruleSize input + 1) input)
+unfoldable pub lines_behind : List ℕ → List TextLine
+lines_behind input = lines_of (drop (rule_size input + 1) input)
 
 -- "With their line of the whole input": the number of the first line behind the empty line, of "the line after the last" where there is none.
-unfoldable pub firstNumber : List ℕ → ℕ
-firstNumber input = length (lines_of (take (ruleSize input + 1) input)) + 1
+unfoldable pub first_number : List ℕ → ℕ
+first_number input = length (lines_of (take (rule_size input + 1) input)) + 1
 
 -- What stands behind a rule of so many bytes and its empty line begins here.
 pub record Behind (input : List ℕ) (size start : ℕ) : Type 0 where

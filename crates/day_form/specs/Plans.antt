@@ -8,9 +8,9 @@ use Rattle.words.specs.declared.Found.TheVariants.{At, Nothing}
 use Rattle.words.specs.declared.Verdict.{Verdict}
 use Rattle.words.specs.declared.Verdict.TheVariants as verdicts
 use Rattle.text_lines.specs.Line.{TextLine, lines_of}
-use Rattle.day_form.specs.Input.{firstNumber, linesBehind}
-use Rattle.day_form.specs.Lines.{mostDays, lineWords, firstLine}
-use Rattle.day_form.specs.Settings.{mostValues, setting_of}
+use Rattle.day_form.specs.Input.{first_number, lines_behind}
+use Rattle.day_form.specs.Lines.{most_days, line_words, first_line}
+use Rattle.day_form.specs.Settings.{most_values, setting_of}
 use Rattle.day_form.specs.declared.lines.LineTest.TheVariants.{Pairs, Names}
 use Rattle.day_form.specs.declared.setting.Setting.{Setting}
 use Rattle.day_form.specs.declared.plan.PlanAnswer.{PlanAnswer}
@@ -21,38 +21,38 @@ pub data Plan : Type 0 where
   planned : Setting → List TextLine → Plan
   refused : (number line : ℕ) → Plan
 
-abbrev pub refusedAt : ℕ → Found → Verdict → Verdict
-refusedAt number (At line) others = verdicts.Refused (record { number = number; place = line })
-refusedAt number Nothing others = others
+abbrev pub refused_at : ℕ → Found → Verdict → Verdict
+refused_at number (At line) others = verdicts.Refused (record { number = number; place = line })
+refused_at number Nothing others = others
 
 -- "22 for a variable number outside 0 to V−1": the setting's, or a day line's. The setting's line has the number `first`.
-unfoldable pub outsideLine : ℕ → ℕ → ℕ → List TextLine → Found
-outsideLine variables first variable days = pick (ltb variable variables) (firstLine (Names variables) (first + 1) days) (At first)
+unfoldable pub outside_line : ℕ → ℕ → ℕ → List TextLine → Found
+outside_line variables first variable days = pick (ltb variable variables) (first_line (Names variables) (first + 1) days) (At first)
 
 -- "21 for a .. day line malformed, .. or a .. day line or pair too many; then 22".
-unfoldable pub daysVerdict : ℕ → ℕ → ℕ → List TextLine → Verdict
-daysVerdict variables first variable days =
-    refusedAt 21 (firstLine (Pairs (first + mostDays)) (first + 1) days)
-    (refusedAt 22 (outsideLine variables first variable days)
+unfoldable pub days_verdict : ℕ → ℕ → ℕ → List TextLine → Verdict
+days_verdict variables first variable days =
+    refused_at 21 (first_line (Pairs (first + most_days)) (first + 1) days)
+    (refused_at 22 (outside_line variables first variable days)
     verdicts.Accepted)
 
-unfoldable pub checkedPlan : Verdict → Setting → List TextLine → Plan
-checkedPlan (verdicts.Refused cause) setting days = refused cause.number cause.place
-checkedPlan verdicts.Accepted setting days = planned setting days
+unfoldable pub checked_plan : Verdict → Setting → List TextLine → Plan
+checked_plan (verdicts.Refused cause) setting days = refused cause.number cause.place
+checked_plan verdicts.Accepted setting days = planned setting days
 
 -- "21 for a setting .. malformed, .. lowest above highest, or a value .. too many".
-unfoldable pub settingPlan : ℕ → ℕ → Option Setting → List TextLine → Plan
-settingPlan variables first none days = refused 21 first
-settingPlan variables first (some setting) days = checkedPlan (daysVerdict variables first setting.variable days) setting days
+unfoldable pub setting_plan : ℕ → ℕ → Option Setting → List TextLine → Plan
+setting_plan variables first none days = refused 21 first
+setting_plan variables first (some setting) days = checked_plan (days_verdict variables first setting.variable days) setting days
 
 -- The setting's line and the day's, the first of which has this number; "a missing setting (the line after the last)".
-unfoldable pub linesPlan : ℕ → ℕ → List TextLine → Plan
-linesPlan variables first [] = refused 21 first
-linesPlan variables first (line ∷ days) = settingPlan variables first (setting_of (lineWords line)) days
+unfoldable pub lines_plan : ℕ → ℕ → List TextLine → Plan
+lines_plan variables first [] = refused 21 first
+lines_plan variables first (line ∷ days) = setting_plan variables first (setting_of (line_words line)) days
 
 -- What stands behind the rule of an input; the rule has so many variables.
 unfoldable pub plan_of : ℕ → List ℕ → Plan
-plan_of variables input = linesPlan variables (firstNumber input) (linesBehind input)
+plan_of variables input = lines_plan variables (first_number input) (lines_behind input)
 
 -- ---- what the reader of a plan is lent and leaves
 
@@ -62,8 +62,8 @@ pub record InWords (value : ℤ) (values : ℕ) : Type 0 where
 
 -- A setting has 1 to 100 values, all of them words.
 pub record Sets (setting : Setting) : Type 0 where
-  pub some-value : 0 < setting.values
-  pub few : setting.values ≤ mostValues
+  pub some_value : 0 < setting.values
+  pub few : setting.values ≤ most_values
   pub words : InWords setting.lowest setting.values
 
 -- The plan has this setting, and its day lines, at most 200, begin here.
@@ -71,7 +71,7 @@ pub record IsPlanned (plan : Plan) (setting : Setting) (at : ℕ) (text : List �
   pub is : plan ≡ planned setting (lines_of (drop at text))
   pub inside : at ≤ length text
   pub sets : Sets setting
-  pub few-days : length (lines_of (drop at text)) ≤ mostDays
+  pub few_days : length (lines_of (drop at text)) ≤ most_days
 
 abbrev pub PlanRead : Plan → PlanAnswer → List ℕ → Type 0
 PlanRead plan (answers.Planned setting at) text = IsPlanned plan setting at text

@@ -7,20 +7,20 @@ use Rattle.day_form.specs.declared.setting.SettingRead.{SettingRead}
 use Rattle.day_form.specs.declared.setting.SettingRead.TheVariants.{Is, Malformed}
 
 -- "At most 100 values".
-abbrev pub mostValues : ℕ
-mostValues = 100
+abbrev pub most_values : ℕ
+most_values = 100
 
 -- "Lowest above highest, or a value .. too many": highest − lowest is 0 to 99. (A number below 0 is read as one above every limit.)
-unfoldable pub settingBy : ℤ → ℤ → ℤ → Option Setting
-settingBy variable lowest highest =
+unfoldable pub setting_by : ℤ → ℤ → ℤ → Option Setting
+setting_by variable lowest highest =
     let more = natural (highest -ℤ lowest) in
-    pick (ltb more mostValues) (some (record { variable = natural variable; lowest = lowest; values = more + 1 })) none
+    pick (ltb more most_values) (some (record { variable = natural variable; lowest = lowest; values = more + 1 })) none
 
 -- The setting that the numbers of a line are: three.
 unfoldable pub setting_of : List ℤ → Option Setting
 setting_of numbers =
-    pick (eqb (length numbers) 3) (settingBy (get_or numbers 0 (pos 0)) (get_or numbers 1 (pos 0)) (get_or numbers 2 (pos 0))) none
+    pick (eqb (length numbers) 3) (setting_by (get_or numbers 0 (pos 0)) (get_or numbers 1 (pos 0)) (get_or numbers 2 (pos 0))) none
 
-abbrev pub settingSays : SettingRead → Option Setting
-settingSays (Is setting) = some setting
-settingSays Malformed = none
+abbrev pub setting_says : SettingRead → Option Setting
+setting_says (Is setting) = some setting
+setting_says Malformed = none

@@ -1,7 +1,7 @@
 // The parts of the input: where the rule ends, where the lines behind it begin, and how many lines there are.
 ghost use Rattle.std.specs.Prelude.{◌≡◌, ◌&&◌, ◌≤◌, eqb, length};
 ghost use Rattle.text_lines.specs.Line.{newline, lines_of};
-ghost use Rattle.day_form.specs.Input.{ruleSize, Behind};
+ghost use Rattle.day_form.specs.Input.{rule_size, Behind};
 
 use text_lines::line::piece_end;
 
@@ -16,7 +16,7 @@ fn is_empty_line(starts: bool, byte: u8) -> bool
 
 // How many bytes the rule has: those before the first empty line.
 pub fn rule_size(input: &[u8]) -> usize
-    ensures { result ≡ ruleSize input.now }
+    ensures { result ≡ rule_size input.now }
 {
     let mut at: usize = 0;
     let mut starts = true;

@@ -1,7 +1,7 @@
 // The numbers of a line, and the first line that a test turns away.
 ghost use Rattle.std.specs.Prelude.{◌≡◌, ◌+◌, ◌<◌, ◌≤◌, length};
 ghost use Rattle.text_lines.specs.Line.{ended, lines_of};
-ghost use Rattle.day_form.specs.Lines.{mostNumbers, allNamed, turnsAway, firstLine, WordsRead, NextRead};
+ghost use Rattle.day_form.specs.Lines.{most_numbers, all_named, turns_away, first_line, WordsRead, NextRead};
 
 use text_lines::line::{Count, count_numbers, piece_end, store_numbers};
 use words::Found;
@@ -9,14 +9,14 @@ use words::table::natural;
 
 // What a line is tested for: that it has pairs and its number is not past the last that a day line may have; or that its variable
 // numbers are below V.
-#[derive(Drop)]
+#[derive(Clone, Copy)]
 pub enum LineTest {
     Pairs(usize),
     Names(usize),
 }
 
 // Where the line behind begins, and how many numbers a line has.
-#[derive(Drop)]
+#[derive(Clone, Copy)]
 pub struct NextLine {
     pub at: usize,
     pub count: usize,
@@ -24,7 +24,7 @@ pub struct NextLine {
 
 // Writes the numbers of a line at the start of the table, where they are at most 32.
 fn read_numbers(line: &[u8], table: &mut [i32]) -> usize
-    requires { mostNumbers ≤ length table.old }
+    requires { most_numbers ≤ length table.old }
     ensures { WordsRead (ended line.now) result table.old table.new }
 {
     let counted = count_numbers(line);
@@ -41,7 +41,7 @@ fn read_numbers(line: &[u8], table: &mut [i32]) -> usize
 // The line from `at` on: its numbers at the start of the table, how many they are, and where the next line begins.
 pub fn next_line(text: &[u8], at: usize, table: &mut [i32]) -> NextLine
     requires at_in_bounds { at < length text.now }
-    requires most_numbers_in_bounds { mostNumbers ≤ length table.old }
+    requires most_numbers_in_bounds { most_numbers ≤ length table.old }
     ensures { NextRead text.now at result table.old table.new }
 {
     let end = piece_end(text, at, b'\n');
@@ -57,7 +57,7 @@ pub fn next_line(text: &[u8], at: usize, table: &mut [i32]) -> NextLine
 
 // Whether the variable numbers of pairs are below V.
 fn all_named(variables: usize, numbers: &[i32]) -> bool
-    ensures { result ≡ allNamed variables numbers.now }
+    ensures { result ≡ all_named variables numbers.now }
 {
     let mut i: usize = 0;
     while i + 1 < numbers.len() {
@@ -70,7 +70,7 @@ fn all_named(variables: usize, numbers: &[i32]) -> bool
 }
 
 fn turns_away(test: LineTest, number: usize, numbers: &[i32]) -> bool
-    ensures { result ≡ turnsAway test number numbers.now }
+    ensures { result ≡ turns_away test number numbers.now }
 {
     match test {
         LineTest::Pairs(last) => {
@@ -89,7 +89,7 @@ fn turns_away(test: LineTest, number: usize, numbers: &[i32]) -> bool
 // The number of the first line that is turned away; the lines are counted from `first`.
 pub fn first_line(test: LineTest, text: &[u8], first: usize) -> Found
     requires { first + length text.now < 18446744073709551615 }
-    ensures { result ≡ firstLine test first (lines_of text.now) }
+    ensures { result ≡ first_line test first (lines_of text.now) }
 {
     let mut at: usize = 0;
     let mut number = first;

@@ -1,8 +1,8 @@
 // The setting and the day lines behind a rule, or why they are turned away: 21, then 22.
 ghost use Rattle.std.specs.Prelude.{◌≡◌, ◌+◌, ◌<◌, length};
 ghost use Rattle.text_lines.specs.Line.{lines_of};
-ghost use Rattle.day_form.specs.Input.{ruleSize};
-ghost use Rattle.day_form.specs.Plans.{outsideLine, daysVerdict, linesPlan, plan_of, PlanRead};
+ghost use Rattle.day_form.specs.Input.{rule_size};
+ghost use Rattle.day_form.specs.Plans.{outside_line, days_verdict, lines_plan, plan_of, PlanRead};
 
 use super::input::{count_lines, lines_start};
 use super::lines::{LineTest, first_line, next_line};
@@ -10,7 +10,7 @@ use super::setting::{Setting, SettingRead, setting_of};
 use words::{Found, Refusal, Verdict};
 
 // The setting and where its day lines begin, or the refusal.
-#[derive(Drop)]
+#[derive(Clone, Copy)]
 pub enum PlanAnswer {
     Planned(Setting, usize),
     Refused(Refusal),
@@ -19,7 +19,7 @@ pub enum PlanAnswer {
 // The first line with a variable number outside: the setting's, or a day line's behind it.
 fn first_outside(variables: usize, first: usize, variable: usize, text: &[u8]) -> Found
     requires { first + length text.now < 9223372036854775809 }
-    ensures { result ≡ outsideLine variables first variable (lines_of text.now) }
+    ensures { result ≡ outside_line variables first variable (lines_of text.now) }
 {
     if variable >= variables {
         return Found::At(first);
@@ -30,7 +30,7 @@ fn first_outside(variables: usize, first: usize, variable: usize, text: &[u8]) -
 // The day lines behind a setting: all grounds for 21, then all grounds for 22.
 fn check_days(variables: usize, first: usize, variable: usize, text: &[u8]) -> Verdict
     requires { first + length text.now < 9223372036854775809 }
-    ensures { result ≡ daysVerdict variables first variable (lines_of text.now) }
+    ensures { result ≡ days_verdict variables first variable (lines_of text.now) }
 {
     let malformed = first_line(LineTest::Pairs(first + 200), text, first + 1);
     if let Found::At(line) = malformed {
@@ -52,7 +52,7 @@ fn check_days(variables: usize, first: usize, variable: usize, text: &[u8]) -> V
 // The lines behind a rule and its empty line, the first of which has this number in the whole input.
 fn plan_lines(variables: usize, first: usize, text: &[u8]) -> PlanAnswer
     requires { first + length text.now < 9223372036854775809 }
-    ensures { PlanRead (linesPlan variables first (lines_of text.now)) result text.now }
+    ensures { PlanRead (lines_plan variables first (lines_of text.now)) result text.now }
 {
     let missing = Refusal {
         number: 21,
@@ -78,7 +78,7 @@ fn plan_lines(variables: usize, first: usize, text: &[u8]) -> PlanAnswer
 
 // What stands behind the rule of an input, which has so many bytes and variables.
 pub fn read_plan(variables: usize, input: &[u8], size: usize) -> PlanAnswer
-    requires { size ≡ ruleSize input.now }
+    requires { size ≡ rule_size input.now }
     ensures { PlanRead (plan_of variables input.now) result input.now }
 {
     let start = lines_start(input, size);

@@ -1,19 +1,19 @@
 // The setting: the variable that is set, and its values.
 ghost use Rattle.std.specs.Prelude.{◌≡◌};
-ghost use Rattle.day_form.specs.Settings.{settingBy, setting_of, settingSays};
+ghost use Rattle.day_form.specs.Settings.{setting_by, setting_of, setting_says};
 
 use arithmetic::{Computed, subtract};
 use words::table::natural;
 
 // The variable's number, the lowest value, and how many values there are.
-#[derive(Drop)]
+#[derive(Clone, Copy)]
 pub struct Setting {
     pub variable: usize,
     pub lowest: i32,
     pub values: usize,
 }
 
-#[derive(Drop)]
+#[derive(Clone, Copy)]
 pub enum SettingRead {
     Is(Setting),
     Malformed,
@@ -21,7 +21,7 @@ pub enum SettingRead {
 
 // The values are at most 100, and there is one. A difference that is no word is that of too many, or of none.
 fn setting_by(variable: i32, lowest: i32, highest: i32) -> SettingRead
-    ensures { settingSays result ≡ settingBy variable lowest highest }
+    ensures { setting_says result ≡ setting_by variable lowest highest }
 {
     let difference = subtract(highest, lowest);
     let Computed::Value(gap) = difference else {
@@ -40,7 +40,7 @@ fn setting_by(variable: i32, lowest: i32, highest: i32) -> SettingRead
 
 // The setting that the numbers of a line are.
 pub fn setting_of(numbers: &[i32]) -> SettingRead
-    ensures { settingSays result ≡ setting_of numbers.now }
+    ensures { setting_says result ≡ setting_of numbers.now }
 {
     if numbers.len() != 3 {
         return SettingRead::Malformed;

@@ -3,3 +3,5 @@
 pub mod Pairs
 -- Doing: one line on a copy of the store, and the walk over lines.
 pub mod Doing
+-- DayLaws: a line runs the rule; lists of lines one after the other, counts, and lines that change nothing.
+pub mod DayLaws

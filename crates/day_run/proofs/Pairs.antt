@@ -7,24 +7,24 @@ use lib.IntN.{ℤ, pos}
 use lib.ListN.{length, drop, get_or, set, length-set, length-drop}
 use lib.Seq.{drop-cons}
 use Rattle.words.specs.Word.{natural}
-use Rattle.day_run.specs.Days.{storePairs}
+use Rattle.day_run.specs.Days.{store_pairs}
 
-few-stored : (pairs store : List ℤ) → length pairs ≤ 1 → storePairs pairs store ≡ store
-unfolding storePairs
+few-stored : (pairs store : List ℤ) → length pairs ≤ 1 → store_pairs pairs store ≡ store
+unfolding store_pairs
 few-stored [] store h = refl
 few-stored (number ∷ []) store h = refl
 few-stored (number ∷ (value ∷ pairs)) store h = absurd (omega arith)
 
 pair-stored : (pairs store : List ℤ) (i : ℕ) → i + 1 < length pairs
-    → storePairs (drop i pairs) store ≡ storePairs (drop (i + 2) pairs) (set store (natural (get_or pairs i (pos 0))) (get_or pairs (i + 1) (pos 0)))
-unfolding storePairs
+    → store_pairs (drop i pairs) store ≡ store_pairs (drop (i + 2) pairs) (set store (natural (get_or pairs i (pos 0))) (get_or pairs (i + 1) (pos 0)))
+unfolding store_pairs
 pair-stored pairs store i h =
     let next : i + 2 ≡ suc (suc i) = omega arith in
     let one : i + 1 ≡ suc i = omega arith in
     rw (next, one, drop-cons pairs i (pos 0) (omega arith), drop-cons pairs (suc i) (pos 0) (omega arith))
 
-pub pairs-length : (pairs store : List ℤ) → length (storePairs pairs store) ≡ length store
-unfolding storePairs
+pub pairs-length : (pairs store : List ℤ) → length (store_pairs pairs store) ≡ length store
+unfolding store_pairs
 pairs-length [] store = refl
 pairs-length (number ∷ []) store = refl
 pairs-length (number ∷ (value ∷ pairs)) store = pairs-length pairs (set store (natural number) value) ∙ length-set store (natural number) value
@@ -32,13 +32,13 @@ pairs-length (number ∷ (value ∷ pairs)) store = pairs-length pairs (set stor
 pub record Stored (pairs : List ℤ) (i : ℕ) (store left : List ℤ) : Type 0 where
   pub inside : i ≤ length pairs
   pub kept : length left ≡ length store
-  pub same : storePairs pairs store ≡ storePairs (drop i pairs) left
+  pub same : store_pairs pairs store ≡ store_pairs (drop i pairs) left
 
 pub stored-start : (pairs store : List ℤ) → Stored pairs 0 store store
 stored-start pairs store = record { inside = omega arith; kept = refl; same = refl }
 
 module _ {pairs : List ℤ} {i : ℕ} {store left : List ℤ} (s : Stored pairs i store left) where
-  pub stored-end : length pairs ≤ i + 1 → left ≡ storePairs pairs store
+  pub stored-end : length pairs ≤ i + 1 → left ≡ store_pairs pairs store
   stored-end h = sym (s.same ∙ few-stored (drop i pairs) left (rw length-drop (omega arith)))
 
   pub stored_next : i + 1 < length pairs → (at : ℕ) (value : ℤ) (next : List ℤ) → at ≡ natural (get_or pairs i (pos 0)) → value ≡ get_or pairs (i + 1) (pos 0)

@@ -5,10 +5,10 @@ use Rattle.words.specs.Word.{natural}
 use Rattle.words.specs.declared.Form.TheVariants.{Source}
 use Rattle.words.specs.declared.Ending.{Ending}
 use Rattle.words.specs.declared.Ending.TheVariants.{Plain, Spent, Fault}
-use Rattle.language.specs.Program.{runTable}
+use Rattle.language.specs.Program.{run_table}
 use Rattle.text_lines.specs.Line.{TextLine}
 use Rattle.text_rules.specs.Rules.{budget}
-use Rattle.day_form.specs.Lines.{lineWords}
+use Rattle.day_form.specs.Lines.{line_words}
 
 -- A day so far: the store, the "lines that ended plainly" and the "lines that didn't".
 pub record Day : Type 0 where
@@ -16,35 +16,35 @@ pub record Day : Type 0 where
   pub plain : ℕ
   pub other : ℕ
 
-abbrev pub newDay : List ℤ → Day
-newDay store = record { store = store; plain = 0; other = 0 }
+abbrev pub new_day : List ℤ → Day
+new_day store = record { store = store; plain = 0; other = 0 }
 
 -- "Store the pairs": in order, a variable number and a value each.
-unfoldable pub storePairs : List ℤ → List ℤ → List ℤ
-storePairs [] store = store
-storePairs (number ∷ []) store = store
-storePairs (number ∷ (value ∷ pairs)) store = storePairs pairs (set store (natural number) value)
+unfoldable pub store_pairs : List ℤ → List ℤ → List ℤ
+store_pairs [] store = store
+store_pairs (number ∷ []) store = store
+store_pairs (number ∷ (value ∷ pairs)) store = store_pairs pairs (set store (natural number) value)
 
 -- "A line whose run doesn't end plainly leaves no change, its pairs included."
 abbrev pub unchanged : Day → Day
 unchanged day = record { store = day.store; plain = day.plain; other = day.other + 1 }
 
-abbrev pub afterRun : Ending → List ℤ → Day → Day
-afterRun Plain left day = record { store = left; plain = day.plain + 1; other = day.other }
-afterRun Spent left day = unchanged day
-afterRun (Fault sort) left day = unchanged day
+abbrev pub after_run : Ending → List ℤ → Day → Day
+after_run Plain left day = record { store = left; plain = day.plain + 1; other = day.other }
+after_run Spent left day = unchanged day
+after_run (Fault sort) left day = unchanged day
 
 -- What one line does: "store the pairs, run the rule with budget 100,000".
-unfoldable pub doLine : List ℤ → List ℤ → List ℤ → Day → Day
-doLine header rows pairs day =
-    let finished = runTable Source header rows budget (storePairs pairs day.store) in
-    afterRun finished.ending finished.store day
+unfoldable pub do_line : List ℤ → List ℤ → List ℤ → Day → Day
+do_line header rows pairs day =
+    let finished = run_table Source header rows budget (store_pairs pairs day.store) in
+    after_run finished.ending finished.store day
 
 -- What a list of lines does: "the lines in order".
-unfoldable pub doLines : List ℤ → List ℤ → List (List ℤ) → Day → Day
-doLines header rows [] day = day
-doLines header rows (pairs ∷ lines) day = doLines header rows lines (doLine header rows pairs day)
+unfoldable pub do_lines : List ℤ → List ℤ → List (List ℤ) → Day → Day
+do_lines header rows [] day = day
+do_lines header rows (pairs ∷ lines) day = do_lines header rows lines (do_line header rows pairs day)
 
 -- The pairs of each line.
-abbrev pub pairsOf : List TextLine → List (List ℤ)
-pairsOf lines = map lineWords lines
+abbrev pub pairs_of : List TextLine → List (List ℤ)
+pairs_of lines = map line_words lines

@@ -5,6 +5,3 @@
 pub mod Days
 -- Conditions: what the functions are lent and leave.
 pub mod Conditions
--- ---- laws
--- DayLaws: a line runs the rule; lists of lines one after the other, counts, and lines that change nothing.
-pub mod DayLaws

@@ -3,8 +3,8 @@
 ghost use Rattle.std.specs.Prelude.{◌≡◌, ◌≤◌, length, set};
 ghost use Rattle.words.specs.declared.Form.TheVariants.{Source};
 ghost use Rattle.machine.specs.Whole.{Runnable};
-ghost use Rattle.text_rules.specs.Rules.{storeRoom};
-ghost use Rattle.day_run.specs.Days.{storePairs};
+ghost use Rattle.text_rules.specs.Rules.{store_room};
+ghost use Rattle.day_run.specs.Days.{store_pairs};
 ghost use Rattle.day_run.specs.Conditions.{LineDone};
 
 use machine::whole::run_source_table;
@@ -23,7 +23,7 @@ pub fn store_at(at: usize, value: i32, store: &mut [i32])
 }
 
 fn store_pairs(pairs: &[i32], store: &mut [i32])
-    ensures { store.new ≡ storePairs pairs.now store.old }
+    ensures { store.new ≡ store_pairs pairs.now store.old }
 {
     let mut i: usize = 0;
     while i + 1 < pairs.len() {
@@ -61,7 +61,7 @@ fn do_on_copy(
 // Does one line: 1 where its run ended plainly, 0 where it did not, and the store is as it was.
 pub fn do_line(header: &[i32], rows: &[i32], pairs: &[i32], store: &mut [i32]) -> usize
     requires runnable { Runnable Source header.now rows.now store.old }
-    requires store_len_bound { length store.old ≤ storeRoom }
+    requires store_len_bound { length store.old ≤ store_room }
     ensures { LineDone header.now rows.now pairs.now store.old result store.new }
 {
     let size = store.len();

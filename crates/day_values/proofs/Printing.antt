@@ -12,28 +12,28 @@ use mir.Facts.{to_z_pos}
 use Rattle.words.specs.Over.{over}
 use Rattle.words.specs.OverLaws.{part, back_in, first_of, written-part, over-next}
 use Rattle.words.specs.Word.{natural}
-use Rattle.words.specs.Layout.{layout_of, storeSize, store_words, zeros}
-use Rattle.words.specs.Laws.{back, headerFits-facts}
+use Rattle.words.specs.Layout.{layout_of, store_size, store_words, zeros}
+use Rattle.words.specs.Laws.{back, header_fits-facts}
 use Rattle.words.specs.StoreLaws.{size-least}
 use Rattle.words.specs.declared.Form.TheVariants.{Source}
-use Rattle.text_lines.specs.Line.{TextLine, lineBytes}
+use Rattle.text_lines.specs.Line.{TextLine, line_bytes}
 use Rattle.text_lines.specs.Writer.{Measured}
 use Rattle.text_lines.proofs.Sizing.{bytes-line}
-use Rattle.day_form.specs.Lines.{lineWords}
-use Rattle.day_run.specs.Days.{Day, newDay, doLines, pairsOf}
-use Rattle.day_run.specs.DayLaws.{lines-counted}
-use Rattle.day_run.specs.Conditions.{dayLeft}
+use Rattle.day_form.specs.Lines.{line_words}
+use Rattle.day_run.specs.Days.{Day, new_day, do_lines, pairs_of}
+use Rattle.day_run.proofs.DayLaws.{lines-counted}
+use Rattle.day_run.specs.Conditions.{day_left}
 use Rattle.day_run.specs.declared.Tally.{Tally}
-use Rattle.day_values.specs.Values.{dayOf, dayNumbers, dayLine}
+use Rattle.day_values.specs.Values.{day_of, day_numbers, day_line}
 use Rattle.day_values.specs.Conditions.{Fits}
 
 -- ---- how many bytes a line of numbers has
 
 module _ {numbers : List ℤ} {size : ℕ} (m : Measured numbers size) (some : 0 < length numbers) where
-  pub line-fits : length numbers ≤ 259 → (room : ℕ) → 12 * 259 ≤ room → length (lineBytes numbers) ≤ room
+  pub line-fits : length numbers ≤ 259 → (room : ℕ) → 12 * 259 ≤ room → length (line_bytes numbers) ≤ room
   line-fits few room h = omega (arith, bytes-line numbers some, m.sum, m.most)
 
-  pub line-size : size ≡ length (lineBytes numbers)
+  pub line-size : size ≡ length (line_bytes numbers)
   line-size = m.sum ∙ sym (bytes-line numbers some)
 
 -- ---- the numbers of a line, put together in a table
@@ -50,9 +50,9 @@ as-words value plain other variables h few = rw (back value h, to_z_pos w32 {n =
 
 -- ---- the store of a rule
 
-pub variables-inside : {header rows : List ℤ} {text : List ℕ} → Fits header rows text → ((layout_of Source header).variables ≤ store_words Source header rows) × ((layout_of Source header).variables ≤ 256)
-unfolding storeSize
-variables-inside {header} {rows} f = (omega (arith, size-least Source header rows), (headerFits-facts Source header f.header-fits).few-variables)
+pub variables_inside : {header rows : List ℤ} {text : List ℕ} → Fits header rows text → ((layout_of Source header).variables ≤ store_words Source header rows) × ((layout_of Source header).variables ≤ 256)
+unfolding store_size
+variables_inside {header} {rows} f = (omega (arith, size-least Source header rows), (header_fits-facts Source header f.header-fits).few_variables)
 
 pub variables-are : (header : List ℤ) (number : ℕ) → number ≡ natural (get_or header 0 (pos 0)) → number ≡ (layout_of Source header).variables
 unfolding layout_of
@@ -67,16 +67,16 @@ value-stored store left words variable value z e h = e ∙ rw (z, back value h)
 
 -- ---- a day that was done
 
-module _ (header rows : List ℤ) (lines : List TextLine) (start : List ℤ) (tally : Tally) (store : List ℤ) (e : dayLeft tally store ≡ doLines header rows (pairsOf lines) (newDay start)) where
+module _ (header rows : List ℤ) (lines : List TextLine) (start : List ℤ) (tally : Tally) (store : List ℤ) (e : day_left tally store ≡ do_lines header rows (pairs_of lines) (new_day start)) where
   pub day-counted : length lines ≤ 200 → (tally.plain ≤ 200) × (tally.other ≤ 200)
   day-counted h =
-      let sum = lines-counted header rows (pairsOf lines) (newDay start) in
-      let size : length (pairsOf lines) ≡ length lines = length-map lines lineWords in
-      let plain : (doLines header rows (pairsOf lines) (newDay start)).plain ≡ tally.plain = ap (λ (d : Day). d.plain) (sym e) in
-      let other : (doLines header rows (pairsOf lines) (newDay start)).other ≡ tally.other = ap (λ (d : Day). d.other) (sym e) in
+      let sum = lines-counted header rows (pairs_of lines) (new_day start) in
+      let size : length (pairs_of lines) ≡ length lines = length-map lines line_words in
+      let plain : (do_lines header rows (pairs_of lines) (new_day start)).plain ≡ tally.plain = ap (λ (d : Day). d.plain) (sym e) in
+      let other : (do_lines header rows (pairs_of lines) (new_day start)).other ≡ tally.other = ap (λ (d : Day). d.other) (sym e) in
       (omega arith, omega arith)
 
   pub day-line : (variable variables : ℕ) (value : ℤ) → start ≡ set (zeros (store_words Source header rows)) variable value → variables ≡ (layout_of Source header).variables
-      → lineBytes (value ∷ (pos tally.plain ∷ (pos tally.other ∷ take (variables - 0) store))) ≡ dayLine header rows variable (pairsOf lines) value
-  unfolding dayLine dayNumbers dayOf
+      → line_bytes (value ∷ (pos tally.plain ∷ (pos tally.other ∷ take (variables - 0) store))) ≡ day_line header rows variable (pairs_of lines) value
+  unfolding day_line day_numbers day_of
   day-line variable variables value s v = rw (← s, ← e, first_of store variables, v)

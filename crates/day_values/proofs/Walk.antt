@@ -13,28 +13,28 @@ use Rattle.words.specs.Laws.{back}
 use Rattle.words.specs.OverLaws.{part, back_in}
 use Rattle.text_numbers.specs.Writer.{Put}
 use Rattle.text_numbers.specs.PutLaws.{put-none, put_next, Put-as, put-length, put-inside, put-space}
-use Rattle.day_form.specs.Settings.{mostValues}
+use Rattle.day_form.specs.Settings.{most_values}
 use Rattle.day_form.specs.Plans.{Sets}
 use Rattle.day_form.specs.declared.setting.Setting.{Setting}
-use Rattle.day_values.specs.Values.{dayLine, valuesOutput, settingOutput}
-use Rattle.day_values.specs.Conditions.{lineRoom, dayRoom}
+use Rattle.day_values.specs.Values.{day_line, values_output, setting_output}
+use Rattle.day_values.specs.Conditions.{line_room, day_room}
 
 module _ (line : ℤ → List ℕ) where
-  none_left : (value : ℤ) (left : ℕ) → left ≡ 0 → valuesOutput line value left ≡ []
-  unfolding valuesOutput
+  none_left : (value : ℤ) (left : ℕ) → left ≡ 0 → values_output line value left ≡ []
+  unfolding values_output
   none_left value left e = rw e
 
-  one_more : (value : ℤ) (left : ℕ) → valuesOutput line value (suc left) ≡ line value ++ valuesOutput line (value +ℤ pos 1) left
-  unfolding valuesOutput
+  one_more : (value : ℤ) (left : ℕ) → values_output line value (suc left) ≡ line value ++ values_output line (value +ℤ pos 1) left
+  unfolding values_output
   one_more value left = refl
 
   -- the lines of so many values are printed
   pub record Made (lowest : ℤ) (values : ℕ) (buffer : List ℕ) (done end : ℕ) (output : List ℕ) : Type 0 where
     pub inside : done ≤ values
-    pub short : end ≤ lineRoom * done
+    pub short : end ≤ line_room * done
     pub bytes : List ℕ
     pub put : Put bytes buffer end output
-    pub same : valuesOutput line lowest values ≡ bytes ++ valuesOutput line (lowest +ℤ pos done) (values - done)
+    pub same : values_output line lowest values ≡ bytes ++ values_output line (lowest +ℤ pos done) (values - done)
 
   pub made-start : (lowest : ℤ) (values : ℕ) (buffer : List ℕ) → Made lowest values buffer 0 0 buffer
   made-start lowest values buffer =
@@ -42,17 +42,17 @@ module _ (line : ℤ → List ℕ) where
       record { inside = omega arith; short = omega arith; bytes = []; put = put-none buffer; same = rw (+ℤ_idr lowest, all) refl }
 
   module _ {lowest : ℤ} {values : ℕ} {buffer : List ℕ} {done end : ℕ} {output : List ℕ} (m : Made lowest values buffer done end output) where
-    pub made-end : values ≤ done → Put (valuesOutput line lowest values) buffer end output
+    pub made-end : values ≤ done → Put (values_output line lowest values) buffer end output
     made-end h =
         Put-as (sym (m.same ∙ ap (λ (l : List ℕ). m.bytes ++ l) (none_left (lowest +ℤ pos done) (values - done) (omega arith)) ∙ append-nil m.bytes)) m.put
 
     -- there is room for the next line
-    module _ (few : values ≤ mostValues) (roomy : dayRoom ≤ length buffer) where
+    module _ (few : values ≤ most_values) (roomy : day_room ≤ length buffer) where
       pub made-fits : length m.bytes ≤ length buffer
       made-fits = omega (arith, m.put.size, m.short, m.inside)
 
-      pub made-space : done < values → lineRoom ≤ length (part end output)
-      made-space h = put-space m.put lineRoom (omega (arith, m.put.size, m.short))
+      pub made-space : done < values → line_room ≤ length (part end output)
+      made-space h = put-space m.put line_room (omega (arith, m.put.size, m.short))
 
       pub made_inside : end ≤ length output
       made_inside = put-inside m.put made-fits
@@ -60,14 +60,14 @@ module _ (line : ℤ → List ℕ) where
       pub made-length : length output ≡ length buffer
       made-length = put-length m.put made-fits
 
-    split : done < values → valuesOutput line (lowest +ℤ pos done) (values - done) ≡ line (lowest +ℤ pos done) ++ valuesOutput line (lowest +ℤ pos (done + 1)) (values - (done + 1))
+    split : done < values → values_output line (lowest +ℤ pos done) (values - done) ≡ line (lowest +ℤ pos done) ++ values_output line (lowest +ℤ pos (done + 1)) (values - (done + 1))
     split h =
         let e : values - done ≡ suc (values - (done + 1)) = omega arith in
-        ap (valuesOutput line (lowest +ℤ pos done)) e
+        ap (values_output line (lowest +ℤ pos done)) e
         ∙ one_more (lowest +ℤ pos done) (values - (done + 1))
-        ∙ ap (λ (z : ℤ). line (lowest +ℤ pos done) ++ valuesOutput line z (values - (done + 1))) (+ℤ_assoc lowest (pos done) (pos 1))
+        ∙ ap (λ (z : ℤ). line (lowest +ℤ pos done) ++ values_output line z (values - (done + 1))) (+ℤ_assoc lowest (pos done) (pos 1))
 
-    pub made-next : done < values → (value : ℤ) → value ≡ lowest +ℤ pos done → (size : ℕ) (lent : List ℕ) → Put (line value) (part end output) size lent → size ≤ lineRoom
+    pub made-next : done < values → (value : ℤ) → value ≡ lowest +ℤ pos done → (size : ℕ) (lent : List ℕ) → Put (line value) (part end output) size lent → size ≤ line_room
         → Made lowest values buffer (done + 1) (end + size) (back_in end output lent)
     made-next h value e size lent p s = record {
       inside = omega arith;
@@ -75,7 +75,7 @@ module _ (line : ℤ → List ℕ) where
       bytes = m.bytes ++ line value;
       put = put_next m.put (line value) size lent p;
       same =
-          m.same ∙ ap (λ (l : List ℕ). m.bytes ++ l) (split h ∙ ap (λ (z : ℤ). line z ++ valuesOutput line (lowest +ℤ pos (done + 1)) (values - (done + 1))) (sym e))
+          m.same ∙ ap (λ (l : List ℕ). m.bytes ++ l) (split h ∙ ap (λ (z : ℤ). line z ++ values_output line (lowest +ℤ pos (done + 1)) (values - (done + 1))) (sym e))
           ∙ sym (append_assoc m.bytes (line value) _);
     }
 
@@ -86,7 +86,7 @@ module _ {setting : Setting} (s : Sets setting) where
   low = to_z w32 (of_z w32 setting.lowest)
 
   lowest-word : mag setting.lowest < 2 ^ 31
-  lowest-word = rw (+ℤ_idr setting.lowest) at (s.words.each 0 s.some-value)
+  lowest-word = rw (+ℤ_idr setting.lowest) at (s.words.each 0 s.some_value)
 
   low-is : low ≡ setting.lowest
   low-is = back setting.lowest lowest-word
@@ -98,9 +98,9 @@ module _ {setting : Setting} (s : Sets setting) where
     pub value-word : mag (low +ℤ to_z w32 done) < 2 ^ 31
     value-word = rw sum_is (s.words.each done h)
 
-    pub value-is : to_z w32 (of_z w32 (low +ℤ to_z w32 done)) ≡ low +ℤ pos done
-    value-is = back (low +ℤ to_z w32 done) value-word ∙ sum_is ∙ ap (λ (z : ℤ). z +ℤ pos done) (sym low-is)
+    pub value_is : to_z w32 (of_z w32 (low +ℤ to_z w32 done)) ≡ low +ℤ pos done
+    value_is = back (low +ℤ to_z w32 done) value-word ∙ sum_is ∙ ap (λ (z : ℤ). z +ℤ pos done) (sym low-is)
 
-  pub setting-lines : (header rows : List ℤ) (lines : List (List ℤ)) → valuesOutput (dayLine header rows setting.variable lines) low setting.values ≡ settingOutput header rows setting lines
-  unfolding settingOutput
-  setting-lines header rows lines = ap (λ (z : ℤ). valuesOutput (dayLine header rows setting.variable lines) z setting.values) low-is
+  pub setting-lines : (header rows : List ℤ) (lines : List (List ℤ)) → values_output (day_line header rows setting.variable lines) low setting.values ≡ setting_output header rows setting lines
+  unfolding setting_output
+  setting-lines header rows lines = ap (λ (z : ℤ). values_output (day_line header rows setting.variable lines) z setting.values) low-is

@@ -2,11 +2,11 @@
 ghost use Rattle.std.specs.Prelude.{◌≡◌, ◌∷◌, ◌<◌, ◌≤◌, pos, length};
 ghost use Rattle.words.specs.Layout.{store_words, zeros};
 ghost use Rattle.words.specs.declared.Form.TheVariants.{Source};
-ghost use Rattle.text_lines.specs.Line.{lines_of, lineBytes};
+ghost use Rattle.text_lines.specs.Line.{lines_of, line_bytes};
 ghost use Rattle.text_numbers.specs.Writer.{Put};
-ghost use Rattle.day_run.specs.Days.{pairsOf};
-ghost use Rattle.day_values.specs.Values.{dayLine};
-ghost use Rattle.day_values.specs.Conditions.{Fits, mostInLine, lineRoom};
+ghost use Rattle.day_run.specs.Days.{pairs_of};
+ghost use Rattle.day_values.specs.Values.{day_line};
+ghost use Rattle.day_values.specs.Conditions.{Fits, most_in_line, line_room};
 
 use day_run::line::store_at;
 use day_run::lines::do_lines;
@@ -19,10 +19,10 @@ use words_copying::put;
 // The line of some numbers.
 fn put_sized(numbers: &[i32], output: &mut [u8]) -> usize
     requires numbers_nonzero { 0 < length numbers.now }
-    requires numbers_len_bound { length numbers.now ≤ mostInLine }
-    requires line_room_in_bounds { lineRoom ≤ length output.old }
-    ensures put { Put (lineBytes numbers.now) output.old result output.new }
-    ensures upper_bound { result ≤ lineRoom }
+    requires numbers_len_bound { length numbers.now ≤ most_in_line }
+    requires line_room_in_bounds { line_room ≤ length output.old }
+    ensures put { Put (line_bytes numbers.now) output.old result output.new }
+    ensures upper_bound { result ≤ line_room }
 {
     let size = size_of(numbers);
     put_line(numbers, output);
@@ -40,10 +40,10 @@ fn put_in_table(
 ) -> usize
     requires plain_bound { (plain ≤ 200) × (other ≤ 200) }
     requires variables_len_bound { length variables.now ≤ 256 }
-    requires table_len { length table.old ≡ mostInLine }
-    requires line_room_in_bounds { lineRoom ≤ length output.old }
-    ensures put { Put (lineBytes (value ∷ (pos plain ∷ (pos other ∷ variables.now)))) output.old result output.new }
-    ensures upper_bound { result ≤ lineRoom }
+    requires table_len { length table.old ≡ most_in_line }
+    requires line_room_in_bounds { line_room ≤ length output.old }
+    ensures put { Put (line_bytes (value ∷ (pos plain ∷ (pos other ∷ variables.now)))) output.old result output.new }
+    ensures upper_bound { result ≤ line_room }
 {
     put(&[value, plain as i32, other as i32], table);
     put(variables, &mut table[3..]);
@@ -61,9 +61,9 @@ fn put_numbers(
 ) -> usize
     requires plain_bound { (plain ≤ 200) × (other ≤ 200) }
     requires variables_len_bound { length variables.now ≤ 256 }
-    requires line_room_in_bounds { lineRoom ≤ length output.old }
-    ensures put { Put (lineBytes (value ∷ (pos plain ∷ (pos other ∷ variables.now)))) output.old result output.new }
-    ensures upper_bound { result ≤ lineRoom }
+    requires line_room_in_bounds { line_room ≤ length output.old }
+    ensures put { Put (line_bytes (value ∷ (pos plain ∷ (pos other ∷ variables.now)))) output.old result output.new }
+    ensures upper_bound { result ≤ line_room }
 {
     let mut table = [0i32; 259];
     put_in_table(value, plain, other, variables, &mut table, output)
@@ -81,9 +81,9 @@ fn put_day_on(
 ) -> usize
     requires fits { Fits header.now rows.now text.now }
     requires store_value { store.old ≡ zeros (store_words Source header.now rows.now) }
-    requires line_room_in_bounds { lineRoom ≤ length output.old }
-    ensures put { Put (dayLine header.now rows.now variable (pairsOf (lines_of text.now)) value) output.old result output.new }
-    ensures upper_bound { result ≤ lineRoom }
+    requires line_room_in_bounds { line_room ≤ length output.old }
+    ensures put { Put (day_line header.now rows.now variable (pairs_of (lines_of text.now)) value) output.old result output.new }
+    ensures upper_bound { result ≤ line_room }
 {
     store_at(variable, value, store);
     let tally = do_lines(header, rows, text, store);
@@ -107,9 +107,9 @@ pub fn put_day(
     output: &mut [u8],
 ) -> usize
     requires fits { Fits header.now rows.now text.now }
-    requires line_room_in_bounds { lineRoom ≤ length output.old }
-    ensures put { Put (dayLine header.now rows.now variable (pairsOf (lines_of text.now)) value) output.old result output.new }
-    ensures upper_bound { result ≤ lineRoom }
+    requires line_room_in_bounds { line_room ≤ length output.old }
+    ensures put { Put (day_line header.now rows.now variable (pairs_of (lines_of text.now)) value) output.old result output.new }
+    ensures upper_bound { result ≤ line_room }
 {
     let size = store_words(Form::Source, header, rows);
     let mut store = [0i32; 1088];

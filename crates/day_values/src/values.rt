@@ -3,9 +3,9 @@ ghost use Rattle.std.specs.Prelude.{◌≤◌, length};
 ghost use Rattle.text_lines.specs.Line.{lines_of};
 ghost use Rattle.text_numbers.specs.Writer.{Put};
 ghost use Rattle.day_form.specs.Plans.{Sets};
-ghost use Rattle.day_run.specs.Days.{pairsOf};
-ghost use Rattle.day_values.specs.Values.{settingOutput};
-ghost use Rattle.day_values.specs.Conditions.{Fits, dayRoom};
+ghost use Rattle.day_run.specs.Days.{pairs_of};
+ghost use Rattle.day_values.specs.Values.{setting_output};
+ghost use Rattle.day_values.specs.Conditions.{Fits, day_room};
 
 use super::day::put_day;
 use day_form::setting::Setting;
@@ -19,8 +19,8 @@ pub fn put_values(
 ) -> usize
     requires fits { Fits header.now rows.now text.now }
     requires sets { Sets setting }
-    requires day_room_in_bounds { dayRoom ≤ length output.old }
-    ensures { Put (settingOutput header.now rows.now setting (pairsOf (lines_of text.now))) output.old result output.new }
+    requires day_room_in_bounds { day_room ≤ length output.old }
+    ensures { Put (setting_output header.now rows.now setting (pairs_of (lines_of text.now))) output.old result output.new }
 {
     let variable = setting.variable;
     let lowest = setting.lowest;

@@ -11,12 +11,12 @@ use Rattle.words.specs.declared.Verdict.{Verdict}
 use Rattle.words.specs.declared.Verdict.TheVariants.{Accepted, Refused}
 use Rattle.check_structure.specs.Refusal.{at, unless, ◌next◌}
 use Rattle.check_source.specs.Refusal.{refusal}
-use Rattle.join.specs.Join.{joinedRows, rowsRefusal, ownRefusal, joinRefusal}
-use Rattle.joiner.specs.Joining.{JoinResult, answerAndRows, joinAfter, joinResult, WritesJoin}
+use Rattle.join.specs.Join.{joined_rows, rows_refusal, own_refusal, join_refusal}
+use Rattle.joiner.specs.Joining.{JoinResult, answer_and_rows, join_after, join_result, WritesJoin}
 use Rattle.joiner.specs.declared.JoinAnswer.{JoinAnswer}
 use Rattle.joiner.specs.declared.JoinAnswer.TheVariants.{Joined, Refused as JoinRefused}
 use Rattle.exports.specs.declared.Answer.{Answer}
-use Rattle.exports.specs.Numbers.{joinAnswer, JoinsIfDone}
+use Rattle.exports.specs.Numbers.{join_answer, JoinsIfDone}
 use Rattle.exports.specs.NumbersLaws.{check-caused}
 
 -- A verdict whose refusal has a number.
@@ -28,8 +28,8 @@ unfolding ◌next◌
 next-caused Accepted rest here there = there
 next-caused (Refused refusal) rest here there = here
 
-same_number : (number place : ℕ) (r : Refusal) → Refused (record { number = number; place = place }) ≡ Refused r → number ≡ r.number
-same_number number place r e = let same : record { number = number; place = place } ≡ r = cc in ap (λ (x : Refusal). x.number) same
+same-number : (number place : ℕ) (r : Refusal) → Refused (record { number = number; place = place }) ≡ Refused r → number ≡ r.number
+same-number number place r e = let same : record { number = number; place = place } ≡ r = cc in ap (λ (x : Refusal). x.number) same
 
 accepted-caused : Caused Accepted
 accepted-caused r e none = let z : ◌≡◌ {A = ℕ} 0 1 = cc in omega arith
@@ -37,16 +37,16 @@ accepted-caused r e none = let z : ◌≡◌ {A = ℕ} 0 1 = cc in omega arith
 unless-caused : (test : Bool) (cause : ℕ) → (cause ≡ 0 → ⊥) → Caused (unless test cause)
 unfolding unless
 unless-caused true cause some = accepted-caused
-unless-caused false cause some = λ r e none. some (same_number cause 0 r e ∙ none)
+unless-caused false cause some = λ r e none. some (same-number cause 0 r e ∙ none)
 
 at-caused : (cause : ℕ) (found : Found) → (cause ≡ 0 → ⊥) → Caused (at cause found)
 unfolding at
-at-caused cause (At row) some = λ r e none. some (same_number cause row r e ∙ none)
+at-caused cause (At row) some = λ r e none. some (same-number cause row r e ∙ none)
 at-caused cause Nothing some = accepted-caused
 
 module _ (header first secondHeader second out left : List ℤ) where
-  caused : Caused (joinRefusal header first secondHeader second (length out))
-  unfolding joinRefusal ownRefusal rowsRefusal
+  caused : Caused (join_refusal header first secondHeader second (length out))
+  unfolding join_refusal own_refusal rows_refusal
   caused =
       next-caused _ _ (check-caused Source header first)
       (next-caused _ _ (check-caused Source secondHeader second)
@@ -55,21 +55,21 @@ module _ (header first secondHeader second out left : List ℤ) where
       (next-caused _ _ (at-caused 9 _ (λ e. omega arith)) (at-caused 20 _ (λ e. omega arith)))))
       (unless-caused _ 10 (λ e. omega arith))))
 
-  join-caused : (r : Refusal) → answerAndRows (JoinRefused r) left ≡ joinResult header first secondHeader second out → r.number ≡ 0 → ⊥
-  unfolding joinResult
-  join-caused r e none = go (joinRefusal header first secondHeader second (length out)) refl e
+  join-caused : (r : Refusal) → answer_and_rows (JoinRefused r) left ≡ join_result header first secondHeader second out → r.number ≡ 0 → ⊥
+  unfolding join_result
+  join-caused r e none = go (join_refusal header first secondHeader second (length out)) refl e
     where
-      go : (verdict : Verdict) → joinRefusal header first secondHeader second (length out) ≡ verdict → answerAndRows (JoinRefused r) left ≡ joinAfter verdict (joinedRows first second) out → ⊥
+      go : (verdict : Verdict) → join_refusal header first secondHeader second (length out) ≡ verdict → answer_and_rows (JoinRefused r) left ≡ join_after verdict (joined_rows first second) out → ⊥
       go (Refused other) told e =
           let answers : JoinRefused r ≡ JoinRefused other = ap (λ (j : JoinResult). j.answer) e in
           let same : r ≡ other = cc in
           caused other told (ap (λ (x : Refusal). x.number) (sym same) ∙ none)
       go Accepted told e =
-          let answers : JoinRefused r ≡ Joined (length (joinedRows first second)) = ap (λ (j : JoinResult). j.answer) e in
+          let answers : JoinRefused r ≡ Joined (length (joined_rows first second)) = ap (λ (j : JoinResult). j.answer) e in
           let z : ◌≡◌ {A = ℕ} 0 1 = cc in
           omega arith
 
-  pub joins-if-done : (answer : JoinAnswer) (given : Answer) → given ≡ joinAnswer answer → answerAndRows answer left ≡ joinResult header first secondHeader second out
+  pub joins-if-done : (answer : JoinAnswer) (given : Answer) → given ≡ join_answer answer → answer_and_rows answer left ≡ join_result header first secondHeader second out
       → WritesJoin header first second answer left → JoinsIfDone header first second given left
   joins-if-done (Joined words) given told e writes none = rw (ap (λ (a : Answer). a.first) told) writes
   joins-if-done (JoinRefused r) given told e writes none = absurd (join-caused r e (sym (ap (λ (a : Answer). a.cause) told) ∙ none))

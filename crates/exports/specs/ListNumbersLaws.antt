@@ -9,21 +9,21 @@ use Rattle.words.specs.declared.Form.TheVariants.{Kernel}
 use Rattle.words.specs.declared.Refusal.{Refusal}
 use Rattle.words.specs.declared.Verdict.{Verdict}
 use Rattle.words.specs.declared.Verdict.TheVariants.{Accepted, Refused}
-use Rattle.check_plain.specs.Refusal.{plainRefusal}
+use Rattle.check_plain.specs.Refusal.{plain_refusal}
 use Rattle.check_plain.specs.Accepts.{refused-plain}
-use Rattle.program_runs.specs.Runs.{refusalOf}
-use Rattle.flat_fate.specs.FlatWords.{flattened}
-use Rattle.flattener.specs.Flattening.{FlattenResult, answerAndList, flattenAfter, flattenResult, WritesList}
+use Rattle.program_runs.specs.Runs.{refusal_of}
+use Rattle.flat_fate.proofs.FlatWords.{flattened}
+use Rattle.flattener.specs.Flattening.{FlattenResult, answer_and_list, flatten_after, flatten_result, WritesList}
 use Rattle.flattener.specs.declared.FlattenAnswer.{FlattenAnswer}
 use Rattle.flattener.specs.declared.FlattenAnswer.TheVariants.{Flattened, Refused as FlattenRefused}
 use Rattle.exports.specs.declared.Answer.{Answer}
-use Rattle.exports.specs.Numbers.{flattenAnswer, ListsIfDone}
+use Rattle.exports.specs.Numbers.{flatten_answer, ListsIfDone}
 use Rattle.exports.specs.NumbersLaws.{check-caused}
 
 module _ (header rows out left : List ℤ) where
   ten-caused : (refusal : Refusal) (room : Bool)
-      → answerAndList (FlattenRefused refusal) left
-      ≡ pick room (answerAndList (Flattened (length (flattened rows))) (over (flattened rows) out)) (answerAndList (FlattenRefused (record { number = 10; place = 0 })) out)
+      → answer_and_list (FlattenRefused refusal) left
+      ≡ pick room (answer_and_list (Flattened (length (flattened rows))) (over (flattened rows) out)) (answer_and_list (FlattenRefused (record { number = 10; place = 0 })) out)
       → refusal.number ≡ 0 → ⊥
   ten-caused refusal true e none =
       let told : FlattenRefused refusal ≡ Flattened (length (flattened rows)) = ap (λ (result : FlattenResult). result.answer) e in
@@ -34,19 +34,19 @@ module _ (header rows out left : List ℤ) where
       let same : refusal ≡ record { number = 10; place = 0 } = cc in
       omega (arith, none, ap (λ (r : Refusal). r.number) same)
 
-  list-caused : (refusal : Refusal) → answerAndList (FlattenRefused refusal) left ≡ flattenResult header rows out → refusal.number ≡ 0 → ⊥
-  unfolding flattenResult
-  list-caused refusal e none = go (plainRefusal header rows) refl e
+  list-caused : (refusal : Refusal) → answer_and_list (FlattenRefused refusal) left ≡ flatten_result header rows out → refusal.number ≡ 0 → ⊥
+  unfolding flatten_result
+  list-caused refusal e none = go (plain_refusal header rows) refl e
     where
-      go : (verdict : Verdict) → plainRefusal header rows ≡ verdict → answerAndList (FlattenRefused refusal) left ≡ flattenAfter verdict rows out → ⊥
+      go : (verdict : Verdict) → plain_refusal header rows ≡ verdict → answer_and_list (FlattenRefused refusal) left ≡ flatten_after verdict rows out → ⊥
       go (Refused other) told e =
           let answers : FlattenRefused refusal ≡ FlattenRefused other = ap (λ (result : FlattenResult). result.answer) e in
           let same : refusal ≡ other = cc in
           let number : other.number ≡ 0 = ap (λ (r : Refusal). r.number) (sym same) ∙ none in
-          ⊎_elim (λ (checked : refusalOf Kernel header rows ≡ Refused other). check-caused Kernel header rows other checked number)
+          ⊎_elim (λ (checked : refusal_of Kernel header rows ≡ Refused other). check-caused Kernel header rows other checked number)
           (λ (functions : other.number ≡ 25). omega arith) (refused-plain header rows other told)
       go Accepted told e = ten-caused refusal (leb (length (flattened rows)) (length out)) e none
 
-  pub lists-if-done : (answer : FlattenAnswer) (given : Answer) → given ≡ flattenAnswer answer → answerAndList answer left ≡ flattenResult header rows out → WritesList header rows answer left → ListsIfDone header rows given left
+  pub lists-if-done : (answer : FlattenAnswer) (given : Answer) → given ≡ flatten_answer answer → answer_and_list answer left ≡ flatten_result header rows out → WritesList header rows answer left → ListsIfDone header rows given left
   lists-if-done (Flattened words) given told e writes none = rw (ap (λ (a : Answer). a.first) told) writes
   lists-if-done (FlattenRefused refusal) given told e writes none = absurd (list-caused refusal e (sym (ap (λ (a : Answer). a.cause) told) ∙ none))

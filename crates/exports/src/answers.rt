@@ -1,13 +1,13 @@
 // The numbers of each answer.
 ghost use Rattle.std.specs.Prelude.{◌≡◌};
-ghost use Rattle.words.specs.Numbers.{refused as refusedOf, runNumbers};
+ghost use Rattle.words.specs.Numbers.{refused as refused_of, run_numbers};
 ghost use Rattle.words.specs.declared.RunVerdict.TheVariants.{Ran};
-ghost use Rattle.text_form.specs.Answers.{readOutcome, writeOutcome};
+ghost use Rattle.text_form.specs.Answers.{read_outcome, write_outcome};
 ghost use Rattle.program_dispatcher.specs.declared.DispatcherVerdict.TheVariants.{Shown};
 ghost use Rattle.program_previews.specs.declared.PreviewVerdict.TheVariants.{Previewed};
-ghost use Rattle.program_dispatcher.specs.DispatcherRuns.{dispatcherNumbers};
-ghost use Rattle.program_previews.specs.Previews.{toldRun, tally_of};
-ghost use Rattle.exports.specs.Numbers.{answer_of, runAnswer, verdictAnswer, previewAnswer, outcomeAnswer, translateAnswer, joinAnswer, flattenAnswer, pageAnswer};
+ghost use Rattle.program_dispatcher.specs.DispatcherRuns.{dispatcher_numbers};
+ghost use Rattle.program_previews.specs.Previews.{told_run, tally_of};
+ghost use Rattle.exports.specs.Numbers.{answer_of, run_answer, verdict_answer, preview_answer, outcome_answer, translate_answer, join_answer, flatten_answer, page_answer};
 
 use super::{Answer, PreviewAnswer};
 use flattener::FlattenAnswer;
@@ -21,7 +21,7 @@ use words::{Ending, Refusal, RunAnswer, RunVerdict, Verdict};
 use words_endings::ending_number;
 
 pub fn refused(refusal: Refusal) -> Answer
-    ensures { result ≡ answer_of (refusedOf refusal.number refusal.place) }
+    ensures { result ≡ answer_of (refused_of refusal.number refusal.place) }
 {
     Answer {
         cause: refusal.number,
@@ -31,7 +31,7 @@ pub fn refused(refusal: Refusal) -> Answer
 }
 
 pub fn of_verdict(verdict: Verdict) -> Answer
-    ensures { result ≡ verdictAnswer verdict }
+    ensures { result ≡ verdict_answer verdict }
 {
     match verdict {
         Verdict::Accepted => Answer {
@@ -44,7 +44,7 @@ pub fn of_verdict(verdict: Verdict) -> Answer
 }
 
 fn ran(run: RunAnswer) -> Answer
-    ensures { result ≡ runAnswer (Ran run) }
+    ensures { result ≡ run_answer (Ran run) }
 {
     let ending = run.ending;
     Answer {
@@ -55,7 +55,7 @@ fn ran(run: RunAnswer) -> Answer
 }
 
 pub fn of_run(verdict: RunVerdict) -> Answer
-    ensures { result ≡ runAnswer verdict }
+    ensures { result ≡ run_answer verdict }
 {
     match verdict {
         RunVerdict::Ran(run) => ran(run),
@@ -64,7 +64,7 @@ pub fn of_run(verdict: RunVerdict) -> Answer
 }
 
 fn shown(ending: Ending) -> Answer
-    ensures { result ≡ answer_of (dispatcherNumbers (Shown ending)) }
+    ensures { result ≡ answer_of (dispatcher_numbers (Shown ending)) }
 {
     Answer {
         cause: 0,
@@ -74,7 +74,7 @@ fn shown(ending: Ending) -> Answer
 }
 
 pub fn of_dispatcher(verdict: DispatcherVerdict) -> Answer
-    ensures { result ≡ answer_of (dispatcherNumbers verdict) }
+    ensures { result ≡ answer_of (dispatcher_numbers verdict) }
 {
     match verdict {
         DispatcherVerdict::Shown(ending) => shown(ending),
@@ -83,7 +83,7 @@ pub fn of_dispatcher(verdict: DispatcherVerdict) -> Answer
 }
 
 fn foretold(preview: program_previews::PreviewAnswer) -> PreviewAnswer
-    ensures { result ≡ previewAnswer (runNumbers (toldRun (Previewed preview))) preview.differing }
+    ensures { result ≡ preview_answer (run_numbers (told_run (Previewed preview))) preview.differing }
 {
     let ending = preview.ending;
     PreviewAnswer {
@@ -95,7 +95,7 @@ fn foretold(preview: program_previews::PreviewAnswer) -> PreviewAnswer
 }
 
 pub fn of_preview(verdict: PreviewVerdict) -> PreviewAnswer
-    ensures { result ≡ previewAnswer (runNumbers (toldRun verdict)) (tally_of verdict) }
+    ensures { result ≡ preview_answer (run_numbers (told_run verdict)) (tally_of verdict) }
 {
     match verdict {
         PreviewVerdict::Previewed(preview) => foretold(preview),
@@ -109,7 +109,7 @@ pub fn of_preview(verdict: PreviewVerdict) -> PreviewAnswer
 }
 
 pub fn of_read(answer: ReadAnswer) -> Answer
-    ensures { result ≡ outcomeAnswer (readOutcome answer) }
+    ensures { result ≡ outcome_answer (read_outcome answer) }
 {
     match answer {
         ReadAnswer::Read(header_words, row_words) => Answer {
@@ -122,7 +122,7 @@ pub fn of_read(answer: ReadAnswer) -> Answer
 }
 
 pub fn of_write(answer: WriteAnswer) -> Answer
-    ensures { result ≡ outcomeAnswer (writeOutcome answer) }
+    ensures { result ≡ outcome_answer (write_outcome answer) }
 {
     match answer {
         WriteAnswer::Written(bytes) => Answer {
@@ -135,7 +135,7 @@ pub fn of_write(answer: WriteAnswer) -> Answer
 }
 
 pub fn of_translation(answer: TranslateAnswer) -> Answer
-    ensures { result ≡ translateAnswer answer }
+    ensures { result ≡ translate_answer answer }
 {
     match answer {
         TranslateAnswer::Translated(header_words, row_words) => Answer {
@@ -148,7 +148,7 @@ pub fn of_translation(answer: TranslateAnswer) -> Answer
 }
 
 pub fn of_join(answer: JoinAnswer) -> Answer
-    ensures { result ≡ joinAnswer answer }
+    ensures { result ≡ join_answer answer }
 {
     match answer {
         JoinAnswer::Joined(words) => Answer {
@@ -161,7 +161,7 @@ pub fn of_join(answer: JoinAnswer) -> Answer
 }
 
 pub fn of_flattening(answer: FlattenAnswer) -> Answer
-    ensures { result ≡ flattenAnswer answer }
+    ensures { result ≡ flatten_answer answer }
 {
     match answer {
         FlattenAnswer::Flattened(words) => Answer {
@@ -174,7 +174,7 @@ pub fn of_flattening(answer: FlattenAnswer) -> Answer
 }
 
 pub fn of_page(answer: PageAnswer) -> Answer
-    ensures { result ≡ pageAnswer answer }
+    ensures { result ≡ page_answer answer }
 {
     match answer {
         PageAnswer::Read(words) => Answer {

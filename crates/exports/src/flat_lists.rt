@@ -1,7 +1,7 @@
 // Writer and run of flat lists.
 ghost use Rattle.std.specs.Prelude.{◌≡◌};
-ghost use Rattle.flat.specs.Results.{flatResult};
-ghost use Rattle.flattener.specs.Flattening.{flattenResult};
+ghost use Rattle.flat.specs.Results.{flat_result};
+ghost use Rattle.flattener.specs.Flattening.{flatten_result};
 ghost use Rattle.exports.specs.Numbers.{answer_of, ListsIfDone};
 
 use super::Answer;
@@ -10,8 +10,8 @@ use super::answers::{of_flattening, of_run};
 // Writes the flat list of a kernel program. The last promise is about the words that are written.
 #[unsafe(no_mangle)]
 pub extern "C" fn clight_flatten(header: &[i32], rows: &[i32], list: &mut [i32]) -> Answer
-    ensures value { result ≡ answer_of (flattenResult header.now rows.now list.old).numbers }
-    ensures list_after { list.new ≡ (flattenResult header.now rows.now list.old).list }
+    ensures value { result ≡ answer_of (flatten_result header.now rows.now list.old).numbers }
+    ensures list_after { list.new ≡ (flatten_result header.now rows.now list.old).list }
     ensures lists_if_done { ListsIfDone header.now rows.now result list.new }
 {
     of_flattening(clight::flat_lists::flatten(header, rows, list))
@@ -25,8 +25,8 @@ pub extern "C" fn clight_flat_run(
     store: &mut [i32],
     budget: u32,
 ) -> Answer
-    ensures value { result ≡ answer_of (flatResult header.now list.now budget store.old).numbers }
-    ensures store_after { store.new ≡ (flatResult header.now list.now budget store.old).store }
+    ensures value { result ≡ answer_of (flat_result header.now list.now budget store.old).numbers }
+    ensures store_after { store.new ≡ (flat_result header.now list.now budget store.old).store }
 {
     of_run(clight::flat_lists::flat_run(header, list, store, budget))
 }

@@ -1,6 +1,6 @@
 // The join of two source programs.
 ghost use Rattle.std.specs.Prelude.{◌≡◌};
-ghost use Rattle.joiner.specs.Joining.{joinResult};
+ghost use Rattle.joiner.specs.Joining.{join_result};
 ghost use Rattle.exports.specs.Numbers.{answer_of, JoinsIfDone};
 
 use super::Answer;
@@ -15,8 +15,8 @@ pub extern "C" fn clight_join(
     second_rows: &[i32],
     out_rows: &mut [i32],
 ) -> Answer
-    ensures value { result ≡ answer_of (joinResult header.now rows.now second_header.now second_rows.now out_rows.old).numbers }
-    ensures out_rows_after { out_rows.new ≡ (joinResult header.now rows.now second_header.now second_rows.now out_rows.old).rows }
+    ensures value { result ≡ answer_of (join_result header.now rows.now second_header.now second_rows.now out_rows.old).numbers }
+    ensures out_rows_after { out_rows.new ≡ (join_result header.now rows.now second_header.now second_rows.now out_rows.old).rows }
     ensures joins_if_done { JoinsIfDone header.now rows.now second_rows.now result out_rows.new }
 {
     of_join(clight::joins::join(header, rows, second_header, second_rows, out_rows))

@@ -1,7 +1,7 @@
 // The translation of source programs into kernel form.
 ghost use Rattle.std.specs.Prelude.{◌≡◌};
 ghost use Rattle.translation_fate.specs.KernelForms.{HasKernelForm};
-ghost use Rattle.translator.specs.Translation.{translateResult};
+ghost use Rattle.translator.specs.Translation.{translate_result};
 ghost use Rattle.exports.specs.Numbers.{answer_of, WritesIfDone};
 
 use super::Answer;
@@ -16,9 +16,9 @@ pub extern "C" fn clight_translate(
     kernel_header: &mut [i32],
     kernel_rows: &mut [i32],
 ) -> Answer
-    ensures value { result ≡ answer_of (translateResult header.now rows.now kernel_header.old kernel_rows.old).numbers }
-    ensures kernel_header_after { kernel_header.new ≡ (translateResult header.now rows.now kernel_header.old kernel_rows.old).header }
-    ensures kernel_rows_after { kernel_rows.new ≡ (translateResult header.now rows.now kernel_header.old kernel_rows.old).rows }
+    ensures value { result ≡ answer_of (translate_result header.now rows.now kernel_header.old kernel_rows.old).numbers }
+    ensures kernel_header_after { kernel_header.new ≡ (translate_result header.now rows.now kernel_header.old kernel_rows.old).header }
+    ensures kernel_rows_after { kernel_rows.new ≡ (translate_result header.now rows.now kernel_header.old kernel_rows.old).rows }
     ensures has_kernel_form { HasKernelForm header.now rows.now }
     ensures writes_if_done { WritesIfDone header.now rows.now result kernel_header.new kernel_rows.new }
 {

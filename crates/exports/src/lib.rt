@@ -1,5 +1,7 @@
 // The library for C and Rust: the public entries as functions of C's calling convention. A slice is a pointer and a length in
 // elements; every answer is numbers by value. No function has a `requires`.
+#![tactic(auto)]
+
 mod answers; // answers.rt: the numbers of each answer
 pub mod flat_lists; // flat_lists.rt: writer and run of flat lists
 pub mod joins; // joins.rt: the join
@@ -10,7 +12,7 @@ pub mod texts; // texts.rt: reader and writer of both forms' texts
 
 // What a caller gets: document 01's number of the cause, or 0 where there is none, and two values (specs/Numbers.antt).
 #[repr(C)]
-#[derive(Drop)]
+#[derive(Clone, Copy)]
 pub struct Answer {
     pub cause: u32,
     pub first: usize,
@@ -19,7 +21,7 @@ pub struct Answer {
 
 // What the caller of a preview gets: the numbers of a run, and how many store words would differ, 0 with a refusal.
 #[repr(C)]
-#[derive(Drop)]
+#[derive(Clone, Copy)]
 pub struct PreviewAnswer {
     pub cause: u32,
     pub first: usize,

@@ -1,7 +1,7 @@
 // What a run would do to a store, told beforehand.
 ghost use Rattle.std.specs.Prelude.{◌≡◌};
-ghost use Rattle.program_previews.specs.Previews.{previewResult};
-ghost use Rattle.exports.specs.Numbers.{previewAnswer};
+ghost use Rattle.program_previews.specs.Previews.{preview_result};
+ghost use Rattle.exports.specs.Numbers.{preview_answer};
 
 use super::PreviewAnswer;
 use super::answers::of_preview;
@@ -15,9 +15,9 @@ pub extern "C" fn clight_preview(
     budget: u32,
     scratch: &mut [i32],
 ) -> PreviewAnswer
-    ensures value { result ≡ previewAnswer (previewResult header.now rows.now budget store.now scratch.old).numbers (previewResult header.now rows.now budget store.now scratch.old).tally }
-    ensures store_value { store.now ≡ (previewResult header.now rows.now budget store.now scratch.old).store }
-    ensures scratch_after { scratch.new ≡ (previewResult header.now rows.now budget store.now scratch.old).scratch }
+    ensures value { result ≡ preview_answer (preview_result header.now rows.now budget store.now scratch.old).numbers (preview_result header.now rows.now budget store.now scratch.old).tally }
+    ensures store_value { store.now ≡ (preview_result header.now rows.now budget store.now scratch.old).store }
+    ensures scratch_after { scratch.new ≡ (preview_result header.now rows.now budget store.now scratch.old).scratch }
 {
     of_preview(clight::previews::preview(header, rows, store, budget, scratch))
 }

@@ -2,9 +2,9 @@
 ghost use Rattle.std.specs.Prelude.{◌≡◌};
 ghost use Rattle.words.specs.declared.Form.TheVariants.{Source, Kernel};
 ghost use Rattle.program_runs.specs.Acceptance.{NoCauseIfLegal};
-ghost use Rattle.program_dispatcher.specs.DispatcherRuns.{dispatcherResult};
-ghost use Rattle.program_runs.specs.Runs.{refusalOf, runResult};
-ghost use Rattle.exports.specs.Numbers.{answer_of, verdictAnswer};
+ghost use Rattle.program_dispatcher.specs.DispatcherRuns.{dispatcher_result};
+ghost use Rattle.program_runs.specs.Runs.{refusal_of, run_result};
+ghost use Rattle.exports.specs.Numbers.{answer_of, verdict_answer};
 
 use super::Answer;
 use super::answers::{of_dispatcher, of_run, of_verdict};
@@ -12,7 +12,7 @@ use super::answers::{of_dispatcher, of_run, of_verdict};
 // The check of source programs. The second promise is demand 2: the legal programs alone have cause 0.
 #[unsafe(no_mangle)]
 pub extern "C" fn clight_check(header: &[i32], rows: &[i32]) -> Answer
-    ensures value { result ≡ verdictAnswer (refusalOf Source header.now rows.now) }
+    ensures value { result ≡ verdict_answer (refusal_of Source header.now rows.now) }
     ensures no_cause_if_legal { NoCauseIfLegal Source header.now rows.now result.cause }
 {
     of_verdict(clight::runs::check(header, rows))
@@ -21,7 +21,7 @@ pub extern "C" fn clight_check(header: &[i32], rows: &[i32]) -> Answer
 // The check of kernel programs, with the same two promises.
 #[unsafe(no_mangle)]
 pub extern "C" fn clight_kernel_check(header: &[i32], rows: &[i32]) -> Answer
-    ensures value { result ≡ verdictAnswer (refusalOf Kernel header.now rows.now) }
+    ensures value { result ≡ verdict_answer (refusal_of Kernel header.now rows.now) }
     ensures no_cause_if_legal { NoCauseIfLegal Kernel header.now rows.now result.cause }
 {
     of_verdict(clight::runs::kernel_check(header, rows))
@@ -30,8 +30,8 @@ pub extern "C" fn clight_kernel_check(header: &[i32], rows: &[i32]) -> Answer
 // Runs a source program on the store.
 #[unsafe(no_mangle)]
 pub extern "C" fn clight_run(header: &[i32], rows: &[i32], store: &mut [i32], budget: u32) -> Answer
-    ensures value { result ≡ answer_of (runResult Source header.now rows.now budget store.old).numbers }
-    ensures store_after { store.new ≡ (runResult Source header.now rows.now budget store.old).store }
+    ensures value { result ≡ answer_of (run_result Source header.now rows.now budget store.old).numbers }
+    ensures store_after { store.new ≡ (run_result Source header.now rows.now budget store.old).store }
 {
     of_run(clight::runs::run(header, rows, store, budget))
 }
@@ -44,8 +44,8 @@ pub extern "C" fn clight_kernel_run(
     store: &mut [i32],
     budget: u32,
 ) -> Answer
-    ensures value { result ≡ answer_of (runResult Kernel header.now rows.now budget store.old).numbers }
-    ensures store_after { store.new ≡ (runResult Kernel header.now rows.now budget store.old).store }
+    ensures value { result ≡ answer_of (run_result Kernel header.now rows.now budget store.old).numbers }
+    ensures store_after { store.new ≡ (run_result Kernel header.now rows.now budget store.old).store }
 {
     of_run(clight::runs::kernel_run(header, rows, store, budget))
 }
@@ -58,8 +58,8 @@ pub extern "C" fn clight_dispatcher_run(
     words: &mut [i32],
     budget: u32,
 ) -> Answer
-    ensures value { result ≡ answer_of (dispatcherResult header.now rows.now budget words.old).numbers }
-    ensures words_after { words.new ≡ (dispatcherResult header.now rows.now budget words.old).words }
+    ensures value { result ≡ answer_of (dispatcher_result header.now rows.now budget words.old).numbers }
+    ensures words_after { words.new ≡ (dispatcher_result header.now rows.now budget words.old).words }
 {
     of_dispatcher(clight::dispatcher::dispatcher_run(header, rows, words, budget))
 }

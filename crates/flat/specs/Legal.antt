@@ -1,20 +1,20 @@
 -- Legal: the flat lists that the machine takes: words of lines that name what there is, and jump inside the list or just past it.
 use Rattle.std.specs.Prelude.{◌≡◌, true, List, ℕ, ◌%◌, ◌<◌, ◌≤◌, ℤ, length}
 use Rattle.words.specs.Kinds.{variable, array}
-use Rattle.words.specs.Layout.{headerFits}
+use Rattle.words.specs.Layout.{header_fits}
 use Rattle.words.specs.declared.Form.TheVariants.{Kernel}
-use Rattle.check_fields.specs.Fields.{bounds_of, numberFits}
+use Rattle.check_fields.specs.Fields.{bounds_of, number_fits}
 use Rattle.check_fields.specs.declared.Bounds.{Bounds}
-use Rattle.flat.specs.Lines.{Operand, number, word, Operation, copy, minus, operate, fetch, put, FlatLine, does, jump, jumpZero, jumpOther, abort}
-use Rattle.flat.specs.Words.{lineCount, lineParts, Written}
+use Rattle.flat.specs.Lines.{Operand, number, word, Operation, copy, minus, operate, fetch, put, FlatLine, does, jump, jump_zero, jump_other, abort}
+use Rattle.flat.specs.Words.{line_count, line_parts, Written}
 
 module _ (bounds : Bounds) where
   -- "T temporaries .., which are variable numbers S to S+T−1; numbers V to S−1 name nothing." Change 11: S to S+D+T−1.
   abbrev pub NamesVariable : ℕ → Type 0
-  NamesVariable i = numberFits bounds variable i ≡ true
+  NamesVariable i = number_fits bounds variable i ≡ true
 
   abbrev pub NamesArray : ℕ → Type 0
-  NamesArray i = numberFits bounds array i ≡ true
+  NamesArray i = number_fits bounds array i ≡ true
 
   abbrev pub WithinOperand : Operand → Type 0
   WithinOperand (number v) = Unit {0}
@@ -31,17 +31,17 @@ module _ (bounds : Bounds) where
   abbrev pub Within : ℕ → FlatLine → Type 0
   Within lines (does o) = WithinOperation o
   Within lines (jump j) = j ≤ lines
-  Within lines (jumpZero a j) = WithinOperand a × (j ≤ lines)
-  Within lines (jumpOther a j) = WithinOperand a × (j ≤ lines)
+  Within lines (jump_zero a j) = WithinOperand a × (j ≤ lines)
+  Within lines (jump_other a j) = WithinOperand a × (j ≤ lines)
   Within lines abort = Unit {0}
 
   -- The five words from line i on are those of a line.
   pub record LegalLine (list : List ℤ) (i : ℕ) : Type 0 where
     pub line : FlatLine
-    pub written : Written list i (lineParts i line)
-    pub within : Within (lineCount list) line
+    pub written : Written list i (line_parts i line)
+    pub within : Within (line_count list) line
 
 pub record LegalFlat (header list : List ℤ) : Type 0 where
-  pub header-fits : headerFits Kernel header ≡ true
+  pub header-fits : header_fits Kernel header ≡ true
   pub whole : length list % 5 ≡ 0
-  pub lines : (i : ℕ) → i < lineCount list → LegalLine (bounds_of Kernel header) list i
+  pub lines : (i : ℕ) → i < line_count list → LegalLine (bounds_of Kernel header) list i

@@ -11,8 +11,3 @@ pub mod Refusal
 pub mod Legal
 -- Results: the run of a list, and what a flat run answers.
 pub mod Results
--- ---- laws
--- Laws of words: what is written is read back.
-pub mod WordsLaws
--- Accepts: the check accepts the legal lists and no others.
-pub mod Accepts

@@ -2,8 +2,8 @@
 -- last line.
 use Rattle.std.specs.Prelude.{List, [], ◌∷◌, ℕ, zero, suc, ℤ, pos, get_or, set}
 use Rattle.words.specs.Word.{pick}
-use Rattle.words.specs.Layout.{Layout, arrayBase, arrayLength}
-use Rattle.arithmetic.specs.Arithmetic.{Outcome, value, fault, isTrue, apply, minus as minusWord, element as elementWord}
+use Rattle.words.specs.Layout.{Layout, array_base, array_length}
+use Rattle.arithmetic.specs.Arithmetic.{Outcome, value, fault, is_true, apply, minus as minus_word, element as element_word}
 use Rattle.words.specs.declared.FaultSort.{FaultSort}
 use Rattle.words.specs.declared.FaultSort.TheVariants.{Guard}
 use Rattle.words.specs.declared.Operator.{Operator}
@@ -26,7 +26,7 @@ pub data Operation : Type 0 where
 pub data FlatLine : Type 0 where
   does : Operation → FlatLine
   jump : ℕ → FlatLine
-  jumpZero jumpOther : Operand → ℕ → FlatLine
+  jump_zero jump_other : Operand → ℕ → FlatLine
   abort : FlatLine
 
 abbrev pub value_of : Operand → List ℤ → ℤ
@@ -71,16 +71,16 @@ follow more count s ends = record { ending = Plain; count = count; store = s }
 module _ (L : Layout) where
   abbrev pub effect : Operation → List ℤ → Outcome (List ℤ)
   effect (copy i a) s = value (set s i (value_of a s))
-  effect (minus i a) s = stored i s (minusWord (value_of a s))
+  effect (minus i a) s = stored i s (minus_word (value_of a s))
   effect (operate operator i a b) s = stored i s (apply operator (value_of a s) (value_of b s))
-  effect (fetch i array a) s = fetched i s (elementWord (arrayBase L array) (arrayLength L array) (value_of a s))
-  effect (put array a b) s = put_at (value_of b s) s (elementWord (arrayBase L array) (arrayLength L array) (value_of a s))
+  effect (fetch i array a) s = fetched i s (element_word (array_base L array) (array_length L array) (value_of a s))
+  effect (put array a b) s = put_at (value_of b s) s (element_word (array_base L array) (array_length L array) (value_of a s))
 
   abbrev pub next_of : FlatLine → ℕ → List ℤ → Next
   next_of (does o) i s = onward i (effect o s)
   next_of (jump j) i s = goes j s
-  next_of (jumpZero a j) i s = goes (pick (isTrue (value_of a s)) (suc i) j) s
-  next_of (jumpOther a j) i s = goes (pick (isTrue (value_of a s)) j (suc i)) s
+  next_of (jump_zero a j) i s = goes (pick (is_true (value_of a s)) (suc i) j) s
+  next_of (jump_other a j) i s = goes (pick (is_true (value_of a s)) j (suc i)) s
   next_of abort i s = faults Guard
 
   -- What follows line i, the k-th of the lines; "just past its last line" the run ends.

@@ -3,14 +3,14 @@
 use Rattle.std.specs.Prelude.{Bool, true, false, not, ◌&&◌, ◌||◌, List, ℕ, suc, ◌+◌, ◌%◌, ltb, leb, eqb, ℤ, pos, negsuc, length}
 use Rattle.words.specs.Word.{natural, pick}
 use Rattle.words.specs.Kinds.{between, variable, array}
-use Rattle.words.specs.Layout.{headerFits}
+use Rattle.words.specs.Layout.{header_fits}
 use Rattle.words.specs.Search.{lowest}
 use Rattle.words.specs.declared.Form.TheVariants.{Kernel}
 use Rattle.words.specs.declared.Verdict.{Verdict}
-use Rattle.check_fields.specs.Fields.{bounds_of, numberFits}
+use Rattle.check_fields.specs.Fields.{bounds_of, number_fits}
 use Rattle.check_structure.specs.Refusal.{at, unless, ◌next◌}
 use Rattle.check_fields.specs.declared.Bounds.{Bounds}
-use Rattle.flat.specs.Words.{lineCount, field_at, operationAt, kind_of, leftConstant, rightConstant}
+use Rattle.flat.specs.Words.{line_count, field_at, operation_at, kind_of, left_constant, right_constant}
 use Rattle.flat.specs.declared.Holds.{Holds}
 use Rattle.flat.specs.declared.Holds.TheVariants.{Unused, Atom, Variable, Array}
 use Rattle.flat.specs.declared.LineShape.{LineShape}
@@ -37,56 +37,56 @@ shape_of kind =
 -- ---- cause 3: "unknown operation"
 
 -- Only an atom is told to be a constant.
-abbrev pub constantFits : Bool → Holds → Bool
-constantFits constant Unused = not constant
-constantFits constant Atom = true
-constantFits constant Variable = not constant
-constantFits constant Array = not constant
+abbrev pub constant_fits : Bool → Holds → Bool
+constant_fits constant Unused = not constant
+constant_fits constant Atom = true
+constant_fits constant Variable = not constant
+constant_fits constant Array = not constant
 
-unfoldable pub knownOperation : ℕ → Bool
-knownOperation operation =
+unfoldable pub known_operation : ℕ → Bool
+known_operation operation =
     let shape = shape_of (kind_of operation) in
-    ltb operation 256 && (shape.known && (constantFits (leftConstant operation) shape.left && constantFits (rightConstant operation) shape.right))
+    ltb operation 256 && (shape.known && (constant_fits (left_constant operation) shape.left && constant_fits (right_constant operation) shape.right))
 
-unfoldable pub unknownOperation : List ℤ → ℕ → Bool
-unknownOperation list line = not (knownOperation (operationAt list line))
+unfoldable pub unknown_operation : List ℤ → ℕ → Bool
+unknown_operation list line = not (known_operation (operation_at list line))
 
 -- ---- cause 4: "jump outside"
 
 -- "Jumps stay inside the list or go just past its last line": a jump from a line of so many.
-abbrev pub landsInside : ℕ → ℕ → ℤ → Bool
-landsInside line lines (pos d) = leb (suc line + d) lines
-landsInside line lines (negsuc d) = leb d line
+abbrev pub lands_inside : ℕ → ℕ → ℤ → Bool
+lands_inside line lines (pos d) = leb (suc line + d) lines
+lands_inside line lines (negsuc d) = leb d line
 
 -- A line that does not jump has the distance 0.
-unfoldable pub jumpOutside : List ℤ → ℕ → Bool
-jumpOutside list line =
+unfoldable pub jump_outside : List ℤ → ℕ → Bool
+jump_outside list line =
     let distance = field_at list line 4 in
-    not (pick (shape_of (kind_of (operationAt list line))).jumps (landsInside line (lineCount list) distance) (eqb (natural distance) 0))
+    not (pick (shape_of (kind_of (operation_at list line))).jumps (lands_inside line (line_count list) distance) (eqb (natural distance) 0))
 
 -- ---- cause 6: "number outside"
 
 -- A variable or a temporary, an array, any constant; a word that is not used is 0.
-abbrev pub holdsRight : Bounds → Holds → Bool → ℤ → Bool
-holdsRight bounds Unused constant word = eqb (natural word) 0
-holdsRight bounds Atom constant word = constant || numberFits bounds variable (natural word)
-holdsRight bounds Variable constant word = numberFits bounds variable (natural word)
-holdsRight bounds Array constant word = numberFits bounds array (natural word)
+abbrev pub holds_right : Bounds → Holds → Bool → ℤ → Bool
+holds_right bounds Unused constant word = eqb (natural word) 0
+holds_right bounds Atom constant word = constant || number_fits bounds variable (natural word)
+holds_right bounds Variable constant word = number_fits bounds variable (natural word)
+holds_right bounds Array constant word = number_fits bounds array (natural word)
 
-unfoldable pub numberOutside : Bounds → List ℤ → ℕ → Bool
-numberOutside bounds list line =
-    let operation = operationAt list line in
+unfoldable pub number_outside : Bounds → List ℤ → ℕ → Bool
+number_outside bounds list line =
+    let operation = operation_at list line in
     let shape = shape_of (kind_of operation) in
-    not (holdsRight bounds shape.target false (field_at list line 1)
-    && (holdsRight bounds shape.left (leftConstant operation) (field_at list line 2) && holdsRight bounds shape.right (rightConstant operation) (field_at list line 3)))
+    not (holds_right bounds shape.target false (field_at list line 1)
+    && (holds_right bounds shape.left (left_constant operation) (field_at list line 2) && holds_right bounds shape.right (right_constant operation) (field_at list line 3)))
 
 -- ---- the check
 
-unfoldable pub lineCauses : Bounds → List ℤ → Verdict
-lineCauses bounds list =
-    at 3 (lowest (unknownOperation list) 0 (lineCount list))
-    next at 4 (lowest (jumpOutside list) 0 (lineCount list))
-    next at 6 (lowest (numberOutside bounds list) 0 (lineCount list))
+unfoldable pub line_causes : Bounds → List ℤ → Verdict
+line_causes bounds list =
+    at 3 (lowest (unknown_operation list) 0 (line_count list))
+    next at 4 (lowest (jump_outside list) 0 (line_count list))
+    next at 6 (lowest (number_outside bounds list) 0 (line_count list))
 
 unfoldable pub refusal : List ℤ → List ℤ → Verdict
-refusal header list = unless (headerFits Kernel header) 1 next unless (eqb (length list % 5) 0) 2 next lineCauses (bounds_of Kernel header) list
+refusal header list = unless (header_fits Kernel header) 1 next unless (eqb (length list % 5) 0) 2 next line_causes (bounds_of Kernel header) list

@@ -1,8 +1,10 @@
 // The flat list: five words a line. Definitions and laws are in specs/.
+#![tactic(auto)]
+
 pub mod lines; // lines.rt: the words of a line, and what its operation and its distance say
 
 // What a word of a line holds. An atom is a constant or a variable: the operation says which.
-#[derive(Drop)]
+#[derive(Clone, Copy)]
 pub enum Holds {
     Unused,
     Atom,
@@ -11,7 +13,7 @@ pub enum Holds {
 }
 
 // What the words of a line of one kind hold, and whether it jumps; `known` is false where no line is of this kind.
-#[derive(Drop)]
+#[derive(Clone, Copy)]
 pub struct LineShape {
     pub known: bool,
     pub target: Holds,

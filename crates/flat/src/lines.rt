@@ -1,7 +1,7 @@
 // The words of a line, and what its operation and its distance say.
 ghost use Rattle.std.specs.Prelude.{◌≡◌, ◌+◌, ◌*◌, ◌<◌, length};
 ghost use Rattle.std.specs.Int.Signed.{mag};
-ghost use Rattle.flat.specs.Words.{field_at, operationAt, kind_of, leftConstant, rightConstant};
+ghost use Rattle.flat.specs.Words.{field_at, operation_at, kind_of, left_constant, right_constant};
 
 use words::table::natural;
 
@@ -15,7 +15,7 @@ pub fn word_at(list: &[i32], line: usize, field: usize) -> i32
 
 pub fn operation_at(list: &[i32], line: usize) -> usize
     requires { 5 * line < length list.now }
-    ensures { result ≡ operationAt list.now line }
+    ensures { result ≡ operation_at list.now line }
 {
     natural(word_at(list, line, 0))
 }
@@ -28,13 +28,13 @@ pub fn operation_kind(operation: usize) -> usize
 }
 
 pub fn left_constant(operation: usize) -> bool
-    ensures { result ≡ leftConstant operation }
+    ensures { result ≡ left_constant operation }
 {
     64 <= operation % 128
 }
 
 pub fn right_constant(operation: usize) -> bool
-    ensures { result ≡ rightConstant operation }
+    ensures { result ≡ right_constant operation }
 {
     128 <= operation
 }

@@ -1,7 +1,7 @@
 // The causes that one line can break: 3, 4 and 6.
 ghost use Rattle.std.specs.Prelude.{◌≡◌, ◌<◌};
-ghost use Rattle.flat.specs.Words.{lineCount};
-ghost use Rattle.flat.specs.Refusal.{knownOperation, unknownOperation, landsInside, jumpOutside, holdsRight, numberOutside};
+ghost use Rattle.flat.specs.Words.{line_count};
+ghost use Rattle.flat.specs.Refusal.{known_operation, unknown_operation, lands_inside, jump_outside, holds_right, number_outside};
 
 use super::kinds::{constant_fits, shape_of};
 use check_fields::Bounds;
@@ -15,7 +15,7 @@ use words::table::natural;
 
 // An operation of the table, with constants only where it has atoms.
 fn known_operation(operation: usize) -> bool
-    ensures { result ≡ knownOperation operation }
+    ensures { result ≡ known_operation operation }
 {
     if operation >= 256 {
         return false;
@@ -34,16 +34,16 @@ fn known_operation(operation: usize) -> bool
 
 // Cause 3.
 pub fn is_unknown(list: &[i32], line: usize) -> bool
-    requires { line < lineCount list.now }
-    ensures { result ≡ unknownOperation list.now line }
+    requires { line < line_count list.now }
+    ensures { result ≡ unknown_operation list.now line }
 {
     !known_operation(operation_at(list, line))
 }
 
 // A jump from a line stays inside the list, or goes just past its last line.
 fn lands_inside(list: &[i32], line: usize, distance: i32) -> bool
-    requires { line < lineCount list.now }
-    ensures { result ≡ landsInside line (lineCount list.now) distance }
+    requires { line < line_count list.now }
+    ensures { result ≡ lands_inside line (line_count list.now) distance }
 {
     let far = magnitude(distance);
     if distance < 0 {
@@ -54,8 +54,8 @@ fn lands_inside(list: &[i32], line: usize, distance: i32) -> bool
 
 // Cause 4.
 pub fn is_jump_outside(list: &[i32], line: usize) -> bool
-    requires { line < lineCount list.now }
-    ensures { result ≡ jumpOutside list.now line }
+    requires { line < line_count list.now }
+    ensures { result ≡ jump_outside list.now line }
 {
     let shape = shape_of(operation_kind(operation_at(list, line)));
     let distance = word_at(list, line, 4);
@@ -67,7 +67,7 @@ pub fn is_jump_outside(list: &[i32], line: usize) -> bool
 
 // A word of a line names what it should.
 fn holds_right(bounds: Bounds, holds: Holds, constant: bool, word: i32) -> bool
-    ensures { result ≡ holdsRight bounds holds constant word }
+    ensures { result ≡ holds_right bounds holds constant word }
 {
     let number = natural(word);
     match holds {
@@ -85,8 +85,8 @@ fn holds_right(bounds: Bounds, holds: Holds, constant: bool, word: i32) -> bool
 
 // Cause 6.
 pub fn is_number_outside(bounds: Bounds, list: &[i32], line: usize) -> bool
-    requires { line < lineCount list.now }
-    ensures { result ≡ numberOutside bounds list.now line }
+    requires { line < line_count list.now }
+    ensures { result ≡ number_outside bounds list.now line }
 {
     let operation = operation_at(list, line);
     let shape = shape_of(operation_kind(operation));

@@ -1,13 +1,13 @@
 // The table of kinds: what the words of a line hold.
 ghost use Rattle.std.specs.Prelude.{◌≡◌};
 ghost use Rattle.words.specs.Kinds.{between};
-ghost use Rattle.flat.specs.Refusal.{shape as shapeWith, shape_of, constantFits};
+ghost use Rattle.flat.specs.Refusal.{shape as shape_with, shape_of, constant_fits};
 
 use flat::{Holds, LineShape};
 
 // A shape that is known.
 fn known_shape(target: Holds, left: Holds, right: Holds, jumps: bool) -> LineShape
-    ensures { result ≡ shapeWith target left right jumps }
+    ensures { result ≡ shape_with target left right jumps }
 {
     LineShape {
         known: true,
@@ -66,7 +66,7 @@ pub fn shape_of(kind: usize) -> LineShape
 
 // Only an atom is told to be a constant.
 pub fn constant_fits(constant: bool, holds: Holds) -> bool
-    ensures { result ≡ constantFits constant holds }
+    ensures { result ≡ constant_fits constant holds }
 {
     match holds {
         Holds::Unused => !constant,

@@ -1,12 +1,14 @@
 // The check of flat lists.
+#![tactic(auto)]
+
 pub mod causes; // causes.rt: the causes that one line can break: 3, 4 and 6
 pub mod kinds; // kinds.rt: the table of kinds
 
 ghost use Rattle.std.specs.Prelude.{◌≡◌, ◌%◌, ◌<◌, length};
 ghost use Rattle.words.specs.Search.{lowest};
-ghost use Rattle.flat.specs.Words.{lineCount};
-ghost use Rattle.flat.specs.Refusal.{lineCauses, refusal as refusalOf};
-ghost use Rattle.flat_check.specs.Causes.{breaks as breaksOf};
+ghost use Rattle.flat.specs.Words.{line_count};
+ghost use Rattle.flat.specs.Refusal.{line_causes, refusal as refusal_of};
+ghost use Rattle.flat_check.specs.Causes.{breaks as breaks_of};
 
 use causes::{is_jump_outside, is_number_outside, is_unknown};
 use check_fields::Bounds;
@@ -16,7 +18,7 @@ use words::layout::header_fits;
 use words::{Form, Found, Refusal, Verdict};
 
 // The causes that lie in one line.
-#[derive(Drop)]
+#[derive(Clone, Copy)]
 pub enum LineCause {
     Operation,
     Jump,
@@ -25,8 +27,8 @@ pub enum LineCause {
 
 // Whether a line breaks a cause.
 fn breaks(cause: LineCause, bounds: Bounds, list: &[i32], line: usize) -> bool
-    requires { line < lineCount list.now }
-    ensures { result ≡ breaksOf cause bounds list.now line }
+    requires { line < line_count list.now }
+    ensures { result ≡ breaks_of cause bounds list.now line }
 {
     match cause {
         LineCause::Operation => is_unknown(list, line),
@@ -37,7 +39,7 @@ fn breaks(cause: LineCause, bounds: Bounds, list: &[i32], line: usize) -> bool
 
 // The lowest line that breaks a cause.
 fn lowest_line(cause: LineCause, bounds: Bounds, list: &[i32]) -> Found
-    ensures { result ≡ lowest (breaksOf cause bounds list.now) 0 (lineCount list.now) }
+    ensures { result ≡ lowest (breaks_of cause bounds list.now) 0 (line_count list.now) }
 {
     let count = list.len() / 5;
     let mut line: usize = 0;
@@ -52,7 +54,7 @@ fn lowest_line(cause: LineCause, bounds: Bounds, list: &[i32]) -> Found
 
 // Causes 3, 4 and 6, in order.
 fn line_causes(bounds: Bounds, list: &[i32]) -> Verdict
-    ensures { result ≡ lineCauses bounds list.now }
+    ensures { result ≡ line_causes bounds list.now }
 {
     let unknown = lowest_line(LineCause::Operation, bounds, list);
     if let Found::At(line) = unknown {
@@ -73,7 +75,7 @@ fn line_causes(bounds: Bounds, list: &[i32]) -> Verdict
 
 // The check of a flat list: it accepts the legal lists and no others.
 pub fn check(header: &[i32], list: &[i32]) -> Verdict
-    ensures { result ≡ refusalOf header.now list.now }
+    ensures { result ≡ refusal_of header.now list.now }
 {
     if !header_fits(Form::Kernel, header) {
         return Verdict::Refused(Refusal {

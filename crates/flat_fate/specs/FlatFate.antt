@@ -4,14 +4,14 @@ use Rattle.std.specs.Prelude.{◌≡◌, refl, false, ◌↔◌, List, [], ◌�
 use Rattle.std.proofs.Common.{sym, ◌∙◌, ap, arith, zero-add, suc-add, add-suc}
 use Rattle.words.specs.Layout.{Layout}
 use Rattle.words.specs.declared.Ending.TheVariants.{Plain, Spent, Fault}
-use Rattle.computation.specs.Run.{State, start, stepped, spent, fault, Result, ok, stopped, Limit, steps, rounds, run, final, endingOf, Settled}
-use Rattle.computation.specs.RunLaws.{budget-rounds, rounds-budget}
-use Rattle.computation.specs.Unlimited.{Ends}
+use Rattle.computation.specs.Run.{State, start, stepped, spent, fault, Result, ok, stopped, Limit, steps, rounds, run, final, ending_of, Settled}
+use Rattle.computation.proofs.RunLaws.{budget-rounds, rounds-budget}
+use Rattle.computation.proofs.Unlimited.{Ends}
 use Rattle.language.specs.Trees.{block, Items}
 use Rattle.language.specs.Functions.{plain}
 use Rattle.language.specs.Meaning.{Signal, next, perform, exec}
 use Rattle.language.specs.Program.{Finished}
-use Rattle.translation.specs.KernelForm.{KernelItems, kernel-main}
+use Rattle.translation.specs.KernelForm.{KernelItems, kernel_main}
 use Rattle.accepted.specs.Gives.{Gives}
 use Rattle.accepted_kernel.specs.Jumps.{program-lands}
 use Rattle.flat.specs.Lines.{FlatLine, Next, goes, faults, ends, next_at, stop, follow, run_from}
@@ -61,7 +61,7 @@ module _ (L : Layout) (lines : List FlatLine) (address : ℕ → ℕ) where
   -- ---- what the flat run gives, for what the kernel gave under `rounds c`
 
   pub data FlatGives (c : ℕ) (s : List ℤ) : Result Signal → Type 0 where
-    flat-settled : {r : Result Signal} {count : ℕ} (n : ℕ) → Settled r → ((left : ℕ) → run_from L lines (n + left) 0 0 s ≡ record { ending = endingOf r; count = count; store = (final r).store }) → FlatGives c s r
+    flat-settled : {r : Result Signal} {count : ℕ} (n : ℕ) → Settled r → ((left : ℕ) → run_from L lines (n + left) 0 0 s ≡ record { ending = ending_of r; count = count; store = (final r).store }) → FlatGives c s r
     flat-spent : {τ : State} → ((b : ℕ) → b < c → (run_from L lines b 0 0 s).ending ≡ Spent) → FlatGives c s (stopped spent τ)
 
   flat-gives : {c : ℕ} {s : List ℤ} (r : Result Signal) → Gives (λ signal. signal ≡ next) r → Follows L lines address c 0 s (length lines) r → FlatGives c s r
@@ -86,7 +86,7 @@ module _ (L : Layout) (lines : List FlatLine) (address : ℕ → ℕ) where
     -- under every number of rounds
     pub flat-follows : (c : ℕ) → FlatGives c store (kernel (rounds c))
     unfolding run perform
-    flat-follows c = flat-gives (kernel (rounds c)) (program-lands (plain L) (rounds c) contents (kernel-main form) (start store)) (items-follows L lines address c stands moves-on (stepped (start store)))
+    flat-follows c = flat-gives (kernel (rounds c)) (program-lands (plain L) (rounds c) contents (kernel_main form) (start store)) (items-follows L lines address c stands moves-on (stepped (start store)))
 
     pub record FlatEnds : Type 0 where
       pub budget : ℕ
@@ -96,10 +96,10 @@ module _ (L : Layout) (lines : List FlatLine) (address : ℕ → ℕ) where
       -- "both end or neither does"
       pub end-together : Ends (exec (plain L) (block contents)) (start store) ↔ FlatEnds
       -- "if they end, ending and every store word agree", for any two budgets that are enough
-      pub same-ending : (b d : ℕ) → Settled (kernel (steps b)) → ((flat d).ending ≡ Spent → ⊥) → (flat d).ending ≡ endingOf (kernel (steps b))
+      pub same_ending : (b d : ℕ) → Settled (kernel (steps b)) → ((flat d).ending ≡ Spent → ⊥) → (flat d).ending ≡ ending_of (kernel (steps b))
       pub same_store : (b d : ℕ) → Settled (kernel (steps b)) → ((flat d).ending ≡ Spent → ⊥) → (flat d).store ≡ (final (kernel (steps b))).store
 
-    settled_plain : (r : Result Signal) → Settled r → endingOf r ≡ Spent → ⊥
+    settled_plain : (r : Result Signal) → Settled r → ending_of r ≡ Spent → ⊥
     settled_plain (ok a σ) s e = let z : ◌≡◌ {A = ℕ} 0 1 = cc in omega arith
     settled_plain (stopped spent σ) s e = s
     settled_plain (stopped (fault sort) σ) s e = let z : ◌≡◌ {A = ℕ} 0 1 = cc in omega arith
@@ -113,7 +113,7 @@ module _ (L : Layout) (lines : List FlatLine) (address : ℕ → ℕ) where
     settles (flat-spent k) d h f = absurd (f (k d h))
 
     -- what the flat run gave with d lines it gives with every larger budget
-    agrees : {c : ℕ} {r : Result Signal} → FlatGives c store r → (d : ℕ) → d < c → ((flat d).ending ≡ Spent → ⊥) → ((flat d).ending ≡ endingOf r) × ((flat d).store ≡ (final r).store)
+    agrees : {c : ℕ} {r : Result Signal} → FlatGives c store r → (d : ℕ) → d < c → ((flat d).ending ≡ Spent → ⊥) → ((flat d).ending ≡ ending_of r) × ((flat d).store ≡ (final r).store)
     agrees (flat-settled n s e) d h f =
         let swap : d + n ≡ n + d = omega arith in
         let same = sym (flat-wider d n 0 0 store f) ∙ ap (λ (m : ℕ). flat m) swap ∙ e d in
@@ -133,7 +133,7 @@ module _ (L : Layout) (lines : List FlatLine) (address : ℕ → ℕ) where
         let same = budget-rounds (exec (plain L) (block contents)) (start store) e.budget c (omega arith) e.settled in
         enough (flat-follows c) (rw same e.settled)
 
-    both : (b d : ℕ) → Settled (kernel (steps b)) → ((flat d).ending ≡ Spent → ⊥) → ((flat d).ending ≡ endingOf (kernel (steps b))) × ((flat d).store ≡ (final (kernel (steps b))).store)
+    both : (b d : ℕ) → Settled (kernel (steps b)) → ((flat d).ending ≡ Spent → ⊥) → ((flat d).ending ≡ ending_of (kernel (steps b))) × ((flat d).store ≡ (final (kernel (steps b))).store)
     both b d s f =
         let c = suc (b + d) in
         rw (budget-rounds (exec (plain L) (block contents)) (start store) b c (omega arith) s) at (agrees (flat-follows c) d (omega arith) f)
@@ -142,6 +142,6 @@ module _ (L : Layout) (lines : List FlatLine) (address : ℕ → ℕ) where
     pub flat-fate : FlatFate
     flat-fate = record {
       end-together = (flat-ends, kernel-ends);
-      same-ending = λ b d s f. (both b d s f).0;
+      same_ending = λ b d s f. (both b d s f).0;
       same_store = λ b d s f. (both b d s f).1;
     }

@@ -8,16 +8,16 @@ use Rattle.std.proofs.Math.Bool.{true, false}
 use Rattle.std.proofs.lemmas.Bool.{false≢true}
 use Rattle.std.proofs.Math.Dec.{eqb}
 use Rattle.words.specs.Word.{pick}
-use Rattle.words.specs.Layout.{Layout, arrayBase, arrayLength}
-use Rattle.arithmetic.specs.Arithmetic.{Outcome, value, fault as faulty, isTrue, apply, minus as minusWord, element as elementWord}
+use Rattle.words.specs.Layout.{Layout, array_base, array_length}
+use Rattle.arithmetic.specs.Arithmetic.{Outcome, value, fault as faulty, is_true, apply, minus as minus_word, element as element_word}
 use Rattle.words.specs.declared.FaultSort.{FaultSort}
 use Rattle.computation.specs.Computation.{Turn, again, leave, Computation, ret, ◌>>=◌, ◌>>◌}
 use Rattle.computation.specs.Run.{State, stepped, spent, fault, Result, ok, stopped, rounds, and_then, after_turn, iterate, run}
-use Rattle.language.specs.Trees.{Expression, label, sameMark, Statement, express, block, ifElse, while, Items, ◌then◌, ◌here◌}
+use Rattle.language.specs.Trees.{Expression, label, same_mark, Statement, express, block, if_else, while, Items, ◌then◌, ◌here◌}
 use Rattle.language.specs.Functions.{plain}
-use Rattle.language.specs.Meaning.{Signal, next, seeking, entersStatement, entersMark, enter, evaluate, afterBody, after_test, perform, items}
-use Rattle.flat.specs.Lines.{Operand, number, Operation, stored, fetched, put_at, value_of, FlatLine, does, jump, jumpZero, jumpOther, goes, faults, onward, next_at}
-use Rattle.flat_fate.specs.Stands.{Means, means-number, means-word, Acts, acts-copy, acts-minus, acts-operate, acts-fetch, acts-put, At, Stands, stands-empty, stands-assign, stands-block, stands-neither, stands-yes, stands-no, stands-both, stands-while, stands-endless, stands-goto, stands-abort, StandsItems, stands-none, stands-then, stands-label}
+use Rattle.language.specs.Meaning.{Signal, next, seeking, enters_statement, enters_mark, enter, evaluate, after_body, after_test, perform, items}
+use Rattle.flat.specs.Lines.{Operand, number, Operation, stored, fetched, put_at, value_of, FlatLine, does, jump, jump_zero, jump_other, goes, faults, onward, next_at}
+use Rattle.flat_fate.specs.Stands.{Means, means_number, means_word, Acts, acts_copy, acts_minus, acts_operate, acts_fetch, acts_put, At, Stands, stands-empty, stands-assign, stands-block, stands-neither, stands-yes, stands-no, stands-both, stands-while, stands-endless, stands-goto, stands-abort, StandsItems, stands-none, stands-then, stands-label}
 
 by-outcome : {A G : Type 0} (o : Outcome A) → ((a : A) → o ≡ value a → G) → ((sort : FaultSort) → o ≡ faulty sort → G) → G
 by-outcome (value a) y n = y a refl
@@ -67,35 +67,35 @@ module _ (L : Layout) (lines : List FlatLine) (address : ℕ → ℕ) where
   module _ (c : ℕ) where
     means-run : {e : Expression} {a : Operand} → Means e a → (σ : State) → run (rounds c) (evaluate (plain L) e) σ ≡ ok (value_of a σ.store) σ
     unfolding run evaluate
-    means-run means-number σ = refl
-    means-run means-word σ = refl
+    means-run means_number σ = refl
+    means-run means_word σ = refl
 
     assign-follows : {i : ℕ} {e : Expression} {o : Operation} → Acts e o → At L lines address i (does o) → (σ : State) → Follows c i σ.store (suc i) (run (rounds c) (perform (plain L) (express e)) σ)
     unfolding run perform evaluate
-    assign-follows {i} (acts-copy m) at σ = rw (means-run m) (follows-ok (on (at σ.store) stay) moves-on)
-    assign-follows {i} (acts-minus {i = x} {a = a} m) at σ = rw (means-run m) (by-outcome (minusWord (value_of a σ.store))
+    assign-follows {i} (acts_copy m) at σ = rw (means-run m) (follows-ok (on (at σ.store) stay) moves-on)
+    assign-follows {i} (acts_minus {i = x} {a = a} m) at σ = rw (means-run m) (by-outcome (minus_word (value_of a σ.store))
         (λ v f. rw f (follows-ok (on (at σ.store ∙ ap (λ q. onward i (stored x σ.store q)) f) stay) moves-on))
         (λ sort f. rw f (follows-fault stay (at σ.store ∙ ap (λ q. onward i (stored x σ.store q)) f))))
-    assign-follows {i} (acts-operate {operator} {i = x} {a = a} {b = b} m n) at σ = rw (means-run n, run, means-run m) (by-outcome (apply operator (value_of a σ.store) (value_of b σ.store))
+    assign-follows {i} (acts_operate {operator} {i = x} {a = a} {b = b} m n) at σ = rw (means-run n, run, means-run m) (by-outcome (apply operator (value_of a σ.store) (value_of b σ.store))
         (λ v f. rw f (follows-ok (on (at σ.store ∙ ap (λ q. onward i (stored x σ.store q)) f) stay) moves-on))
         (λ sort f. rw f (follows-fault stay (at σ.store ∙ ap (λ q. onward i (stored x σ.store q)) f))))
-    assign-follows {i} (acts-fetch {i = x} {array} {a = a} m) at σ = rw (means-run m) (by-outcome (elementWord (arrayBase L array) (arrayLength L array) (value_of a σ.store))
+    assign-follows {i} (acts_fetch {i = x} {array} {a = a} m) at σ = rw (means-run m) (by-outcome (element_word (array_base L array) (array_length L array) (value_of a σ.store))
         (λ v f. rw f (follows-ok (on (at σ.store ∙ ap (λ q. onward i (fetched x σ.store q)) f) stay) moves-on))
         (λ sort f. rw f (follows-fault stay (at σ.store ∙ ap (λ q. onward i (fetched x σ.store q)) f))))
-    assign-follows {i} (acts-put {array} {a = a} {b = b} m n) at σ = rw (means-run n, run, means-run m) (by-outcome (elementWord (arrayBase L array) (arrayLength L array) (value_of a σ.store))
+    assign-follows {i} (acts_put {array} {a = a} {b = b} m n) at σ = rw (means-run n, run, means-run m) (by-outcome (element_word (array_base L array) (array_length L array) (value_of a σ.store))
         (λ v f. rw f (follows-ok (on (at σ.store ∙ ap (λ q. onward i (put_at (value_of b σ.store) σ.store q)) f) stay) moves-on))
         (λ sort f. rw f (follows-fault stay (at σ.store ∙ ap (λ q. onward i (put_at (value_of b σ.store) σ.store q)) f))))
 
     -- ---- a list passed over, or met at one of its labels
 
     at-statement : {i j at : ℕ} (s : Statement) {signal : Signal} → ((σ : State) → Follows c i σ.store j (run (rounds c) (perform (plain L) s) σ)) → Moves i signal at
-        → (σ : State) → Follows c at σ.store j (run (rounds c) (pick (entersStatement signal) (enter (perform (plain L) s)) (ret signal)) σ)
+        → (σ : State) → Follows c at σ.store j (run (rounds c) (pick (enters_statement signal) (enter (perform (plain L) s)) (ret signal)) σ)
     unfolding run
     at-statement s h moves-on σ = h (stepped σ)
     at-statement s h moves-to σ = follows-ok stay moves-to
 
-    at_label : {i at : ℕ} (l : ℕ) {signal : Signal} → address l ≡ i → Moves i signal at → (σ : State) → Follows c at σ.store i (run (rounds c) (pick (entersMark signal (label l)) (enter (ret next)) (ret signal)) σ)
-    unfolding run sameMark
+    at_label : {i at : ℕ} (l : ℕ) {signal : Signal} → address l ≡ i → Moves i signal at → (σ : State) → Follows c at σ.store i (run (rounds c) (pick (enters_mark signal (label l)) (enter (ret next)) (ret signal)) σ)
+    unfolding run same_mark
     at_label l e moves-on σ = follows-ok stay moves-on
     at_label {i} l e (moves-to {l = k}) σ = go (eqb k l) refl
       where
@@ -128,7 +128,7 @@ module _ (L : Layout) (lines : List FlatLine) (address : ℕ → ℕ) where
 
     -- after a while's body, whose code ends at line k with a jump back to line i
     body-round : {i at k n : ℕ} {s t : List ℤ} {r : Result Signal} → Reaches i s n at t → At L lines address k (jump i) → Follows c at t k r
-        → Round i s (suc k) (and_then r (λ signal. run (rounds c) (afterBody (ret (pos 0) >> ret again) signal)))
+        → Round i s (suc k) (and_then r (λ signal. run (rounds c) (after_body (ret (pos 0) >> ret again) signal)))
     unfolding run
     body-round p back (follows-ok {τ = τ} q moves-on) = round-again (reaches-last (reaches-trans p q) (back τ.store))
     body-round p back (follows-ok q moves-to) = round-leave (reaches-trans p q) moves-to
@@ -136,10 +136,10 @@ module _ (L : Layout) (lines : List FlatLine) (address : ℕ → ℕ) where
     body-round {n = n} p back (follows-spent {n = m} b q) = round-spent {n = n + m} (omega arith) (reaches-trans p q)
 
     -- a test's line: on to the following line, or to its jump
-    zero-line : {i : ℕ} (j : ℕ) (a : Operand) → At L lines address i (jumpZero a j) → (s : List ℤ) (b : Bool) → isTrue (value_of a s) ≡ b → Reaches i s 1 (pick b (suc i) j) s
+    zero-line : {i : ℕ} (j : ℕ) (a : Operand) → At L lines address i (jump_zero a j) → (s : List ℤ) (b : Bool) → is_true (value_of a s) ≡ b → Reaches i s 1 (pick b (suc i) j) s
     zero-line {i} j a at s b e = on (at s ∙ ap (λ (q : Bool). goes (pick q (suc i) j) s) e) stay
 
-    other-line : {i : ℕ} (j : ℕ) (a : Operand) → At L lines address i (jumpOther a j) → (s : List ℤ) (b : Bool) → isTrue (value_of a s) ≡ b → Reaches i s 1 (pick b j (suc i)) s
+    other-line : {i : ℕ} (j : ℕ) (a : Operand) → At L lines address i (jump_other a j) → (s : List ℤ) (b : Bool) → is_true (value_of a s) ≡ b → Reaches i s 1 (pick b j (suc i)) s
     other-line {i} j a at s b e = on (at s ∙ ap (λ (q : Bool). goes (pick q j (suc i)) s) e) stay
 
     -- a jump behind code that ends at line k
@@ -158,21 +158,21 @@ module _ (L : Layout) (lines : List FlatLine) (address : ℕ → ℕ) where
     chosen-round false m n σ y k = k refl
 
     -- an if: whichever branch is taken, its code is reached, and ends where the if does
-    branches : {i j : ℕ} {e : Expression} (a : Operand) (onTrue onFalse : Items) → Means e a
-        → ((σ : State) → isTrue (value_of a σ.store) ≡ true → Follows c i σ.store j (run (rounds c) (items (plain L) onTrue next) σ))
-        → ((σ : State) → isTrue (value_of a σ.store) ≡ false → Follows c i σ.store j (run (rounds c) (items (plain L) onFalse next) σ))
-        → (σ : State) → Follows c i σ.store j (run (rounds c) (perform (plain L) (ifElse e (block onTrue) (block onFalse))) σ)
+    branches : {i j : ℕ} {e : Expression} (a : Operand) (on_true on_false : Items) → Means e a
+        → ((σ : State) → is_true (value_of a σ.store) ≡ true → Follows c i σ.store j (run (rounds c) (items (plain L) on_true next) σ))
+        → ((σ : State) → is_true (value_of a σ.store) ≡ false → Follows c i σ.store j (run (rounds c) (items (plain L) on_false next) σ))
+        → (σ : State) → Follows c i σ.store j (run (rounds c) (perform (plain L) (if_else e (block on_true) (block on_false))) σ)
     unfolding run perform
-    branches a onTrue onFalse m y n σ = rw (means-run m) (chosen (isTrue (value_of a σ.store)) (enter (items (plain L) onTrue next)) (enter (items (plain L) onFalse next)) (stepped σ) (y (stepped (stepped σ))) (n (stepped (stepped σ))))
+    branches a on_true on_false m y n σ = rw (means-run m) (chosen (is_true (value_of a σ.store)) (enter (items (plain L) on_true next)) (enter (items (plain L) on_false next)) (stepped σ) (y (stepped (stepped σ))) (n (stepped (stepped σ))))
 
     -- a loop: from its first line each round comes back there or leaves
     loops : {i j : ℕ} {e : Expression} (a : Operand) (body : Items) → Means e a
-        → ((σ : State) → isTrue (value_of a σ.store) ≡ true → Round i σ.store j (and_then (run (rounds c) (items (plain L) body next) (stepped σ)) (λ signal. run (rounds c) (afterBody (ret (pos 0) >> ret again) signal))))
-        → ((σ : State) → isTrue (value_of a σ.store) ≡ false → Round i σ.store j (ok (leave next) σ))
+        → ((σ : State) → is_true (value_of a σ.store) ≡ true → Round i σ.store j (and_then (run (rounds c) (items (plain L) body next) (stepped σ)) (λ signal. run (rounds c) (after_body (ret (pos 0) >> ret again) signal))))
+        → ((σ : State) → is_true (value_of a σ.store) ≡ false → Round i σ.store j (ok (leave next) σ))
         → (σ : State) → Follows c i σ.store j (run (rounds c) (perform (plain L) (while e (block body))) σ)
     unfolding run perform
-    loops {i} {j} {e} a body m y n σ = loop-follows (λ τ. run (rounds c) (evaluate (plain L) e >>= λ v. after_test (enter (items (plain L) body next) >>= λ signal. afterBody (ret (pos 0) >> ret again) signal) v) τ)
-        (λ τ. rw (means-run m) (chosen-round (isTrue (value_of a τ.store)) (enter (items (plain L) body next) >>= λ signal. afterBody (ret (pos 0) >> ret again) signal) (ret (leave next)) τ (y τ) (n τ))) c (le_refl c) σ
+    loops {i} {j} {e} a body m y n σ = loop-follows (λ τ. run (rounds c) (evaluate (plain L) e >>= λ v. after_test (enter (items (plain L) body next) >>= λ signal. after_body (ret (pos 0) >> ret again) signal) v) τ)
+        (λ τ. rw (means-run m) (chosen-round (is_true (value_of a τ.store)) (enter (items (plain L) body next) >>= λ signal. after_body (ret (pos 0) >> ret again) signal) (ret (leave next)) τ (y τ) (n τ))) c (le_refl c) σ
 
     mutual
       unfolding run perform items evaluate
@@ -181,17 +181,17 @@ module _ (L : Layout) (lines : List FlatLine) (address : ℕ → ℕ) where
       statement-follows stands-empty σ = follows-ok stay moves-on
       statement-follows (stands-assign a at) σ = assign-follows a at σ
       statement-follows (stands-block is) σ = items-follows is moves-on σ
-      statement-follows (stands-neither {a = a} {onTrue} {onFalse} m y n) σ = branches a onTrue onFalse m (λ τ e. items-follows y moves-on τ) (λ τ e. items-follows n moves-on τ) σ
-      statement-follows (stands-yes {j = j} {a = a} {onTrue} {onFalse} m at y n) σ =
-          branches a onTrue onFalse m (λ τ e. behind (zero-line j a at τ.store true e) (items-follows y moves-on τ)) (λ τ e. behind (zero-line j a at τ.store false e) (items-follows n moves-on τ)) σ
-      statement-follows (stands-no {j = j} {a = a} {onTrue} {onFalse} m at y n) σ =
-          branches a onTrue onFalse m (λ τ e. behind (other-line j a at τ.store true e) (items-follows y moves-on τ)) (λ τ e. behind (other-line j a at τ.store false e) (items-follows n moves-on τ)) σ
-      statement-follows (stands-both {j = j} {k = k} {a = a} {onTrue} {onFalse} m at y skip n) σ =
-          branches a onTrue onFalse m (λ τ e. behind (zero-line (suc k) a at τ.store true e) (jump-behind j k skip (items-follows y moves-on τ))) (λ τ e. behind (zero-line (suc k) a at τ.store false e) (items-follows n moves-on τ)) σ
+      statement-follows (stands-neither {a = a} {on_true} {on_false} m y n) σ = branches a on_true on_false m (λ τ e. items-follows y moves-on τ) (λ τ e. items-follows n moves-on τ) σ
+      statement-follows (stands-yes {j = j} {a = a} {on_true} {on_false} m at y n) σ =
+          branches a on_true on_false m (λ τ e. behind (zero-line j a at τ.store true e) (items-follows y moves-on τ)) (λ τ e. behind (zero-line j a at τ.store false e) (items-follows n moves-on τ)) σ
+      statement-follows (stands-no {j = j} {a = a} {on_true} {on_false} m at y n) σ =
+          branches a on_true on_false m (λ τ e. behind (other-line j a at τ.store true e) (items-follows y moves-on τ)) (λ τ e. behind (other-line j a at τ.store false e) (items-follows n moves-on τ)) σ
+      statement-follows (stands-both {j = j} {k = k} {a = a} {on_true} {on_false} m at y skip n) σ =
+          branches a on_true on_false m (λ τ e. behind (zero-line (suc k) a at τ.store true e) (jump-behind j k skip (items-follows y moves-on τ))) (λ τ e. behind (zero-line (suc k) a at τ.store false e) (items-follows n moves-on τ)) σ
       statement-follows (stands-while {k = k} {a = a} {body} m at b back) σ =
           loops a body m (λ τ e. body-round (zero-line (suc k) a at τ.store true e) back (items-follows b moves-on (stepped τ))) (λ τ e. round-leave (zero-line (suc k) a at τ.store false e) moves-on) σ
       statement-follows (stands-endless {v = v} {body} t b back) σ =
-          loops (number v) body means-number (λ τ e. body-round stay back (items-follows b moves-on (stepped τ))) (λ τ e. absurd (false≢true (sym e ∙ t))) σ
+          loops (number v) body means_number (λ τ e. body-round stay back (items-follows b moves-on (stepped τ))) (λ τ e. absurd (false≢true (sym e ∙ t))) σ
       statement-follows (stands-goto at) σ = follows-ok (on (at σ.store) stay) moves-to
       statement-follows (stands-abort at) σ = follows-fault stay (at σ.store)
 

@@ -5,13 +5,13 @@ use Rattle.std.proofs.lemmas.List.Edits.{sets}
 use Rattle.std.specs.Int.{w32}
 use Rattle.std.proofs.Math.Facts.{to_z_pos}
 use Rattle.flat.specs.Lines.{Operand}
-use Rattle.flat.specs.Words.{Parts, parts, unused, sortOf, word_of, fiveWords, distance}
+use Rattle.flat.specs.Words.{Parts, parts, unused, sort_of, word_of, five_words, distance}
 use Rattle.flat_rows.specs.Operations.{test-five, plain-five}
-use Rattle.flat_rows.specs.Written.{putLine}
+use Rattle.flat_rows.proofs.Written.{put_line}
 
 -- Five words stored are a line put.
-pub put_as : (out after : List ℤ) (line : ℕ) (ws : List ℤ) (p : Parts) → after ≡ sets out (5 * line) ws → ws ≡ fiveWords p → after ≡ putLine line p out
-unfolding putLine
+pub put_as : (out after : List ℤ) (line : ℕ) (ws : List ℤ) (p : Parts) → after ≡ sets out (5 * line) ws → ws ≡ five_words p → after ≡ put_line line p out
+unfolding put_line
 put_as out after line ws p e f = e ∙ ap (sets out (5 * line)) f
 
 pub five-stored : (l : List ℤ) (k : ℕ) (a b c d e f g h i j : ℤ) → a ≡ f → b ≡ g → c ≡ h → d ≡ i → e ≡ j
@@ -41,8 +41,8 @@ back_is n h = rw (to_z_pos w32 {n = n} (omega arith)) (minus_one n)
 pub back_fits : (n : ℕ) → n < 65536 → SFits w32 (negsuc 0 -ℤ to_z w32 n)
 back_fits n h = rw (back_is n h) (record { sfits = omega arith })
 
-pub plain-as : (out after : List ℤ) (line kind : ℕ) (d e : ℤ) → after ≡ sets out (5 * line) (pos kind ∷ pos 0 ∷ pos 0 ∷ pos 0 ∷ d ∷ []) → d ≡ e → after ≡ putLine line (parts kind 0 unused unused e) out
+pub plain-as : (out after : List ℤ) (line kind : ℕ) (d e : ℤ) → after ≡ sets out (5 * line) (pos kind ∷ pos 0 ∷ pos 0 ∷ pos 0 ∷ d ∷ []) → d ≡ e → after ≡ put_line line (parts kind 0 unused unused e) out
 plain-as out after line kind d e f g = put_as out after line (pos kind ∷ pos 0 ∷ pos 0 ∷ pos 0 ∷ d ∷ []) (parts kind 0 unused unused e) f (rw g (plain-five kind e))
 
-pub test-as : (out after : List ℤ) (line kind x : ℕ) (a : Operand) (w d e : ℤ) → after ≡ sets out (5 * line) (pos (kind + 64 * x) ∷ pos 0 ∷ w ∷ pos 0 ∷ d ∷ []) → x ≡ sortOf a → w ≡ word_of a → d ≡ e → after ≡ putLine line (parts kind 0 a unused e) out
+pub test-as : (out after : List ℤ) (line kind x : ℕ) (a : Operand) (w d e : ℤ) → after ≡ sets out (5 * line) (pos (kind + 64 * x) ∷ pos 0 ∷ w ∷ pos 0 ∷ d ∷ []) → x ≡ sort_of a → w ≡ word_of a → d ≡ e → after ≡ put_line line (parts kind 0 a unused e) out
 test-as out after line kind x a w d e f g h i = put_as out after line (pos (kind + 64 * x) ∷ pos 0 ∷ w ∷ pos 0 ∷ d ∷ []) (parts kind 0 a unused e) f (rw i (test-five kind x a w e g h))

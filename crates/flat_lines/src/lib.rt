@@ -1,4 +1,6 @@
 // The lines of the flat list, written row by row: each row's own lines, at the row's line, into a lent list.
+#![tactic(auto)]
+
 pub mod lines; // lines.rt: five words, a test and a jump
 pub mod operations; // operations.rt: the line of an assignment
 pub mod rows; // rows.rt: the lines of a row, and of all rows

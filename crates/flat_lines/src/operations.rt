@@ -1,12 +1,12 @@
 // The line of an assignment, read from its rows.
 ghost use Rattle.std.specs.Prelude.{◌≡◌, true, ◌+◌, ◌*◌, ◌≤◌, ◌<◌, length};
-ghost use Rattle.words.specs.Table.{rowCount, number_at};
-ghost use Rattle.language.specs.Decode.{expressionAt};
-ghost use Rattle.check_kernel_statements.specs.Statements.{isAtom, fitsVariable, isAssignment};
-ghost use Rattle.flat_kernel_rows.specs.Rows.{KernelTable};
-ghost use Rattle.flat.specs.Words.{operationParts};
-ghost use Rattle.flat_fate.specs.Code.{assigned, operationOf};
-ghost use Rattle.flat_rows.specs.Written.{putLine};
+ghost use Rattle.words.specs.Table.{row_count, number_at};
+ghost use Rattle.language.specs.Decode.{expression_at};
+ghost use Rattle.check_kernel_statements.specs.Statements.{is_atom, fits_variable, is_assignment};
+ghost use Rattle.flat_kernel_rows.proofs.Rows.{KernelTable};
+ghost use Rattle.flat.specs.Words.{operation_parts};
+ghost use Rattle.flat_fate.specs.Code.{assigned, operation_of};
+ghost use Rattle.flat_rows.proofs.Written.{put_line};
 ghost use Rattle.flat_lines.specs.Lent.{Assigning};
 
 use super::lines::{atom_sort, put_line};
@@ -14,8 +14,8 @@ use words::table::{number_at, word_at};
 
 // An atom is copied to the variable `target`.
 fn put_copy(out: &mut [i32], rows: &[i32], line: usize, target: usize, value: usize)
-    requires { Assigning rows.now value line target out.old × (isAtom rows.now value ≡ true) }
-    ensures { out.new ≡ putLine line (operationParts (assigned target (expressionAt rows.now value))) out.old }
+    requires { Assigning rows.now value line target out.old × (is_atom rows.now value ≡ true) }
+    ensures { out.new ≡ put_line line (operation_parts (assigned target (expression_at rows.now value))) out.old }
 {
     let sort = atom_sort(rows, value);
     let word = word_at(rows, value, 1);
@@ -24,8 +24,8 @@ fn put_copy(out: &mut [i32], rows: &[i32], line: usize, target: usize, value: us
 
 // An element is read into the variable.
 fn put_fetch(out: &mut [i32], rows: &[i32], line: usize, target: usize, value: usize)
-    requires { Assigning rows.now value line target out.old × (number_at rows.now value 0 ≡ 3) × (isAtom rows.now (number_at rows.now value 2) ≡ true) }
-    ensures { out.new ≡ putLine line (operationParts (assigned target (expressionAt rows.now value))) out.old }
+    requires { Assigning rows.now value line target out.old × (number_at rows.now value 0 ≡ 3) × (is_atom rows.now (number_at rows.now value 2) ≡ true) }
+    ensures { out.new ≡ put_line line (operation_parts (assigned target (expression_at rows.now value))) out.old }
 {
     let index = number_at(rows, value, 2);
     let sort = atom_sort(rows, index);
@@ -36,8 +36,8 @@ fn put_fetch(out: &mut [i32], rows: &[i32], line: usize, target: usize, value: u
 
 // Minus an atom.
 fn put_minus(out: &mut [i32], rows: &[i32], line: usize, target: usize, value: usize)
-    requires { Assigning rows.now value line target out.old × (number_at rows.now value 0 ≡ 4) × (isAtom rows.now (number_at rows.now value 1) ≡ true) }
-    ensures { out.new ≡ putLine line (operationParts (assigned target (expressionAt rows.now value))) out.old }
+    requires { Assigning rows.now value line target out.old × (number_at rows.now value 0 ≡ 4) × (is_atom rows.now (number_at rows.now value 1) ≡ true) }
+    ensures { out.new ≡ put_line line (operation_parts (assigned target (expression_at rows.now value))) out.old }
 {
     let operand = number_at(rows, value, 1);
     let sort = atom_sort(rows, operand);
@@ -47,8 +47,8 @@ fn put_minus(out: &mut [i32], rows: &[i32], line: usize, target: usize, value: u
 
 // An operation on two atoms.
 fn put_binary(out: &mut [i32], rows: &[i32], line: usize, target: usize, value: usize)
-    requires { Assigning rows.now value line target out.old × (6 ≤ number_at rows.now value 0) × (number_at rows.now value 0 ≤ 16) × (isAtom rows.now (number_at rows.now value 1) ≡ true) × (isAtom rows.now (number_at rows.now value 2) ≡ true) }
-    ensures { out.new ≡ putLine line (operationParts (assigned target (expressionAt rows.now value))) out.old }
+    requires { Assigning rows.now value line target out.old × (6 ≤ number_at rows.now value 0) × (number_at rows.now value 0 ≤ 16) × (is_atom rows.now (number_at rows.now value 1) ≡ true) × (is_atom rows.now (number_at rows.now value 2) ≡ true) }
+    ensures { out.new ≡ put_line line (operation_parts (assigned target (expression_at rows.now value))) out.old }
 {
     let kind = number_at(rows, value, 0);
     let a = number_at(rows, value, 1);
@@ -70,8 +70,8 @@ fn put_binary(out: &mut [i32], rows: &[i32], line: usize, target: usize, value: 
 
 // What is assigned to the variable, by its kind.
 fn put_value(out: &mut [i32], rows: &[i32], line: usize, target: usize, value: usize)
-    requires { Assigning rows.now value line target out.old × (fitsVariable rows.now value ≡ true) }
-    ensures { out.new ≡ putLine line (operationParts (assigned target (expressionAt rows.now value))) out.old }
+    requires { Assigning rows.now value line target out.old × (fits_variable rows.now value ≡ true) }
+    ensures { out.new ≡ put_line line (operation_parts (assigned target (expression_at rows.now value))) out.old }
 {
     let kind = number_at(rows, value, 0);
     if kind < 3 {
@@ -91,8 +91,8 @@ fn put_value(out: &mut [i32], rows: &[i32], line: usize, target: usize, value: u
 
 // An atom is assigned to an element with an atom index.
 fn put_store(out: &mut [i32], rows: &[i32], line: usize, assignment: usize)
-    requires { KernelTable rows.now × (assignment < rowCount rows.now) × (isAssignment rows.now assignment ≡ true) × (number_at rows.now (number_at rows.now assignment 1) 0 ≡ 2 → ⊥) × (5 * line + 5 ≤ length out.old) }
-    ensures { out.new ≡ putLine line (operationParts (operationOf (expressionAt rows.now assignment))) out.old }
+    requires { KernelTable rows.now × (assignment < row_count rows.now) × (is_assignment rows.now assignment ≡ true) × (number_at rows.now (number_at rows.now assignment 1) 0 ≡ 2 → ⊥) × (5 * line + 5 ≤ length out.old) }
+    ensures { out.new ≡ put_line line (operation_parts (operation_of (expression_at rows.now assignment))) out.old }
 {
     let place = number_at(rows, assignment, 1);
     let value = number_at(rows, assignment, 2);
@@ -115,8 +115,8 @@ fn put_store(out: &mut [i32], rows: &[i32], line: usize, assignment: usize)
 
 // The line of an assignment.
 pub fn put_assignment(out: &mut [i32], rows: &[i32], line: usize, assignment: usize)
-    requires { KernelTable rows.now × (assignment < rowCount rows.now) × (isAssignment rows.now assignment ≡ true) × (5 * line + 5 ≤ length out.old) }
-    ensures { out.new ≡ putLine line (operationParts (operationOf (expressionAt rows.now assignment))) out.old }
+    requires { KernelTable rows.now × (assignment < row_count rows.now) × (is_assignment rows.now assignment ≡ true) × (5 * line + 5 ≤ length out.old) }
+    ensures { out.new ≡ put_line line (operation_parts (operation_of (expression_at rows.now assignment))) out.old }
 {
     let place = number_at(rows, assignment, 1);
     if number_at(rows, place, 0) == 2 {

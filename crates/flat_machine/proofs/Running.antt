@@ -8,9 +8,9 @@ use Rattle.words.specs.Layout.{Layout}
 use Rattle.words.specs.declared.FaultSort.{FaultSort}
 use Rattle.words.specs.declared.Ending.TheVariants.{Plain, Spent, Fault}
 use Rattle.language.specs.Program.{Finished}
-use Rattle.flat.specs.Lines.{FlatLine, does, jump, jumpZero, jumpOther, abort, Next, goes, faults, ends, onward, effect, next_of, next_at, stop, follow, run_from}
+use Rattle.flat.specs.Lines.{FlatLine, does, jump, jump_zero, jump_other, abort, Next, goes, faults, ends, onward, effect, next_of, next_at, stop, follow, run_from}
 use Rattle.arithmetic.specs.Arithmetic.{Outcome, value, fault}
-use Rattle.flat.specs.Words.{lineCount, line_at, lines_from, lines_of}
+use Rattle.flat.specs.Words.{line_count, line_at, lines_from, lines_of}
 use Rattle.flat_steps.specs.Steps.{Makes}
 use Rattle.flat_steps.specs.declared.Step.{Step}
 use Rattle.flat_steps.specs.declared.Step.TheVariants.{At, Fails}
@@ -28,13 +28,13 @@ module _ (L : Layout) (list : List ℤ) where
   end-from i (suc n) zero j s h = absurd (omega arith)
   end-from i (suc n) (suc k) j s h = end-from (suc i) n k j s (omega arith)
 
-  next-line : (line : ℕ) (s : List ℤ) → line < lineCount list → next_at L (lines_of list) line line s ≡ next_of L (line_at list line) line s
+  next-line : (line : ℕ) (s : List ℤ) → line < line_count list → next_at L (lines_of list) line line s ≡ next_of L (line_at list line) line s
   unfolding lines_of
-  next-line line s h = let e : 0 + line ≡ line = omega arith in next-from 0 (lineCount list) line line s h ∙ ap (λ (x : ℕ). next_of L (line_at list x) line s) e
+  next-line line s h = let e : 0 + line ≡ line = omega arith in next-from 0 (line_count list) line line s h ∙ ap (λ (x : ℕ). next_of L (line_at list x) line s) e
 
-  next-end : (line : ℕ) (s : List ℤ) → lineCount list ≤ line → next_at L (lines_of list) line line s ≡ ends
+  next-end : (line : ℕ) (s : List ℤ) → line_count list ≤ line → next_at L (lines_of list) line line s ≡ ends
   unfolding lines_of
-  next-end line s h = end-from 0 (lineCount list) line line s h
+  next-end line s h = end-from 0 (line_count list) line line s h
 
   -- a line is never the end
   onward_stops : (count i : ℕ) (s : List ℤ) (o : Outcome (List ℤ)) → stop count s (onward i o) ≡ record { ending = Spent; count = count; store = s }
@@ -44,8 +44,8 @@ module _ (L : Layout) (list : List ℤ) where
   line-stops : (count i : ℕ) (s : List ℤ) (x : FlatLine) → stop count s (next_of L x i s) ≡ record { ending = Spent; count = count; store = s }
   line-stops count i s (does o) = onward_stops count i s (effect L o s)
   line-stops count i s (jump j) = refl
-  line-stops count i s (jumpZero a j) = refl
-  line-stops count i s (jumpOther a j) = refl
+  line-stops count i s (jump_zero a j) = refl
+  line-stops count i s (jump_other a j) = refl
   line-stops count i s abort = refl
 
   -- The loop stands at a line with so many left: from there the run gives the whole run.
@@ -55,7 +55,7 @@ module _ (L : Layout) (list : List ℤ) where
 
   module _ {budget left line : ℕ} {s : List ℤ} {whole : Finished} (r : Runs budget left line s whole) where
     -- the end
-    pub runs-end : lineCount list ≤ line → record { ending = Plain; count = budget - left; store = s } ≡ whole
+    pub runs-end : line_count list ≤ line → record { ending = Plain; count = budget - left; store = s } ≡ whole
     runs-end h = sym (by left) ∙ r.same
       where
         by : (n : ℕ) → run_from L (lines_of list) n (budget - left) line s ≡ record { ending = Plain; count = budget - left; store = s }
@@ -63,13 +63,13 @@ module _ (L : Layout) (list : List ℤ) where
         by (suc n) = ap (follow (λ j t. run_from L (lines_of list) n (suc (budget - left)) j t) (budget - left) s) (next-end line s h)
 
     -- no line is left in the budget
-    pub runs-spent : line < lineCount list → left ≡ 0 → record { ending = Spent; count = budget; store = s } ≡ whole
+    pub runs-spent : line < line_count list → left ≡ 0 → record { ending = Spent; count = budget; store = s } ≡ whole
     runs-spent h e =
         let count : budget - left ≡ budget = omega arith in
         sym (line-stops budget line s (line_at list line)) ∙ ap (stop budget s) (sym (next-line line s h)) ∙ ap (λ (k : ℕ). run_from L (lines_of list) zero k line s) (sym count)
         ∙ ap (λ (n : ℕ). run_from L (lines_of list) n (budget - left) line s) (sym e) ∙ r.same
 
-    module _ (h : line < lineCount list) (some : 0 < left) where
+    module _ (h : line < line_count list) (some : 0 < left) where
       next-step : follow (λ j t. run_from L (lines_of list) (left - 1) (budget - (left - 1)) j t) (budget - left) s (next_of L (line_at list line) line s) ≡ whole
       next-step =
           let one : suc (left - 1) ≡ left = omega arith in

@@ -1,2 +1,4 @@
 // The machine of flat lists.
+#![tactic(auto)]
+
 pub mod whole; // whole.rt: the run of a list

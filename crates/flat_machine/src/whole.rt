@@ -1,15 +1,15 @@
 // The run of a list.
 ghost use Rattle.std.specs.Prelude.{◌≡◌, map, length};
-ghost use Rattle.words.specs.Word.{natural as naturalOf};
-ghost use Rattle.words.specs.Layout.{headerStore};
+ghost use Rattle.words.specs.Word.{natural as natural_of};
+ghost use Rattle.words.specs.Layout.{header_store};
 ghost use Rattle.words.specs.declared.Form.TheVariants.{Kernel};
 ghost use Rattle.words.specs.declared.Verdict.TheVariants.{Accepted};
-ghost use Rattle.machine_operations.specs.Bounds.{boundsFrom, layoutFrom};
-ghost use Rattle.machine.specs.Whole.{finishedOf};
+ghost use Rattle.machine_operations.specs.Bounds.{bounds_from, layout_from};
+ghost use Rattle.machine.specs.Whole.{finished_of};
 ghost use Rattle.flat.specs.Lines.{run_from};
 ghost use Rattle.flat.specs.Words.{lines_of};
-ghost use Rattle.flat.specs.Refusal.{refusal as refusalOf};
-ghost use Rattle.flat.specs.Results.{runList, answerAndStore, flatAfter, flatResult};
+ghost use Rattle.flat.specs.Refusal.{refusal as refusal_of};
+ghost use Rattle.flat.specs.Results.{run_list, answer_and_store, flat_after, flat_result};
 ghost use Rattle.flat_steps.specs.Steps.{Setting};
 ghost use Rattle.flat_machine.specs.Whole.{Startable};
 
@@ -24,7 +24,7 @@ use words::{Ending, Form, Refusal, RunAnswer, RunVerdict, Verdict};
 // The lines from line 0 on, until the end, a fault, or a line more than the budget.
 fn run_lines(list: &[i32], bounds: &[usize], store: &mut [i32], budget: u32) -> RunAnswer
     requires { Setting bounds.now list.now (length store.old) }
-    ensures { finishedOf result store.new ≡ run_from (layoutFrom bounds.now) (lines_of list.now) budget 0 0 store.old }
+    ensures { finished_of result store.new ≡ run_from (layout_from bounds.now) (lines_of list.now) budget 0 0 store.old }
 {
     let lines = list.len() / 5;
     let mut left = budget;
@@ -66,7 +66,7 @@ fn start(
     budget: u32,
 ) -> RunAnswer
     requires { Startable lengths.now variables bounds.old list.now (length store.old) }
-    ensures { finishedOf result store.new ≡ run_from (layoutFrom (boundsFrom variables (map naturalOf lengths.now))) (lines_of list.now) budget 0 0 store.old }
+    ensures { finished_of result store.new ≡ run_from (layout_from (bounds_from variables (map natural_of lengths.now))) (lines_of list.now) budget 0 0 store.old }
 {
     fill_bounds(lengths, variables, bounds);
     run_lines(list, &*bounds, store, budget)
@@ -74,9 +74,9 @@ fn start(
 
 // Runs an accepted list on a store of its size, for a caller that has the check's answer: nothing is tested again.
 pub fn run_accepted(header: &[i32], list: &[i32], store: &mut [i32], budget: u32) -> RunAnswer
-    requires list_value { refusalOf header.now list.now ≡ Accepted }
-    requires store_len { length store.old ≡ headerStore Kernel header.now }
-    ensures { finishedOf result store.new ≡ runList header.now list.now budget store.old }
+    requires list_value { refusal_of header.now list.now ≡ Accepted }
+    requires store_len { length store.old ≡ header_store Kernel header.now }
+    ensures { finished_of result store.new ≡ run_list header.now list.now budget store.old }
 {
     let first = leading(Form::Kernel);
     let n = header.len() - first + 1;
@@ -93,8 +93,8 @@ pub fn run_accepted(header: &[i32], list: &[i32], store: &mut [i32], budget: u32
 
 // An accepted list on a store of any size: cause 11, then the run.
 fn run_on_store(header: &[i32], list: &[i32], store: &mut [i32], budget: u32) -> RunVerdict
-    requires { refusalOf header.now list.now ≡ Accepted }
-    ensures { answerAndStore result store.new ≡ flatAfter Accepted header.now list.now budget store.old }
+    requires { refusal_of header.now list.now ≡ Accepted }
+    ensures { answer_and_store result store.new ≡ flat_after Accepted header.now list.now budget store.old }
 {
     if store.len() != header_store(Form::Kernel, header) {
         return RunVerdict::Refused(Refusal {
@@ -107,7 +107,7 @@ fn run_on_store(header: &[i32], list: &[i32], store: &mut [i32], budget: u32) ->
 
 // Runs a flat list on the store, "budget counted in lines".
 pub fn flat_run(header: &[i32], list: &[i32], store: &mut [i32], budget: u32) -> RunVerdict
-    ensures { answerAndStore result store.new ≡ flatResult header.now list.now budget store.old }
+    ensures { answer_and_store result store.new ≡ flat_result header.now list.now budget store.old }
 {
     let verdict = check(header, list);
     match verdict {

@@ -4,28 +4,28 @@ use Rattle.std.specs.Prelude.{Bool, true, false, List, [], ◌∷◌, ℕ, zero,
 use Rattle.words.specs.Word.{pick}
 use Rattle.words.specs.Table.{number_at}
 use Rattle.words.specs.Links.{note}
-use Rattle.language.specs.Decode.{expressionAt, statementAt, listAt}
+use Rattle.language.specs.Decode.{expression_at, statement_at, list_at}
 use Rattle.language.specs.Program.{contents}
-use Rattle.flat.specs.Lines.{Operand, FlatLine, does, jump, jumpZero, jumpOther, abort}
-use Rattle.flat_fate.specs.Code.{operandOf, operationOf, always, statementLines, itemsLines}
-use Rattle.flat_fate.specs.CodeStands.{first_at, secondAt, body_at}
-use Rattle.flat_fate.specs.Addresses.{addressIn}
+use Rattle.flat.specs.Lines.{Operand, FlatLine, does, jump, jump_zero, jump_other, abort}
+use Rattle.flat_fate.specs.Code.{operand_of, operation_of, always, statement_lines, items_lines}
+use Rattle.flat_fate.proofs.CodeStands.{first_at, second_at, body_at}
+use Rattle.flat_fate.proofs.Addresses.{address_in}
 
 -- The lines of the list that begins at a row; 0 is no list.
-unfoldable pub listLines : List ℤ → ℕ → ℕ
-listLines rows row = itemsLines (listAt rows row)
+unfoldable pub list_lines : List ℤ → ℕ → ℕ
+list_lines rows row = items_lines (list_at rows row)
 
 -- The test of an if or a while.
 abbrev pub test_of : List ℤ → ℕ → Operand
-test_of rows row = operandOf (expressionAt rows (number_at rows row 1))
+test_of rows row = operand_of (expression_at rows (number_at rows row 1))
 
 -- What a row at this line hands to the row that its field links: the line of that row.
 unfoldable pub handed : List ℤ → ℕ → ℕ → ℕ → ℕ
 handed rows row field line =
-    let p = listLines rows (number_at rows row 2) in
-    let q = listLines rows (number_at rows row 3) in
-    pick (eqb field 5) (line + statementLines (statementAt rows row))
-    (pick (eqb (number_at rows row 0) 43) (pick (eqb field 2) (first_at p q line) (secondAt p q line))
+    let p = list_lines rows (number_at rows row 2) in
+    let q = list_lines rows (number_at rows row 3) in
+    pick (eqb field 5) (line + statement_lines (statement_at rows row))
+    (pick (eqb (number_at rows row 0) 43) (pick (eqb field 2) (first_at p q line) (second_at p q line))
     (pick (eqb (number_at rows row 0) 44) (body_at (always (test_of rows row)) line) line))
 
 unfoldable pub line_of : List ℤ → ℕ → ℕ
@@ -33,26 +33,26 @@ line_of rows row = note (handed rows) 0 rows row
 
 -- ---- the lines that are a row's own, each with its place
 
-abbrev pub ifOwn : Operand → ℕ → ℕ → ℕ → List (ℕ × FlatLine)
-ifOwn a zero zero i = []
-ifOwn a zero (suc q) i = (i, jumpOther a (i + (1 + suc q))) ∷ []
-ifOwn a (suc p) zero i = (i, jumpZero a (i + (1 + suc p))) ∷ []
-ifOwn a (suc p) (suc q) i = (i, jumpZero a (i + (2 + suc p))) ∷ (i + 1 + suc p, jump (i + (2 + (suc p + suc q)))) ∷ []
+abbrev pub if_own : Operand → ℕ → ℕ → ℕ → List (ℕ × FlatLine)
+if_own a zero zero i = []
+if_own a zero (suc q) i = (i, jump_other a (i + (1 + suc q))) ∷ []
+if_own a (suc p) zero i = (i, jump_zero a (i + (1 + suc p))) ∷ []
+if_own a (suc p) (suc q) i = (i, jump_zero a (i + (2 + suc p))) ∷ (i + 1 + suc p, jump (i + (2 + (suc p + suc q)))) ∷ []
 
-abbrev pub whileOwn : Bool → Operand → ℕ → ℕ → List (ℕ × FlatLine)
-whileOwn true a p i = (i + p, jump i) ∷ []
-whileOwn false a p i = (i, jumpZero a (i + (p + 2))) ∷ (i + 1 + p, jump i) ∷ []
+abbrev pub while_own : Bool → Operand → ℕ → ℕ → List (ℕ × FlatLine)
+while_own true a p i = (i + p, jump i) ∷ []
+while_own false a p i = (i, jump_zero a (i + (p + 2))) ∷ (i + 1 + p, jump i) ∷ []
 
-unfoldable pub ownLines : List ℤ → ℕ → List (ℕ × FlatLine)
-ownLines rows row =
+unfoldable pub own_lines : List ℤ → ℕ → List (ℕ × FlatLine)
+own_lines rows row =
     let kind = number_at rows row 0 in
     let line = line_of rows row in
-    let p = listLines rows (number_at rows row 2) in
-    let q = listLines rows (number_at rows row 3) in
-    pick (eqb kind 41) ((line, does (operationOf (expressionAt rows (number_at rows row 1)))) ∷ [])
-    (pick (eqb kind 43) (ifOwn (test_of rows row) p q line)
-    (pick (eqb kind 44) (whileOwn (always (test_of rows row)) (test_of rows row) p line)
-    (pick (eqb kind 52) ((line, jump (addressIn (contents rows) (number_at rows row 1))) ∷ [])
+    let p = list_lines rows (number_at rows row 2) in
+    let q = list_lines rows (number_at rows row 3) in
+    pick (eqb kind 41) ((line, does (operation_of (expression_at rows (number_at rows row 1)))) ∷ [])
+    (pick (eqb kind 43) (if_own (test_of rows row) p q line)
+    (pick (eqb kind 44) (while_own (always (test_of rows row)) (test_of rows row) p line)
+    (pick (eqb kind 52) ((line, jump (address_in (contents rows) (number_at rows row 1))) ∷ [])
     (pick (eqb kind 57) ((line, abort) ∷ []) []))))
 
 -- Something holds of each place and line.

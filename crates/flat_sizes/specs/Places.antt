@@ -6,10 +6,10 @@ use Rattle.std.proofs.Math.Decide.{ℕ_discrete}
 use Rattle.std.proofs.Math.Arith.{lt_of_le-ne}
 use Rattle.words.specs.Word.{pick}
 use Rattle.words.specs.SearchLaws.{from_on}
-use Rattle.words.specs.Table.{rowCount, number_at}
-use Rattle.words.specs.Links.{isStatement, link}
+use Rattle.words.specs.Table.{row_count, number_at}
+use Rattle.words.specs.Links.{is_statement, link}
 use Rattle.words.specs.declared.Form.TheVariants.{Kernel}
-use Rattle.language.specs.Decode.{expressionAt, statementAt}
+use Rattle.language.specs.Decode.{expression_at, statement_at}
 use Rattle.language.specs.Program.{contents}
 use Rattle.check_fields.specs.Fields.{bounds_of}
 use Rattle.check_structure.specs.Structured.{Leads, Tree}
@@ -18,12 +18,12 @@ use Rattle.check_grammar.specs.GrammarLaws.{kind-links-none}
 use Rattle.check_structure.specs.LinkLaws.{owner_of}
 use Rattle.check_structure.specs.NoteLaws.{above_zero}
 use Rattle.check_kernel.specs.Accepts.{structured-labels}
-use Rattle.flat_kernel_rows.specs.Rows.{KernelTable, Lone, Listed, BlockRow, StatementLink, next-item, first-item, true-branch, false-branch, loop-body, statement-link, next-at, block_at, if-of, while-of, linking-statement, statement-number, mayLink, none-linked}
-use Rattle.flat_fate.specs.Code.{operandOf, always, statementLines}
-use Rattle.flat_fate.specs.CodeStands.{first_at, secondAt, body_at}
-use Rattle.flat_fate.specs.Addresses.{addressIn}
-use Rattle.flat_rows.specs.Places.{listLines, test_of, handed, line_of}
-use Rattle.flat_rows.specs.Standing.{line-root, line-link, label-address}
+use Rattle.flat_kernel_rows.proofs.Rows.{KernelTable, Lone, Listed, BlockRow, StatementLink, next-item, first-item, true_branch, false_branch, loop_body, statement-link, next-at, block_at, if-of, while-of, linking-statement, statement-number, may_link, none-linked}
+use Rattle.flat_fate.specs.Code.{operand_of, always, statement_lines}
+use Rattle.flat_fate.proofs.CodeStands.{first_at, second_at, body_at}
+use Rattle.flat_fate.proofs.Addresses.{address_in}
+use Rattle.flat_rows.specs.Places.{list_lines, test_of, handed, line_of}
+use Rattle.flat_rows.proofs.Standing.{line-root, line-link, label-address}
 use Rattle.flat_sizes.specs.Tables.{slot, Sized, Right, Handed, LinesPlaced, Keeps, PartsPlaced, NextPlaced, Labelled, stored}
 use Rattle.flat_sizes.specs.Sizes.{block_room, next-room, true-room, false-room, body-room, true-answer, false-answer, line-few, sized-later}
 
@@ -57,7 +57,7 @@ module _ {rows : List ℤ} (table : KernelTable rows) where
   stored-right lines zero line h p e = absurd (omega arith)
   stored-right lines (suc l) line h p e = rw (ne_eqb (suc l) 0 (λ (q : suc l ≡ 0). omega arith)) (get_or-set_same lines (suc l) line 0 h ∙ e)
 
-  module _ {row : ℕ} (n : row < rowCount rows) where
+  module _ {row : ℕ} (n : row < row_count rows) where
     -- ---- what a row hands on
 
     by-same : (lines : List ℕ) (field : ℕ) → link rows row field ≡ number_at rows row field → Right rows lines (number_at rows row field) → Handed rows lines row field
@@ -79,7 +79,7 @@ module _ {rows : List ℤ} (table : KernelTable rows) where
         first_field zero p = absurd (let none-there = kind-links-none rows row in omega arith)
         first_field (suc field) p = omega arith
 
-    pub kind-handed : (lines : List ℕ) (number field : ℕ) → number_at rows row 0 ≡ number → mayLink number field ≡ false → field < 5 → Handed rows lines row field
+    pub kind-handed : (lines : List ℕ) (number field : ℕ) → number_at rows row 0 ≡ number → may_link number field ≡ false → field < 5 → Handed rows lines row field
     kind-handed lines number field k m h = none-handed lines field (omega arith) (none-linked rows row number field k m h)
 
     -- the first item of a block
@@ -87,32 +87,32 @@ module _ {rows : List ℤ} (table : KernelTable rows) where
     unfolding handed
     block-line k p = sym (listed-line 1 (omega arith) (block_at table.header rows table.plain row n k).listed p ∙ (rw k))
 
-    pub true-line : number_at rows row 0 ≡ 43 → first_at (listLines rows (number_at rows row 2)) (listLines rows (number_at rows row 3)) (line_of rows row) ≡ line_of rows (number_at rows row 2)
+    pub true-line : number_at rows row 0 ≡ 43 → first_at (list_lines rows (number_at rows row 2)) (list_lines rows (number_at rows row 3)) (line_of rows row) ≡ line_of rows (number_at rows row 2)
     unfolding handed
-    true-line k = sym (lone-line 2 (omega arith) (if-of table.header rows table.plain row n k).onTrue ∙ (rw k))
+    true-line k = sym (lone-line 2 (omega arith) (if-of table.header rows table.plain row n k).on_true ∙ (rw k))
 
-    pub false-line : number_at rows row 0 ≡ 43 → secondAt (listLines rows (number_at rows row 2)) (listLines rows (number_at rows row 3)) (line_of rows row) ≡ line_of rows (number_at rows row 3)
+    pub false-line : number_at rows row 0 ≡ 43 → second_at (list_lines rows (number_at rows row 2)) (list_lines rows (number_at rows row 3)) (line_of rows row) ≡ line_of rows (number_at rows row 3)
     unfolding handed
-    false-line k = sym (lone-line 3 (omega arith) (if-of table.header rows table.plain row n k).onFalse ∙ (rw k))
+    false-line k = sym (lone-line 3 (omega arith) (if-of table.header rows table.plain row n k).on_false ∙ (rw k))
 
     pub body-line : number_at rows row 0 ≡ 44 → body_at (always (test_of rows row)) (line_of rows row) ≡ line_of rows (number_at rows row 2)
     unfolding handed
     body-line k = sym (lone-line 2 (omega arith) (while-of table.header rows table.plain row n k).body ∙ (rw k))
 
-    pub next-line : isStatement rows row ≡ true → 0 < number_at rows row 5 → line_of rows row + statementLines (statementAt rows row) ≡ line_of rows (number_at rows row 5)
+    pub next-line : is_statement rows row ≡ true → 0 < number_at rows row 5 → line_of rows row + statement_lines (statement_at rows row) ≡ line_of rows (number_at rows row 5)
     unfolding handed
     next-line t p = sym (listed-line 5 (omega arith) (next-at table.header rows table.plain row n t) p)
 
     -- ---- the row's own line
 
-    pub placed-here : {lines : List ℕ} → LinesPlaced rows row lines → isStatement rows row ≡ true → Right rows lines row
+    pub placed-here : {lines : List ℕ} → LinesPlaced rows row lines → is_statement rows row ≡ true → Right rows lines row
     placed-here {lines} p t = by (ℕ_discrete row 0)
       where
         by : Dec (row ≡ 0) → Right rows lines row
         by (yes q) = rw q p.root
         by (no q) =
             let o = owner_of rows tree row (above_zero row q) n in
-            let there : isStatement rows (link rows o.owner o.field) ≡ true = rw o.is t in
+            let there : is_statement rows (link rows o.owner o.field) ≡ true = rw o.is t in
             rw o.is at (p.linked o.owner o.field o.earlier o.last o.leads there)
 
     -- ---- one row more
@@ -136,7 +136,7 @@ module _ {rows : List ℤ} (table : KernelTable rows) where
     five : (P : ℕ → Type 0) → P 0 → P 1 → P 2 → P 3 → P 4 → (field : ℕ) → field < 5 → P field
     five P a b c d e field h = from_on P field 0 (omega arith) a (λ l. from_on P field 1 l b (λ l. from_on P field 2 l c (λ l. from_on P field 3 l d (λ l. from_on P field 4 l e (λ l. absurd (omega arith))))))
 
-    module _ {before after : List ℕ} (room : rowCount rows ≤ length before) where
+    module _ {before after : List ℕ} (room : row_count rows ≤ length before) where
       pub block-parts : number_at rows row 0 ≡ 42 → (link line : ℕ) → link ≡ number_at rows row 1 → line ≡ line_of rows row → after ≡ stored before link line → PartsPlaced rows row before after
       block-parts k link line e f g =
           let r = block_at table.header rows table.plain row n k in
@@ -165,27 +165,27 @@ module _ {rows : List ℤ} (table : KernelTable rows) where
           })
 
       pub if-parts : number_at rows row 0 ≡ 43 → (yes-link no-link : ℕ) (middle : List ℕ) (y z : ℕ) → yes-link ≡ number_at rows row 2 → no-link ≡ number_at rows row 3
-          → y ≡ first_at (listLines rows (number_at rows row 2)) (listLines rows (number_at rows row 3)) (line_of rows row) → z ≡ secondAt (listLines rows (number_at rows row 2)) (listLines rows (number_at rows row 3)) (line_of rows row)
+          → y ≡ first_at (list_lines rows (number_at rows row 2)) (list_lines rows (number_at rows row 3)) (line_of rows row) → z ≡ second_at (list_lines rows (number_at rows row 2)) (list_lines rows (number_at rows row 3)) (line_of rows row)
           → middle ≡ stored before yes-link y → after ≡ stored middle no-link z → PartsPlaced rows row before after
       if-parts k yes-link no-link middle y z e f g h i j =
           let r = if-of table.header rows table.plain row n k in
           let few : number_at rows row 2 < length before = true-room table n room k in
-          let some : 0 < number_at rows row 2 = (let later = r.onTrue.later in omega arith) in
+          let some : 0 < number_at rows row 2 = (let later = r.on_true.later in omega arith) in
           let first-keeps = stored-keeps before (number_at rows row 2) y few (λ p. g ∙ true-line k) in
           let long = first-keeps.same_length in
           let few-two : number_at rows row 3 < length (stored before (number_at rows row 2) y) = (let q = false-room table n room k in omega arith) in
-          let some-two : 0 < number_at rows row 3 = (let later = r.onFalse.later in omega arith) in
+          let some-two : 0 < number_at rows row 3 = (let later = r.on_false.later in omega arith) in
           let second-keeps = stored-keeps (stored before (number_at rows row 2) y) (number_at rows row 3) z few-two (λ p. h ∙ false-line k) in
           rw (j, i, e, f)
           (record {
             keeps = keeps-two first-keeps second-keeps;
             parts = five (Handed rows (stored (stored before (number_at rows row 2) y) (number_at rows row 3) z) row) (kind-handed (stored (stored before (number_at rows row 2) y) (number_at rows row 3) z) 43 0 k refl (omega arith)) (kind-handed (stored (stored before (number_at rows row 2) y) (number_at rows row 3) z) 43 1 k refl (omega arith))
-                (by-same (stored (stored before (number_at rows row 2) y) (number_at rows row 3) z) 2 r.onTrue.same (second-keeps.kept (number_at rows row 2) (stored-right before (number_at rows row 2) y few some (g ∙ true-line k))))
-                (by-same (stored (stored before (number_at rows row 2) y) (number_at rows row 3) z) 3 r.onFalse.same (stored-right (stored before (number_at rows row 2) y) (number_at rows row 3) z few-two some-two (h ∙ false-line k)))
+                (by-same (stored (stored before (number_at rows row 2) y) (number_at rows row 3) z) 2 r.on_true.same (second-keeps.kept (number_at rows row 2) (stored-right before (number_at rows row 2) y few some (g ∙ true-line k))))
+                (by-same (stored (stored before (number_at rows row 2) y) (number_at rows row 3) z) 3 r.on_false.same (stored-right (stored before (number_at rows row 2) y) (number_at rows row 3) z few-two some-two (h ∙ false-line k)))
                 (kind-handed (stored (stored before (number_at rows row 2) y) (number_at rows row 3) z) 43 4 k refl (omega arith));
           })
 
-      pub next-parts : isStatement rows row ≡ true → (link line : ℕ) → link ≡ number_at rows row 5 → line ≡ line_of rows row + statementLines (statementAt rows row) → after ≡ stored before link line → NextPlaced rows row before after
+      pub next-parts : is_statement rows row ≡ true → (link line : ℕ) → link ≡ number_at rows row 5 → line ≡ line_of rows row + statement_lines (statement_at rows row) → after ≡ stored before link line → NextPlaced rows row before after
       next-parts t link line e f g =
           let l = next-at table.header rows table.plain row n t in
           let few : number_at rows row 5 < length before = next-room table n room t in
@@ -202,9 +202,9 @@ module _ {rows : List ℤ} (table : KernelTable rows) where
         none_of : (field : ℕ) → field < 5 → StatementLink rows row field → ⊥
         none_of field h (next-item q t) = omega arith
         none_of field h (first-item q t) = a (e ∙ t)
-        none_of field h (true-branch q t) = b (e ∙ t)
-        none_of field h (false-branch q t) = b (e ∙ t)
-        none_of field h (loop-body q t) = c (e ∙ t)
+        none_of field h (true_branch q t) = b (e ∙ t)
+        none_of field h (false_branch q t) = b (e ∙ t)
+        none_of field h (loop_body q t) = c (e ∙ t)
 
     pub placed-both : {lines middle after : List ℕ} → LinesPlaced rows row lines → PartsPlaced rows row lines middle → NextPlaced rows row middle after → LinesPlaced rows (row + 1) after
     placed-both {lines} {middle} {after} p q r =
@@ -228,15 +228,15 @@ module _ {rows : List ℤ} (table : KernelTable rows) where
         let few = label-few k in
         record { room = omega (arith, length-set labels (number_at rows row 1) line); labelled = λ other l inside q. by other l inside q (ℕ_discrete (number_at rows other 1) (number_at rows row 1)) }
       where
-        here-is : line ≡ addressIn (contents rows) (number_at rows row 1)
-        here-is = e ∙ sym (label-address table.header rows table.plain row n k)
+        here_is : line ≡ address_in (contents rows) (number_at rows row 1)
+        here_is = e ∙ sym (label-address table.header rows table.plain row n k)
 
-        by : (other : ℕ) → other < row + 1 → other < rowCount rows → number_at rows other 0 ≡ 53 → Dec (number_at rows other 1 ≡ number_at rows row 1)
-            → get_or (set labels (number_at rows row 1) line) (number_at rows other 1) 0 ≡ addressIn (contents rows) (number_at rows other 1)
+        by : (other : ℕ) → other < row + 1 → other < row_count rows → number_at rows other 0 ≡ 53 → Dec (number_at rows other 1 ≡ number_at rows row 1)
+            → get_or (set labels (number_at rows row 1) line) (number_at rows other 1) 0 ≡ address_in (contents rows) (number_at rows other 1)
         by other l inside q (yes same) =
             let room = s.room in
             let few = label-few k in
-            rw same (get_or-set_same labels (number_at rows row 1) line 0 (omega arith) ∙ here-is)
+            rw same (get_or-set_same labels (number_at rows row 1) line 0 (omega arith) ∙ here_is)
         by other l inside q (no same) = get_or-set_other labels (number_at rows row 1) (number_at rows other 1) line 0 same ∙ s.labelled other (earlier other l q same) inside q
           where
             earlier : (other : ℕ) → other < row + 1 → number_at rows other 0 ≡ 53 → (number_at rows other 1 ≡ number_at rows row 1 → ⊥) → other < row
@@ -251,7 +251,7 @@ module _ {rows : List ℤ} (table : KernelTable rows) where
 
   -- ---- the tables, before the first row
 
-  pub placed-start : (lines : List ℕ) → rowCount rows ≤ length lines → get_or lines 0 0 ≡ 0 → LinesPlaced rows 0 lines
+  pub placed-start : (lines : List ℕ) → row_count rows ≤ length lines → get_or lines 0 0 ≡ 0 → LinesPlaced rows 0 lines
   placed-start lines room root = record { room = room; root = root ∙ sym (line-root table.header rows table.plain); linked = λ row field l. absurd (omega arith) }
 
   pub labelled-start : (labels : List ℕ) → 40980 ≤ length labels → Labelled rows 0 labels
@@ -273,26 +273,26 @@ module _ {rows : List ℤ} (table : KernelTable rows) where
   lone-small : {row field : ℕ} → Lone rows row field → line_of rows (number_at rows row field) < 65536
   lone-small l = let few = line-few table l.inside l.statement in omega arith
 
-  module _ {row : ℕ} {sizes : List ℕ} (n : row < rowCount rows) (s : Sized rows 0 sizes) (t : isStatement rows row ≡ true) (k : number_at rows row 0 ≡ 43) (y z yes-link no-link line result : ℕ)
+  module _ {row : ℕ} {sizes : List ℕ} (n : row < row_count rows) (s : Sized rows 0 sizes) (t : is_statement rows row ≡ true) (k : number_at rows row 0 ≡ 43) (y z yes-link no-link line result : ℕ)
       (e : yes-link ≡ number_at rows row 2) (f : no-link ≡ number_at rows row 3) (g : y ≡ slot sizes yes-link) (h : z ≡ slot sizes no-link) (i : line ≡ line_of rows row) where
-    first-lines : y ≡ listLines rows (number_at rows row 2)
+    first-lines : y ≡ list_lines rows (number_at rows row 2)
     first-lines = g ∙ true-answer table n (sized-later table s) k yes-link e
 
-    second-lines : z ≡ listLines rows (number_at rows row 3)
+    second-lines : z ≡ list_lines rows (number_at rows row 3)
     second-lines = h ∙ false-answer table n (sized-later table s) k no-link f
 
-    pub if-first-at : result ≡ first_at y z line → Worked result (first_at (listLines rows (number_at rows row 2)) (listLines rows (number_at rows row 3)) (line_of rows row))
+    pub if-first-at : result ≡ first_at y z line → Worked result (first_at (list_lines rows (number_at rows row 2)) (list_lines rows (number_at rows row 3)) (line_of rows row))
     if-first-at r =
-        let whole : result ≡ first_at (listLines rows (number_at rows row 2)) (listLines rows (number_at rows row 3)) (line_of rows row) = r ∙ (rw (first-lines, second-lines, i)) in
-        record { is = whole; small = omega (arith, true-line n k, lone-small (if-of table.header rows table.plain row n k).onTrue) }
+        let whole : result ≡ first_at (list_lines rows (number_at rows row 2)) (list_lines rows (number_at rows row 3)) (line_of rows row) = r ∙ (rw (first-lines, second-lines, i)) in
+        record { is = whole; small = omega (arith, true-line n k, lone-small (if-of table.header rows table.plain row n k).on_true) }
 
-    pub if-second-at : result ≡ secondAt y z line → Worked result (secondAt (listLines rows (number_at rows row 2)) (listLines rows (number_at rows row 3)) (line_of rows row))
+    pub if-second-at : result ≡ second_at y z line → Worked result (second_at (list_lines rows (number_at rows row 2)) (list_lines rows (number_at rows row 3)) (line_of rows row))
     if-second-at r =
-        let whole : result ≡ secondAt (listLines rows (number_at rows row 2)) (listLines rows (number_at rows row 3)) (line_of rows row) = r ∙ (rw (first-lines, second-lines, i)) in
-        record { is = whole; small = omega (arith, false-line n k, lone-small (if-of table.header rows table.plain row n k).onFalse) }
+        let whole : result ≡ second_at (list_lines rows (number_at rows row 2)) (list_lines rows (number_at rows row 3)) (line_of rows row) = r ∙ (rw (first-lines, second-lines, i)) in
+        record { is = whole; small = omega (arith, false-line n k, lone-small (if-of table.header rows table.plain row n k).on_false) }
 
-  pub while-body-at : {row : ℕ} (n : row < rowCount rows) → isStatement rows row ≡ true → (k : number_at rows row 0 ≡ 44) (atom : ℕ) (endless : Bool) (line result : ℕ) → atom ≡ number_at rows row 1
-      → endless ≡ always (operandOf (expressionAt rows atom)) → line ≡ line_of rows row → result ≡ body_at endless line → Worked result (body_at (always (test_of rows row)) (line_of rows row))
+  pub while-body-at : {row : ℕ} (n : row < row_count rows) → is_statement rows row ≡ true → (k : number_at rows row 0 ≡ 44) (atom : ℕ) (endless : Bool) (line result : ℕ) → atom ≡ number_at rows row 1
+      → endless ≡ always (operand_of (expression_at rows atom)) → line ≡ line_of rows row → result ≡ body_at endless line → Worked result (body_at (always (test_of rows row)) (line_of rows row))
   while-body-at {row} n t k atom endless line result e f g r =
       let whole : result ≡ body_at (always (test_of rows row)) (line_of rows row) = r ∙ (rw (f, e, g)) in
       record { is = whole; small = omega (arith, body-line n k, lone-small (while-of table.header rows table.plain row n k).body) }

@@ -1,9 +1,9 @@
 // The lines: each row hands their lines to the rows that it links, from the first row to the last; a label's is kept by its number.
 ghost use Rattle.std.specs.Prelude.{◌≡◌, true, ◌+◌, ◌≤◌, ◌<◌, length, get_or};
-ghost use Rattle.words.specs.Table.{rowCount, number_at};
-ghost use Rattle.words.specs.Links.{isStatement};
-ghost use Rattle.flat_kernel_rows.specs.Rows.{KernelTable};
-ghost use Rattle.flat_fate.specs.CodeStands.{first_at, secondAt, body_at};
+ghost use Rattle.words.specs.Table.{row_count, number_at};
+ghost use Rattle.words.specs.Links.{is_statement};
+ghost use Rattle.flat_kernel_rows.proofs.Rows.{KernelTable};
+ghost use Rattle.flat_fate.proofs.CodeStands.{first_at, second_at, body_at};
 ghost use Rattle.flat_rows.specs.Places.{line_of};
 ghost use Rattle.flat_sizes.specs.Tables.{stored, Sized, LinesPlaced, PartsPlaced, NextPlaced, Labelled};
 
@@ -39,7 +39,7 @@ fn first_at(yes: usize, no: usize, line: usize) -> usize
 // Where the second branch stands.
 fn second_at(yes: usize, no: usize, line: usize) -> usize
     requires { (yes < 65536) × (no < 65536) × (line < 65536) }
-    ensures { result ≡ secondAt yes no line }
+    ensures { result ≡ second_at yes no line }
 {
     if yes == 0 {
         if no == 0 {
@@ -66,7 +66,7 @@ fn body_at(endless: bool, line: usize) -> usize
 
 // Hands their lines to the first item of a block, the branches of an if, the body of a while.
 fn place_parts(rows: &[i32], sizes: &[u16], lines: &mut [u16], row: usize, line: usize)
-    requires { KernelTable rows.now × Sized rows.now 0 sizes.now × (rowCount rows.now ≤ length lines.old) × (row < rowCount rows.now) × (isStatement rows.now row ≡ true) × (line ≡ line_of rows.now row) }
+    requires { KernelTable rows.now × Sized rows.now 0 sizes.now × (row_count rows.now ≤ length lines.old) × (row < row_count rows.now) × (is_statement rows.now row ≡ true) × (line ≡ line_of rows.now row) }
     ensures { PartsPlaced rows.now row lines.old lines.new }
 {
     let kind = number_at(rows, row, 0);
@@ -89,7 +89,7 @@ fn place_parts(rows: &[i32], sizes: &[u16], lines: &mut [u16], row: usize, line:
 
 // Hands its line to the item behind.
 fn place_next(rows: &[i32], sizes: &[u16], lines: &mut [u16], row: usize, line: usize)
-    requires { KernelTable rows.now × Sized rows.now 0 sizes.now × (rowCount rows.now ≤ length lines.old) × (row < rowCount rows.now) × (isStatement rows.now row ≡ true) × (line ≡ line_of rows.now row) }
+    requires { KernelTable rows.now × Sized rows.now 0 sizes.now × (row_count rows.now ≤ length lines.old) × (row < row_count rows.now) × (is_statement rows.now row ≡ true) × (line ≡ line_of rows.now row) }
     ensures { NextPlaced rows.now row lines.old lines.new }
 {
     let next = number_at(rows, row, 5);
@@ -99,7 +99,7 @@ fn place_next(rows: &[i32], sizes: &[u16], lines: &mut [u16], row: usize, line: 
 
 // Keeps the line of a label.
 fn place_label(rows: &[i32], labels: &mut [u16], row: usize, line: usize)
-    requires { KernelTable rows.now × Labelled rows.now row labels.old × (row < rowCount rows.now) × (isStatement rows.now row ≡ true) × (line ≡ line_of rows.now row) }
+    requires { KernelTable rows.now × Labelled rows.now row labels.old × (row < row_count rows.now) × (is_statement rows.now row ≡ true) × (line ≡ line_of rows.now row) }
     ensures { Labelled rows.now (row + 1) labels.new }
 {
     if number_at(rows, row, 0) == 53 {
@@ -109,7 +109,7 @@ fn place_label(rows: &[i32], labels: &mut [u16], row: usize, line: usize)
 }
 
 fn place_row(rows: &[i32], sizes: &[u16], lines: &mut [u16], labels: &mut [u16], row: usize)
-    requires { KernelTable rows.now × Sized rows.now 0 sizes.now × LinesPlaced rows.now row lines.old × Labelled rows.now row labels.old × (row < rowCount rows.now) }
+    requires { KernelTable rows.now × Sized rows.now 0 sizes.now × LinesPlaced rows.now row lines.old × Labelled rows.now row labels.old × (row < row_count rows.now) }
     ensures { LinesPlaced rows.now (row + 1) lines.new × Labelled rows.now (row + 1) labels.new }
 {
     if number_at(rows, row, 0) < 40 {
@@ -123,8 +123,8 @@ fn place_row(rows: &[i32], sizes: &[u16], lines: &mut [u16], labels: &mut [u16],
 
 // Fills the tables of lines and of labels. Row 0 stands at line 0.
 pub fn place_rows(rows: &[i32], sizes: &[u16], lines: &mut [u16], labels: &mut [u16])
-    requires { KernelTable rows.now × Sized rows.now 0 sizes.now × (rowCount rows.now ≤ length lines.old) × (get_or lines.old 0 0 ≡ 0) × (40980 ≤ length labels.old) }
-    ensures { LinesPlaced rows.now (rowCount rows.now) lines.new × Labelled rows.now (rowCount rows.now) labels.new }
+    requires { KernelTable rows.now × Sized rows.now 0 sizes.now × (row_count rows.now ≤ length lines.old) × (get_or lines.old 0 0 ≡ 0) × (40980 ≤ length labels.old) }
+    ensures { LinesPlaced rows.now (row_count rows.now) lines.new × Labelled rows.now (row_count rows.now) labels.new }
 {
     let count = rows.len() / 6;
     let mut row = 0;

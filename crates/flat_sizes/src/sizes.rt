@@ -1,11 +1,11 @@
 // The sizes: how many lines the list from each row on has. From the last row to the first: every link leads to a row that is sized already.
 ghost use Rattle.std.specs.Prelude.{◌≡◌, true, ◌+◌, ◌≤◌, ◌<◌, length};
-ghost use Rattle.words.specs.Table.{rowCount, number_at};
-ghost use Rattle.words.specs.Links.{isStatement};
-ghost use Rattle.language.specs.Decode.{expressionAt, statementAt};
-ghost use Rattle.check_kernel_statements.specs.Statements.{isAtom};
-ghost use Rattle.flat_kernel_rows.specs.Rows.{KernelTable};
-ghost use Rattle.flat_fate.specs.Code.{operandOf, always, ifLines, whileLines, statementLines};
+ghost use Rattle.words.specs.Table.{row_count, number_at};
+ghost use Rattle.words.specs.Links.{is_statement};
+ghost use Rattle.language.specs.Decode.{expression_at, statement_at};
+ghost use Rattle.check_kernel_statements.specs.Statements.{is_atom};
+ghost use Rattle.flat_kernel_rows.proofs.Rows.{KernelTable};
+ghost use Rattle.flat_fate.specs.Code.{operand_of, always, if_lines, while_lines, statement_lines};
 ghost use Rattle.flat_sizes.specs.Tables.{slot, Sized};
 
 use arithmetic::is_true;
@@ -25,8 +25,8 @@ pub fn slot_at(table: &[u16], link: usize) -> usize
 
 // A test that always holds: a constant other than 0.
 pub fn is_always(rows: &[i32], atom: usize) -> bool
-    requires { KernelTable rows.now × (atom < rowCount rows.now) × (isAtom rows.now atom ≡ true) }
-    ensures { result ≡ always (operandOf (expressionAt rows.now atom)) }
+    requires { KernelTable rows.now × (atom < row_count rows.now) × (is_atom rows.now atom ≡ true) }
+    ensures { result ≡ always (operand_of (expression_at rows.now atom)) }
 {
     if number_at(rows, atom, 0) == 1 {
         return is_true(word_at(rows, atom, 1));
@@ -37,7 +37,7 @@ pub fn is_always(rows: &[i32], atom: usize) -> bool
 // The lines of an if, from those of its branches.
 fn if_lines(yes: usize, no: usize) -> usize
     requires { (yes < 65536) × (no < 65536) }
-    ensures { result ≡ ifLines yes no }
+    ensures { result ≡ if_lines yes no }
 {
     if yes == 0 {
         if no == 0 {
@@ -54,7 +54,7 @@ fn if_lines(yes: usize, no: usize) -> usize
 // The lines of a while, from those of its body.
 fn while_lines(endless: bool, body: usize) -> usize
     requires { body < 65536 }
-    ensures { result ≡ whileLines endless body }
+    ensures { result ≡ while_lines endless body }
 {
     if endless {
         return body + 1;
@@ -64,8 +64,8 @@ fn while_lines(endless: bool, body: usize) -> usize
 
 // The lines of the statement at a row.
 fn statement_lines(rows: &[i32], sizes: &[u16], row: usize) -> usize
-    requires { KernelTable rows.now × Sized rows.now (row + 1) sizes.now × (row < rowCount rows.now) × (isStatement rows.now row ≡ true) }
-    ensures { result ≡ statementLines (statementAt rows.now row) }
+    requires { KernelTable rows.now × Sized rows.now (row + 1) sizes.now × (row < row_count rows.now) × (is_statement rows.now row ≡ true) }
+    ensures { result ≡ statement_lines (statement_at rows.now row) }
 {
     let kind = number_at(rows, row, 0);
     if kind == 42 {
@@ -93,7 +93,7 @@ fn statement_lines(rows: &[i32], sizes: &[u16], row: usize) -> usize
 }
 
 fn size_row(rows: &[i32], sizes: &mut [u16], row: usize)
-    requires { KernelTable rows.now × Sized rows.now (row + 1) sizes.old × (row < rowCount rows.now) }
+    requires { KernelTable rows.now × Sized rows.now (row + 1) sizes.old × (row < row_count rows.now) }
     ensures { Sized rows.now row sizes.new }
 {
     if number_at(rows, row, 0) < 40 {
@@ -105,7 +105,7 @@ fn size_row(rows: &[i32], sizes: &mut [u16], row: usize)
 
 // Fills the table of sizes.
 pub fn size_rows(rows: &[i32], sizes: &mut [u16])
-    requires { KernelTable rows.now × (rowCount rows.now ≤ length sizes.old) }
+    requires { KernelTable rows.now × (row_count rows.now ≤ length sizes.old) }
     ensures { Sized rows.now 0 sizes.new }
 {
     let mut row = rows.len() / 6;

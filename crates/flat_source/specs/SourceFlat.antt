@@ -1,65 +1,65 @@
 -- Source and flat: what it is for a source program and a flat list to share their fate; demand 3 and Change 10 in one.
 use Rattle.std.specs.Prelude.{◌≡◌, true, false, ◌↔◌, List, ◌++◌, ℕ, ◌<◌, ℤ, length, take}
-use Rattle.words.specs.Table.{rowCount}
-use Rattle.words.specs.Declarations.{declarationCount}
-use Rattle.words.specs.Layout.{layout_of, storeSize, temporariesOf}
+use Rattle.words.specs.Table.{row_count}
+use Rattle.words.specs.Declarations.{declaration_count}
+use Rattle.words.specs.Layout.{layout_of, store_size, temporaries_of}
 use Rattle.words.specs.declared.Form.TheVariants.{Source, Kernel}
 use Rattle.words.specs.declared.Ending.TheVariants.{Spent}
 use Rattle.words.specs.declared.Verdict.TheVariants.{Accepted, Refused}
 use Rattle.language.specs.Program.{Finished}
-use Rattle.language_programs.specs.Program.{runProgram}
-use Rattle.check_function_causes.specs.Functions.{isDefinition}
-use Rattle.check_source.specs.Refusal.{refusal as sourceRefusal}
-use Rattle.translation_fate.specs.KernelForms.{kernelHeaderOf, kernelRowsOf}
-use Rattle.check_plain.specs.Refusal.{plainRefusal}
-use Rattle.flat.specs.Refusal.{refusal as flatRefusal}
-use Rattle.flat.specs.Results.{runList}
-use Rattle.flat_fate.specs.FlatWords.{flattened}
+use Rattle.language_programs.specs.Program.{run_program}
+use Rattle.check_function_causes.specs.Functions.{is_definition}
+use Rattle.check_source.specs.Refusal.{refusal as source_refusal}
+use Rattle.translation_fate.specs.KernelForms.{kernel_header_of, kernel_rows_of}
+use Rattle.check_plain.specs.Refusal.{plain_refusal}
+use Rattle.flat.specs.Refusal.{refusal as flat_refusal}
+use Rattle.flat.specs.Results.{run_list}
+use Rattle.flat_fate.proofs.FlatWords.{flattened}
 
 -- A source program and a flat list, started on the same variables and arrays; each on declared words of its own, the list with these
 -- temporaries.
-module _ (header rows kernelHeader list store declared flatDeclared temporaries : List ℤ) where
-  abbrev pub sourceRun : ℕ → Finished
-  sourceRun budget = runProgram Source header rows budget (store ++ declared)
+module _ (header rows kernel_header list store declared flatDeclared temporaries : List ℤ) where
+  abbrev pub source_run : ℕ → Finished
+  source_run budget = run_program Source header rows budget (store ++ declared)
 
-  abbrev pub flatRun : ℕ → Finished
-  flatRun budget = runList kernelHeader list budget (store ++ (flatDeclared ++ temporaries))
+  abbrev pub flat_run : ℕ → Finished
+  flat_run budget = run_list kernel_header list budget (store ++ (flatDeclared ++ temporaries))
 
   pub record SourceEnds : Type 0 where
     pub budget : ℕ
-    pub ends : (sourceRun budget).ending ≡ Spent → ⊥
+    pub ends : (source_run budget).ending ≡ Spent → ⊥
 
   pub record FlatEnds : Type 0 where
     pub budget : ℕ
-    pub ends : (flatRun budget).ending ≡ Spent → ⊥
+    pub ends : (flat_run budget).ending ≡ Spent → ⊥
 
   pub record SharedFate : Type 0 where
     pub end-together : SourceEnds ↔ FlatEnds
-    pub same-ending : (b d : ℕ) → ((sourceRun b).ending ≡ Spent → ⊥) → ((flatRun d).ending ≡ Spent → ⊥) → (flatRun d).ending ≡ (sourceRun b).ending
+    pub same_ending : (b d : ℕ) → ((source_run b).ending ≡ Spent → ⊥) → ((flat_run d).ending ≡ Spent → ⊥) → (flat_run d).ending ≡ (source_run b).ending
     -- "every comparison of source with kernel .. are over the first S"
-    pub same-cells : (b d : ℕ) → ((sourceRun b).ending ≡ Spent → ⊥) → ((flatRun d).ending ≡ Spent → ⊥)
-        → take (storeSize (layout_of Source header)) (flatRun d).store ≡ take (storeSize (layout_of Source header)) (sourceRun b).store
+    pub same-cells : (b d : ℕ) → ((source_run b).ending ≡ Spent → ⊥) → ((flat_run d).ending ≡ Spent → ⊥)
+        → take (store_size (layout_of Source header)) (flat_run d).store ≡ take (store_size (layout_of Source header)) (source_run b).store
 
 -- What a flat list has to be for a source program.
-pub record FlatFormOf (header rows kernelHeader list : List ℤ) : Type 0 where
+pub record FlatFormOf (header rows kernel_header list : List ℤ) : Type 0 where
   -- the list's own check takes it
-  pub accepted : flatRefusal kernelHeader list ≡ Accepted
+  pub accepted : flat_refusal kernel_header list ≡ Accepted
   -- "whatever its variables and arrays hold and whatever stands in the temporaries"; "whatever the D words held at the start", in either run
-  pub share-fate : (store declared flatDeclared temporaries : List ℤ) → length store ≡ storeSize (layout_of Source header)
-      → length declared ≡ declarationCount rows → length flatDeclared ≡ declarationCount rows → length temporaries ≡ temporariesOf Kernel kernelHeader
-      → SharedFate header rows kernelHeader list store declared flatDeclared temporaries
+  pub share_fate : (store declared flatDeclared temporaries : List ℤ) → length store ≡ store_size (layout_of Source header)
+      → length declared ≡ declaration_count rows → length flatDeclared ≡ declaration_count rows → length temporaries ≡ temporaries_of Kernel kernel_header
+      → SharedFate header rows kernel_header list store declared flatDeclared temporaries
 
 -- No row defines a function.
 abbrev pub WithoutFunctions : List ℤ → Type 0
-WithoutFunctions rows = (row : ℕ) → row < rowCount rows → isDefinition rows row ≡ false
+WithoutFunctions rows = (row : ℕ) → row < row_count rows → is_definition rows row ≡ false
 
 -- What holds of every source program without functions that the check accepts, and of the flat list of its translation.
 abbrev pub HasFlatForm : List ℤ → List ℤ → Type 0
 HasFlatForm header rows =
-    sourceRefusal header rows ≡ Accepted → WithoutFunctions rows → FlatFormOf header rows (kernelHeaderOf header rows) (flattened (kernelRowsOf header rows))
+    source_refusal header rows ≡ Accepted → WithoutFunctions rows → FlatFormOf header rows (kernel_header_of header rows) (flattened (kernel_rows_of header rows))
 
 -- Of one with functions: "the flat list refuses functions with 25 and the first one's row", which in a translation is row 1.
 abbrev pub FunctionsRefused : List ℤ → List ℤ → Type 0
 FunctionsRefused header rows =
-    sourceRefusal header rows ≡ Accepted → (row : ℕ) → row < rowCount rows → isDefinition rows row ≡ true
-    → plainRefusal (kernelHeaderOf header rows) (kernelRowsOf header rows) ≡ Refused (record { number = 25; place = 1 })
+    source_refusal header rows ≡ Accepted → (row : ℕ) → row < row_count rows → is_definition rows row ≡ true
+    → plain_refusal (kernel_header_of header rows) (kernel_rows_of header rows) ≡ Refused (record { number = 25; place = 1 })

@@ -20,7 +20,7 @@ use Rattle.arithmetic.specs.declared.Computed.{Computed}
 use Rattle.arithmetic.specs.declared.Computed.TheVariants.{Value, Fails as FailsWith}
 use Rattle.flat.specs.Lines.{Next, stored, onward}
 use Rattle.flat.specs.Words.{target_of}
-use Rattle.flat.specs.Refusal.{landsInside}
+use Rattle.flat.specs.Refusal.{lands_inside}
 use Rattle.flat_steps.specs.Steps.{Makes}
 use Rattle.flat_steps.specs.declared.Step.{Step}
 use Rattle.flat_steps.specs.declared.Step.TheVariants.{At, Fails}
@@ -62,7 +62,7 @@ module _ (line : ℕ) (small : line < 2 ^ 62) where
   pub following-fits : SFits w64 following
   following-fits = subst (λ (x : ℤ). SFits w64 x) (sym following-is) (record { sfits = omega arith })
 
-  sum_is : (lines : ℕ) (z : ℤ) → landsInside line lines z ≡ true → pos (line + 1) +ℤ z ≡ pos (target_of line z)
+  sum_is : (lines : ℕ) (z : ℤ) → lands_inside line lines z ≡ true → pos (line + 1) +ℤ z ≡ pos (target_of line z)
   sum_is lines (pos d) l = ap pos (let e : line + 1 + d ≡ suc line + d = omega arith in e)
   sum_is lines (negsuc d) l = let e : line + 1 - suc d ≡ line - d = omega arith in rw (le-ltb (line + 1) (suc d) (omega (arith, leb-true d line l)), e)
 
@@ -71,15 +71,15 @@ module _ (line : ℕ) (small : line < 2 ^ 62) where
   target_small (negsuc d) h = omega arith
 
   -- a distance z that was read as w, and cast
-  module _ (lines : ℕ) (z w : ℤ) (h : mag w < 2 ^ 31) (e : w ≡ z) (lands : landsInside line lines z ≡ true) where
+  module _ (lines : ℕ) (z w : ℤ) (h : mag w < 2 ^ 31) (e : w ≡ z) (lands : lands_inside line lines z ≡ true) where
     abbrev total : ℤ
     total = handed following +ℤ handed (again w)
 
     distance_is : handed (again w) ≡ z
     distance_is = ap handed (back w h) ∙ to_z-of_z (record { sfits = omega arith }) ∙ e
 
-    total-is : total ≡ pos (target_of line z)
-    total-is = ap₂ ◌+ℤ◌ (to_z-of_z following-fits ∙ following-is) distance_is ∙ sum_is lines z lands
+    total_is : total ≡ pos (target_of line z)
+    total_is = ap₂ ◌+ℤ◌ (to_z-of_z following-fits ∙ following-is) distance_is ∙ sum_is lines z lands
 
     target_fits : SFits w64 (pos (target_of line z))
     target_fits = record { sfits = target_small z (subst (λ (x : ℤ). mag x < 2 ^ 31) e h) }
@@ -88,10 +88,10 @@ module _ (line : ℕ) (small : line < 2 ^ 62) where
     distance-fits = subst (λ (x : ℤ). SFits w64 x) (sym (back w h)) (record { sfits = omega arith })
 
     pub total-fits : SFits w64 total
-    total-fits = subst (λ (x : ℤ). SFits w64 x) (sym total-is) target_fits
+    total-fits = subst (λ (x : ℤ). SFits w64 x) (sym total_is) target_fits
 
     handed-total : handed total ≡ pos (target_of line z)
-    handed-total = to_z-of_z total-fits ∙ total-is
+    handed-total = to_z-of_z total-fits ∙ total_is
 
     pub total-casts : T (non_neg (handed total)) × Fits w64 (nat_abs (handed total))
     total-casts = subst (λ (x : ℤ). T (non_neg x) × Fits w64 (nat_abs x)) (sym handed-total) (tt, record { fits = omega (arith, target_fits.sfits) })

@@ -1,15 +1,15 @@
 -- Steps: what the code's answer for a line says, and what it asks of a list, a line and a store.
 use Rattle.std.specs.Prelude.{◌≡◌, Bool, true, false, List, ℕ, ◌+◌, ◌*◌, ◌<◌, ◌≤◌, ℤ, length}
 use Rattle.words.specs.Word.{natural}
-use Rattle.words.specs.Layout.{storeSize}
-use Rattle.check_fields.specs.Fields.{boundsIn}
+use Rattle.words.specs.Layout.{store_size}
+use Rattle.check_fields.specs.Fields.{bounds_in}
 use Rattle.check_fields.specs.declared.NumberRange.{NumberRange}
-use Rattle.machine_operations.specs.Bounds.{bounds_of, layoutFrom}
+use Rattle.machine_operations.specs.Bounds.{bounds_of, layout_from}
 use Rattle.flat.specs.Lines.{Next, goes, faults, ends}
-use Rattle.flat.specs.Words.{lineCount, field_at, operationAt, kind_of, leftConstant, line_at}
-use Rattle.flat.specs.Refusal.{landsInside}
+use Rattle.flat.specs.Words.{line_count, field_at, operation_at, kind_of, left_constant, line_at}
+use Rattle.flat.specs.Refusal.{lands_inside}
 use Rattle.flat.specs.Legal.{Within}
-use Rattle.flat.specs.Accepts.{LineKind}
+use Rattle.flat.proofs.Accepts.{LineKind}
 use Rattle.flat_steps.specs.declared.Step.{Step}
 use Rattle.flat_steps.specs.declared.Step.TheVariants.{At, Fails}
 
@@ -27,31 +27,31 @@ pub record ReadyOperand (list : List ℤ) (line field : ℕ) (constant : Bool) (
 
 -- A line whose distance stays in the list.
 pub record ReadyJump (list : List ℤ) (line : ℕ) : Type 0 where
-  pub inside : line < lineCount list
-  pub lands : landsInside line (lineCount list) (field_at list line 4) ≡ true
+  pub inside : line < line_count list
+  pub lands : lands_inside line (line_count list) (field_at list line 4) ≡ true
 
 -- A list with the bounds of its layout, and a store of so many words.
 pub record Setting (bounds : List ℕ) (list : List ℤ) (words : ℕ) : Type 0 where
-  pub bounds-are : bounds ≡ bounds_of (layoutFrom bounds)
-  pub store-fits : storeSize (layoutFrom bounds) ≤ words
+  pub bounds_are : bounds ≡ bounds_of (layout_from bounds)
+  pub store_fits : store_size (layout_from bounds) ≤ words
   pub few_words : words ≤ 16448
-  pub few-arrays : length (layoutFrom bounds).lengths ≤ 32
-  pub known : (line : ℕ) → line < lineCount list → LineKind (kind_of (operationAt list line))
-  pub small : (line : ℕ) → line < lineCount list → operationAt list line < 256
+  pub few_arrays : length (layout_from bounds).lengths ≤ 32
+  pub known : (line : ℕ) → line < line_count list → LineKind (kind_of (operation_at list line))
+  pub small : (line : ℕ) → line < line_count list → operation_at list line < 256
   -- an array's number is no constant
-  pub array-left : (line : ℕ) → line < lineCount list → kind_of (operationAt list line) ≡ 3 → leftConstant (operationAt list line) ≡ false
-  pub lands : (line : ℕ) → line < lineCount list → landsInside line (lineCount list) (field_at list line 4) ≡ true
+  pub array_left : (line : ℕ) → line < line_count list → kind_of (operation_at list line) ≡ 3 → left_constant (operation_at list line) ≡ false
+  pub lands : (line : ℕ) → line < line_count list → lands_inside line (line_count list) (field_at list line 4) ≡ true
   -- the numbers of declarations, which no line names
   pub declared : NumberRange
-  pub within : (line : ℕ) → line < lineCount list → Within (boundsIn (layoutFrom bounds) declared words) (lineCount list) (line_at list line)
+  pub within : (line : ℕ) → line < line_count list → Within (bounds_in (layout_from bounds) declared words) (line_count list) (line_at list line)
 
 -- The line is one of the list.
 pub record ReadyLine (bounds : List ℕ) (list : List ℤ) (words line : ℕ) : Type 0 where
   pub setting : Setting bounds list words
-  pub inside : line < lineCount list
+  pub inside : line < line_count list
 
 -- And it has this operation, which is of this kind.
 pub record OfKind (bounds : List ℕ) (list : List ℤ) (words line operation kind : ℕ) : Type 0 where
   pub ready : ReadyLine bounds list words line
-  pub operation-is : operation ≡ operationAt list line
-  pub kind-is : kind_of operation ≡ kind
+  pub operation_is : operation ≡ operation_at list line
+  pub kind_is : kind_of operation ≡ kind

@@ -1,9 +1,9 @@
 // What the line of each kind does.
 ghost use Rattle.std.specs.Prelude.{◌≡◌, true, length, ◌-◌};
-ghost use Rattle.words.specs.Kinds.{between, operatorOf};
-ghost use Rattle.arithmetic.specs.Arithmetic.{apply as applyOf};
-ghost use Rattle.arithmetic.specs.Answers.{computed as computedOf};
-ghost use Rattle.machine_operations.specs.Bounds.{layoutFrom};
+ghost use Rattle.words.specs.Kinds.{between, operator_of};
+ghost use Rattle.arithmetic.specs.Arithmetic.{apply as apply_of};
+ghost use Rattle.arithmetic.specs.Answers.{computed as computed_of};
+ghost use Rattle.machine_operations.specs.Bounds.{layout_from};
 ghost use Rattle.flat.specs.Lines.{next_of};
 ghost use Rattle.flat.specs.Words.{line_at};
 ghost use Rattle.flat_steps.specs.Steps.{Makes, ReadyLine, OfKind};
@@ -20,7 +20,7 @@ use words::FaultSort;
 // Kind 1: a value is stored.
 fn copy(list: &[i32], bounds: &[usize], line: usize, operation: usize, store: &mut [i32]) -> Step
     requires { OfKind bounds.now list.now (length store.old) line operation 1 }
-    ensures { Makes store.old result store.new (next_of (layoutFrom bounds.now) (line_at list.now line) line store.old) }
+    ensures { Makes store.old result store.new (next_of (layout_from bounds.now) (line_at list.now line) line store.old) }
 {
     let value = operand(list, line, 2, left_constant(operation), store);
     assign(
@@ -34,7 +34,7 @@ fn copy(list: &[i32], bounds: &[usize], line: usize, operation: usize, store: &m
 // Kind 4: minus.
 fn negate(list: &[i32], bounds: &[usize], line: usize, operation: usize, store: &mut [i32]) -> Step
     requires { OfKind bounds.now list.now (length store.old) line operation 4 }
-    ensures { Makes store.old result store.new (next_of (layoutFrom bounds.now) (line_at list.now line) line store.old) }
+    ensures { Makes store.old result store.new (next_of (layout_from bounds.now) (line_at list.now line) line store.old) }
 {
     let value = operand(list, line, 2, left_constant(operation), store);
     assign(minus(value), number_at(list, line, 1), line, store)
@@ -44,7 +44,7 @@ fn negate(list: &[i32], bounds: &[usize], line: usize, operation: usize, store: 
 // memory.
 fn outcome(kind: usize, left: i32, right: i32) -> Computed
     requires { between 6 16 kind ≡ true }
-    ensures { computedOf result ≡ applyOf (operatorOf (kind - 6)) left right }
+    ensures { computed_of result ≡ apply_of (operator_of (kind - 6)) left right }
 {
     match kind {
         6 => add(left, right),
@@ -71,7 +71,7 @@ fn operate(
     store: &mut [i32],
 ) -> Step
     requires { OfKind bounds.now list.now (length store.old) line operation kind × (between 6 16 kind ≡ true) }
-    ensures { Makes store.old result store.new (next_of (layoutFrom bounds.now) (line_at list.now line) line store.old) }
+    ensures { Makes store.old result store.new (next_of (layout_from bounds.now) (line_at list.now line) line store.old) }
 {
     let left = operand(list, line, 2, left_constant(operation), store);
     let right = operand(list, line, 3, right_constant(operation), store);
@@ -82,7 +82,7 @@ fn operate(
 // Kind 3: an element is stored.
 fn fetch(list: &[i32], bounds: &[usize], line: usize, operation: usize, store: &mut [i32]) -> Step
     requires { OfKind bounds.now list.now (length store.old) line operation 3 }
-    ensures { Makes store.old result store.new (next_of (layoutFrom bounds.now) (line_at list.now line) line store.old) }
+    ensures { Makes store.old result store.new (next_of (layout_from bounds.now) (line_at list.now line) line store.old) }
 {
     let index = operand(list, line, 3, right_constant(operation), store);
     let located = locate(bounds, number_at(list, line, 2), index);
@@ -101,7 +101,7 @@ fn fetch(list: &[i32], bounds: &[usize], line: usize, operation: usize, store: &
 // Kind 21: a value is stored in an element.
 fn put(list: &[i32], bounds: &[usize], line: usize, operation: usize, store: &mut [i32]) -> Step
     requires { OfKind bounds.now list.now (length store.old) line operation 21 }
-    ensures { Makes store.old result store.new (next_of (layoutFrom bounds.now) (line_at list.now line) line store.old) }
+    ensures { Makes store.old result store.new (next_of (layout_from bounds.now) (line_at list.now line) line store.old) }
 {
     let value = operand(list, line, 3, right_constant(operation), store);
     let index = operand(list, line, 2, left_constant(operation), store);
@@ -115,7 +115,7 @@ fn put(list: &[i32], bounds: &[usize], line: usize, operation: usize, store: &mu
 // Kind 43: a jump where the operand is 0.
 fn jump_zero(list: &[i32], bounds: &[usize], line: usize, operation: usize, store: &[i32]) -> Step
     requires { OfKind bounds.now list.now (length store.now) line operation 43 }
-    ensures { Makes store.now result store.now (next_of (layoutFrom bounds.now) (line_at list.now line) line store.now) }
+    ensures { Makes store.now result store.now (next_of (layout_from bounds.now) (line_at list.now line) line store.now) }
 {
     let value = operand(list, line, 2, left_constant(operation), store);
     if is_true(value) {
@@ -127,7 +127,7 @@ fn jump_zero(list: &[i32], bounds: &[usize], line: usize, operation: usize, stor
 // Kind 44: a jump where the operand is not 0.
 fn jump_other(list: &[i32], bounds: &[usize], line: usize, operation: usize, store: &[i32]) -> Step
     requires { OfKind bounds.now list.now (length store.now) line operation 44 }
-    ensures { Makes store.now result store.now (next_of (layoutFrom bounds.now) (line_at list.now line) line store.now) }
+    ensures { Makes store.now result store.now (next_of (layout_from bounds.now) (line_at list.now line) line store.now) }
 {
     let value = operand(list, line, 2, left_constant(operation), store);
     if is_true(value) {
@@ -140,7 +140,7 @@ fn jump_other(list: &[i32], bounds: &[usize], line: usize, operation: usize, sto
 // seldom.
 pub fn make(list: &[i32], bounds: &[usize], line: usize, store: &mut [i32]) -> Step
     requires { ReadyLine bounds.now list.now (length store.old) line }
-    ensures { Makes store.old result store.new (next_of (layoutFrom bounds.now) (line_at list.now line) line store.old) }
+    ensures { Makes store.old result store.new (next_of (layout_from bounds.now) (line_at list.now line) line store.old) }
 {
     let operation = number_at(list, line, 0);
     let kind = operation_kind(operation);

@@ -1,11 +1,11 @@
 // What lines are made of: the numbers and operands of a line, the store of a value, the target of a jump.
 ghost use Rattle.std.specs.Prelude.{◌≡◌, ◌+◌, ◌*◌, ◌-◌, ◌<◌, length, get_or};
-ghost use Rattle.words.specs.Word.{natural as naturalOf};
-ghost use Rattle.arithmetic.specs.Arithmetic.{element as elementOf};
-ghost use Rattle.arithmetic.specs.Answers.{computed as computedOf, located as locatedOf};
+ghost use Rattle.words.specs.Word.{natural as natural_of};
+ghost use Rattle.arithmetic.specs.Arithmetic.{element as element_of};
+ghost use Rattle.arithmetic.specs.Answers.{computed as computed_of, located as located_of};
 ghost use Rattle.machine_operations.specs.Ready.{Bounded};
 ghost use Rattle.flat.specs.Lines.{value_of, stored, onward};
-ghost use Rattle.flat.specs.Words.{field_at, operandOf, target_of};
+ghost use Rattle.flat.specs.Words.{field_at, operand_of, target_of};
 ghost use Rattle.flat_steps.specs.Steps.{Makes, ReadyOperand, ReadyJump};
 
 use super::Step;
@@ -14,8 +14,8 @@ use flat::lines::word_at;
 
 // A field that is no negative word, as the number it names.
 pub fn number_at(list: &[i32], line: usize, field: usize) -> usize
-    requires { (5 * line + field < length list.now) × (naturalOf (field_at list.now line field) < 2147483648) }
-    ensures { result ≡ naturalOf (field_at list.now line field) }
+    requires { (5 * line + field < length list.now) × (natural_of (field_at list.now line field) < 2147483648) }
+    ensures { result ≡ natural_of (field_at list.now line field) }
 {
     list[5 * line + field] as usize
 }
@@ -23,7 +23,7 @@ pub fn number_at(list: &[i32], line: usize, field: usize) -> usize
 // The value of an operand.
 pub fn operand(list: &[i32], line: usize, field: usize, constant: bool, store: &[i32]) -> i32
     requires { ReadyOperand list.now line field constant (length store.now) }
-    ensures { result ≡ value_of (operandOf constant (field_at list.now line field)) store.now }
+    ensures { result ≡ value_of (operand_of constant (field_at list.now line field)) store.now }
 {
     if constant {
         return word_at(list, line, field);
@@ -35,7 +35,7 @@ pub fn operand(list: &[i32], line: usize, field: usize, constant: bool, store: &
 // What an operation gave is stored, and the following line comes next; or its fault stops the run.
 pub fn assign(res: Computed, target: usize, line: usize, store: &mut [i32]) -> Step
     requires { (target < length store.old) × (line < 9223372036854775808) }
-    ensures { Makes store.old result store.new (onward line (stored target store.old (computedOf res))) }
+    ensures { Makes store.old result store.new (onward line (stored target store.old (computed_of res))) }
 {
     match res {
         Computed::Value(value) => {
@@ -58,7 +58,7 @@ pub fn target_of(list: &[i32], line: usize) -> usize
 // The bounds test: an array lies from its own bound up to the next.
 pub fn locate(bounds: &[usize], array: usize, index: i32) -> Located
     requires { Bounded bounds.now array }
-    ensures { locatedOf result ≡ elementOf (get_or bounds.now array 0) (get_or bounds.now (array + 1) 0 - get_or bounds.now array 0) index }
+    ensures { located_of result ≡ element_of (get_or bounds.now array 0) (get_or bounds.now (array + 1) 0 - get_or bounds.now array 0) index }
 {
     let base = bounds[array];
     let end = bounds[array + 1];

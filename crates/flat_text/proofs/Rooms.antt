@@ -11,13 +11,13 @@ use lib.Signed.{mag}
 use lib.ListN.{length, take, drop, get_or, take-append-drop}
 use borrow.Author.Tests.{le-leb, lt-leb, leb-true, leb-false}
 use Rattle.words.specs.Laws.{by_cases}
-use Rattle.text_numbers.specs.Number.{numberBytes}
+use Rattle.text_numbers.specs.Number.{number_bytes}
 use Rattle.text_numbers.specs.NumberLaws.{not_some}
 use Rattle.text_lines.specs.Writer.{bytes_of}
 use Rattle.text_lines.proofs.Sizing.{bytes-append, Summed, summed-start, summed-next, summed-end}
 use Rattle.text_form.proofs.Sizing.{bytes-text}
-use Rattle.flat.specs.Words.{lineCount}
-use Rattle.flat_text.specs.Text.{flatBytes}
+use Rattle.flat.specs.Words.{line_count}
+use Rattle.flat_text.specs.Text.{flat_bytes}
 use Rattle.flat_text.specs.Writer.{left_of}
 
 -- ---- what is left
@@ -68,7 +68,7 @@ module _ {words : List ℤ} {room left i : ℕ} (b : Behind words room left i) w
       let e : left ≡ room - bytes_of words = omega (arith, m.sum, b.within) in
       rw e (left-enough room (bytes_of words) (omega (arith, m.sum)))
 
-  module _ (h : i < length words) (f : mag (get_or words i (pos 0)) < 2 ^ 31) (count : ℕ) (e : count ≡ length (numberBytes (get_or words i (pos 0)))) where
+  module _ (h : i < length words) (f : mag (get_or words i (pos 0)) < 2 ^ 31) (count : ℕ) (e : count ≡ length (number_bytes (get_or words i (pos 0)))) where
     more : Summed words (room - left + (count + 1)) (i + 1)
     more = summed-next b.summed h f count e
 
@@ -82,16 +82,16 @@ module _ {words : List ℤ} {room left i : ℕ} (b : Behind words room left i) w
 
 -- ---- whether a text fits
 
-module _ (header list : List ℤ) (filled : 0 < length header) (whole : length list ≡ 5 * lineCount list) (room : ℕ) where
-  total : length (flatBytes header list) ≡ bytes_of header + bytes_of list
-  total = bytes-text 5 (lineCount list) header list (omega arith) filled whole
+module _ (header list : List ℤ) (filled : 0 < length header) (whole : length list ≡ 5 * line_count list) (room : ℕ) where
+  total : length (flat_bytes header list) ≡ bytes_of header + bytes_of list
+  total = bytes-text 5 (line_count list) header list (omega arith) filled whole
 
-  pub header-short : room < bytes_of header → false ≡ leb (length (flatBytes header list)) room
-  header-short h = sym (lt-leb (length (flatBytes header list)) room (omega (arith, total)))
+  pub header-short : room < bytes_of header → false ≡ leb (length (flat_bytes header list)) room
+  header-short h = sym (lt-leb (length (flat_bytes header list)) room (omega (arith, total)))
 
   module _ {left : ℕ} (l : Leaves room (bytes_of header) left) where
-    pub list-short : left < bytes_of list → false ≡ leb (length (flatBytes header list)) room
-    list-short h = sym (lt-leb (length (flatBytes header list)) room (omega (arith, total, l.fits, l.rest)))
+    pub list-short : left < bytes_of list → false ≡ leb (length (flat_bytes header list)) room
+    list-short h = sym (lt-leb (length (flat_bytes header list)) room (omega (arith, total, l.fits, l.rest)))
 
-    pub list-fits : bytes_of list ≤ left → true ≡ leb (length (flatBytes header list)) room
-    list-fits h = sym (le-leb (length (flatBytes header list)) room (omega (arith, total, l.fits, l.rest)))
+    pub list-fits : bytes_of list ≤ left → true ≡ leb (length (flat_bytes header list)) room
+    list-fits h = sym (le-leb (length (flat_bytes header list)) room (omega (arith, total, l.fits, l.rest)))

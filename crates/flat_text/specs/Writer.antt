@@ -5,9 +5,9 @@ use Rattle.words.specs.Word.{pick}
 use Rattle.flat_text.specs.declared.writer.Room.{Room}
 use Rattle.flat_text.specs.declared.writer.Room.TheVariants as room-cases
 
-abbrev pub roomSays : Room → Option ℕ
-roomSays (room-cases.Left left) = some left
-roomSays room-cases.Short = none
+abbrev pub room_says : Room → Option ℕ
+room_says (room-cases.Left left) = some left
+room_says room-cases.Short = none
 
 -- What so many bytes leave of a room, where they fit.
 unfoldable pub left_of : (room size : ℕ) → Option ℕ

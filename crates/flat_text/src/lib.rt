@@ -1,9 +1,11 @@
 // Texts of flat lists: their reader and writer.
+#![tactic(auto)]
+
 pub mod reader; // reader.rt: a well-formed text read
 pub mod writer; // writer.rt: whether a text fits
 
 ghost use Rattle.text_form.specs.Answers.{Reads, Writes};
-ghost use Rattle.flat_text.specs.Answers.{flatReadResult, flatWriteResult};
+ghost use Rattle.flat_text.specs.Answers.{flat_read_result, flat_write_result};
 
 use self::reader::read_lines;
 use self::writer::text_fits;
@@ -15,7 +17,7 @@ use words::{Form, Refusal};
 
 // Reads a text into a header and a list: causes 14, 1 and 10, in this order.
 pub fn read(text: &[u8], header: &mut [i32], list: &mut [i32]) -> ReadAnswer
-    ensures { Reads (flatReadResult text.now header.old list.old) result header.new list.new }
+    ensures { Reads (flat_read_result text.now header.old list.old) result header.new list.new }
 {
     let shape = shape_of(5, Form::Kernel, text);
     match shape {
@@ -31,7 +33,7 @@ pub fn read(text: &[u8], header: &mut [i32], list: &mut [i32]) -> ReadAnswer
 
 // Writes a header and a list as a text: causes 1, 2 and 10, in this order.
 pub fn write(header: &[i32], list: &[i32], text: &mut [u8]) -> WriteAnswer
-    ensures { Writes (flatWriteResult header.now list.now text.old) result text.new }
+    ensures { Writes (flat_write_result header.now list.now text.old) result text.new }
 {
     if !header_fits(Form::Kernel, header) {
         return WriteAnswer::Refused(Refusal {

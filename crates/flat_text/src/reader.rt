@@ -1,12 +1,12 @@
 // The reader of well-formed texts: cause 1 by the first line, the rest as the text form's.
 ghost use Rattle.std.specs.Prelude.{◌≡◌, true};
-ghost use Rattle.words.specs.Layout.{headerFits};
+ghost use Rattle.words.specs.Layout.{header_fits};
 ghost use Rattle.words.specs.declared.Form.TheVariants.{Kernel};
-ghost use Rattle.text_lines.specs.Line.{fields_of, numbersOf};
-ghost use Rattle.text_lines.specs.Reader.{numbersIn};
+ghost use Rattle.text_lines.specs.Line.{fields_of, numbers_of};
+ghost use Rattle.text_lines.specs.Reader.{numbers_in};
 ghost use Rattle.text_form.specs.Answers.{Reads};
-ghost use Rattle.text_form.specs.Reader.{HoldsExactly, causeSays, HasLines};
-ghost use Rattle.flat_text.specs.Answers.{flatCause, flatReadResult};
+ghost use Rattle.text_form.specs.Reader.{HoldsExactly, cause_says, HasLines};
+ghost use Rattle.flat_text.specs.Answers.{flat_cause, flat_read_result};
 
 use text_form::ReadAnswer;
 use text_form::limits::Cause;
@@ -17,8 +17,8 @@ use words::layout::header_fits;
 
 // Whether a text's header is within its limits.
 fn first_fits(line: &[u8], numbers: usize) -> bool
-    requires { HoldsExactly (numbersOf (fields_of line.now)) numbers }
-    ensures { result ≡ headerFits Kernel (numbersIn (numbersOf (fields_of line.now))) }
+    requires { HoldsExactly (numbers_of (fields_of line.now)) numbers }
+    ensures { result ≡ header_fits Kernel (numbers_in (numbers_of (fields_of line.now))) }
 {
     let mut header = [0i32; 35];
     store_numbers(line, &mut header);
@@ -27,8 +27,8 @@ fn first_fits(line: &[u8], numbers: usize) -> bool
 
 // The cause before 10 that a text meets, if any.
 fn text_cause(line: &[u8], numbers: usize) -> Cause
-    requires { HoldsExactly (numbersOf (fields_of line.now)) numbers }
-    ensures { causeSays result ≡ flatCause (numbersIn (numbersOf (fields_of line.now))) true }
+    requires { HoldsExactly (numbers_of (fields_of line.now)) numbers }
+    ensures { cause_says result ≡ flat_cause (numbers_in (numbers_of (fields_of line.now))) true }
 {
     if first_fits(line, numbers) {
         return Cause::Absent;
@@ -46,7 +46,7 @@ pub fn read_lines(
     list: &mut [i32],
 ) -> ReadAnswer
     requires { HasLines 5 Kernel text.now end numbers words }
-    ensures { Reads (flatReadResult text.now header.old list.old) result header.new list.new }
+    ensures { Reads (flat_read_result text.now header.old list.old) result header.new list.new }
 {
     let cause = text_cause(&text[0..end], numbers);
     store_text(

@@ -6,17 +6,17 @@ use Rattle.words.specs.Over.{over}
 use Rattle.words.specs.declared.Verdict.{Verdict}
 use Rattle.words.specs.declared.Verdict.TheVariants.{Accepted, Refused}
 use Rattle.language.specs.Program.{contents}
-use Rattle.check_plain.specs.Refusal.{plainRefusal}
-use Rattle.flat.specs.Refusal.{refusal as flatRefusal}
-use Rattle.flat_fate.specs.Code.{itemsLines}
-use Rattle.flat_fate.specs.FlatWords.{flattened, SharedFate}
+use Rattle.check_plain.specs.Refusal.{plain_refusal}
+use Rattle.flat.specs.Refusal.{refusal as flat_refusal}
+use Rattle.flat_fate.specs.Code.{items_lines}
+use Rattle.flat_fate.proofs.FlatWords.{flattened, SharedFate}
 use Rattle.flattener.specs.declared.FlattenAnswer.{FlattenAnswer}
 use Rattle.flattener.specs.declared.FlattenAnswer.TheVariants.{Flattened, Refused as FlattenRefused}
 
 -- A flattening in numbers: the words of the list, or the refusal.
-abbrev pub flattenNumbers : FlattenAnswer → Numbers
-flattenNumbers (Flattened words) = done words 0
-flattenNumbers (FlattenRefused refusal) = refused refusal.number refusal.place
+abbrev pub flatten_numbers : FlattenAnswer → Numbers
+flatten_numbers (Flattened words) = done words 0
+flatten_numbers (FlattenRefused refusal) = refused refusal.number refusal.place
 
 -- What a flattening gives: its answer, that answer in numbers, and the output that it leaves.
 pub record FlattenResult : Type 0 where
@@ -24,33 +24,33 @@ pub record FlattenResult : Type 0 where
   pub numbers : Numbers
   pub list : List ℤ
 
-abbrev pub answerAndList : FlattenAnswer → List ℤ → FlattenResult
-answerAndList answer list = record { answer = answer; numbers = flattenNumbers answer; list = list }
+abbrev pub answer_and_list : FlattenAnswer → List ℤ → FlattenResult
+answer_and_list answer list = record { answer = answer; numbers = flatten_numbers answer; list = list }
 
 -- "a shorter output gets 10"; words beyond the result stay.
 abbrev pub written : (list out : List ℤ) → FlattenResult
 written list out =
-    pick (leb (length list) (length out)) (answerAndList (Flattened (length list)) (over list out)) (answerAndList (FlattenRefused (record { number = 10; place = 0 })) out)
+    pick (leb (length list) (length out)) (answer_and_list (Flattened (length list)) (over list out)) (answer_and_list (FlattenRefused (record { number = 10; place = 0 })) out)
 
 -- A refusal first; then the list of docs/FLAT.md.
-abbrev pub flattenAfter : Verdict → (rows out : List ℤ) → FlattenResult
-flattenAfter (Refused refusal) rows out = answerAndList (FlattenRefused refusal) out
-flattenAfter Accepted rows out = written (flattened rows) out
+abbrev pub flatten_after : Verdict → (rows out : List ℤ) → FlattenResult
+flatten_after (Refused refusal) rows out = answer_and_list (FlattenRefused refusal) out
+flatten_after Accepted rows out = written (flattened rows) out
 
 -- "The flat list refuses functions with 25 and the first one's row, just before its 10": the kernel check's causes, 25, then 10.
-unfoldable pub flattenResult : (header rows out : List ℤ) → FlattenResult
-flattenResult header rows out = flattenAfter (plainRefusal header rows) rows out
+unfoldable pub flatten_result : (header rows out : List ℤ) → FlattenResult
+flatten_result header rows out = flatten_after (plain_refusal header rows) rows out
 
 -- ---- the words written
 
 -- What a flat list has to be for a kernel program without functions.
 pub record FlatFormOf (header rows list : List ℤ) : Type 0 where
   -- "the list's exact size": five words a line
-  pub size : length list ≡ 5 * itemsLines (contents rows)
+  pub size : length list ≡ 5 * items_lines (contents rows)
   -- "Jumps stay inside the list or go just past its last line": the list's own check takes it
-  pub accepted : flatRefusal header list ≡ Accepted
+  pub accepted : flat_refusal header list ≡ Accepted
   -- "With no limit on steps, a flat run and the kernel run on equal stores both end or neither does; if they end, ending and every store word agree."
-  pub shares-fate : (store : List ℤ) → SharedFate header rows list store
+  pub shares_fate : (store : List ℤ) → SharedFate header rows list store
 
 -- The first words of the output, as many as the answer says.
 pub record WroteList (header rows : List ℤ) (words : ℕ) (left : List ℤ) : Type 0 where

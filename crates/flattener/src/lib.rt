@@ -1,10 +1,12 @@
 // The flattener: writes the flat list of a legal kernel program without functions.
+#![tactic(auto)]
+
 ghost use Rattle.std.specs.Prelude.{◌≡◌};
-ghost use Rattle.flat_kernel_rows.specs.Rows.{KernelTable};
-ghost use Rattle.flat_fate.specs.FlatWords.{flattened};
+ghost use Rattle.flat_kernel_rows.proofs.Rows.{KernelTable};
+ghost use Rattle.flat_fate.proofs.FlatWords.{flattened};
 ghost use Rattle.flat_sizes.specs.Tables.{Sized};
 ghost use Rattle.flat_lines.specs.Lent.{Exact};
-ghost use Rattle.flattener.specs.Flattening.{answerAndList, written, flattenResult, WritesList};
+ghost use Rattle.flattener.specs.Flattening.{answer_and_list, written, flatten_result, WritesList};
 
 use check_structure::row_number::wide;
 use flat_lines::rows::put_rows;
@@ -13,7 +15,7 @@ use flat_sizes::sizes::size_rows;
 use words::{Refusal, Verdict};
 
 // What flattening answers: how many words the list has.
-#[derive(Drop)]
+#[derive(Clone, Copy)]
 pub enum FlattenAnswer {
     Flattened(usize),
     Refused(Refusal),
@@ -33,7 +35,7 @@ fn write_sized(rows: &[i32], sizes: &[u16], out: &mut [i32])
 // Writes the list of a plain kernel table: cause 10, before the first word is written.
 fn flatten_accepted(rows: &[i32], out: &mut [i32]) -> FlattenAnswer
     requires { KernelTable rows.now }
-    ensures { answerAndList result out.new ≡ written (flattened rows.now) out.old }
+    ensures { answer_and_list result out.new ≡ written (flattened rows.now) out.old }
 {
     let mut sizes = [0u16; 40980];
     size_rows(rows, &mut sizes);
@@ -51,7 +53,7 @@ fn flatten_accepted(rows: &[i32], out: &mut [i32]) -> FlattenAnswer
 // Flattens a kernel program: the kernel check's causes, 25 where it has functions, then 10. The second promise is about the words that were
 // written: the list's own check takes them, they are as many as they must be, and both runs share their fate.
 pub fn flatten(header: &[i32], rows: &[i32], out: &mut [i32]) -> FlattenAnswer
-    ensures out_after { answerAndList result out.new ≡ flattenResult header.now rows.now out.old }
+    ensures out_after { answer_and_list result out.new ≡ flatten_result header.now rows.now out.old }
     ensures writes_list { WritesList header.now rows.now result out.new }
 {
     let verdict = check_plain::check(header, rows);

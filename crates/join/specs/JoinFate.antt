@@ -9,7 +9,7 @@ use Rattle.join.specs.Followed.{raised}
 pub record EndsAs (runs : ℕ → Finished) (end : Finished) : Type 0 where
   pub budget : ℕ
   pub is : runs budget ≡ end
-  pub not-spent : end.ending ≡ Spent → ⊥
+  pub not_spent : end.ending ≡ Spent → ⊥
 
 abbrev pub NeverEnds : (ℕ → Finished) → Type 0
 NeverEnds runs = (budget : ℕ) → (runs budget).ending ≡ Spent
@@ -20,7 +20,7 @@ pub record Fate (first : ℕ → Finished) (second : List ℤ → ℕ → Finish
   -- "It ends as the first does where that faults, .."
   pub as_first : (end : Finished) (sort : FaultSort) → EndsAs first end → end.ending ≡ Fault sort → EndsAs joined (raised 1 end)
   -- ".. otherwise as the second does from the store the first left;"
-  pub as-second : (left end : Finished) → EndsAs first left → left.ending ≡ Plain → EndsAs (second left.store) end → EndsAs joined (raised (suc left.count) end)
+  pub as_second : (left end : Finished) → EndsAs first left → left.ending ≡ Plain → EndsAs (second left.store) end → EndsAs joined (raised (suc left.count) end)
   -- "if a run so done never ends, nor does the join."
-  pub endless-first : NeverEnds first → NeverEnds joined
-  pub endless-second : (left : Finished) → EndsAs first left → left.ending ≡ Plain → NeverEnds (second left.store) → NeverEnds joined
+  pub endless_first : NeverEnds first → NeverEnds joined
+  pub endless_second : (left : Finished) → EndsAs first left → left.ending ≡ Plain → NeverEnds (second left.store) → NeverEnds joined

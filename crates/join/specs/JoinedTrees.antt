@@ -2,18 +2,18 @@
 use Rattle.language.specs.Trees.{block, Items, none, ◌then◌, ◌here◌, define}
 
 -- The definitions at the front of a list, and then other items.
-unfoldable pub frontThen : Items → Items → Items
-frontThen none others = others
-frontThen (s then is) others = others
-frontThen (m here is) others = others
-frontThen (define f words body is) others = define f words body (frontThen is others)
+unfoldable pub front_then : Items → Items → Items
+front_then none others = others
+front_then (s then is) others = others
+front_then (m here is) others = others
+front_then (define f words body is) others = define f words body (front_then is others)
 
 -- The items behind the definitions at the front of a list.
-unfoldable pub behindFront : Items → Items
-behindFront none = none
-behindFront (s then is) = s then is
-behindFront (m here is) = m here is
-behindFront (define f words body is) = behindFront is
+unfoldable pub behind_front : Items → Items
+behind_front none = none
+behind_front (s then is) = s then is
+behind_front (m here is) = m here is
+behind_front (define f words body is) = behind_front is
 
-unfoldable pub joinedItems : Items → Items → Items
-joinedItems first second = frontThen first (frontThen second (block (behindFront first) then block (behindFront second) then none))
+unfoldable pub joined_items : Items → Items → Items
+joined_items first second = front_then first (front_then second (block (behind_front first) then block (behind_front second) then none))

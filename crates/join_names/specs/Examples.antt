@@ -2,13 +2,13 @@
 use Rattle.std.specs.Prelude.{◌≡◌, refl, List, [], ◌∷◌, ℕ, ℤ, pos}
 use Rattle.words.specs.Word.{natural}
 use Rattle.words.specs.Table.{word_at, number_at}
-use Rattle.words.specs.Kinds.{kinds, kindIn, kind_of, isLink, sortAt, sortOf, sortIn, kindRow, expressionFields, statementFields, markFields, definitionFields, memberFields}
+use Rattle.words.specs.Kinds.{kinds, kind_in, kind_of, is_link, sort_at, sort_of, sort_in, kind_row, expression_fields, statement_fields, mark_fields, definition_fields, member_fields}
 use Rattle.words.specs.Search.{lowest}
-use Rattle.words.specs.Links.{link, target, linker, received, noteBy, note}
-use Rattle.words.specs.Declarations.{isDeclaration, declarationsBefore}
-use Rattle.names.specs.Names.{isName, inScope, scopeAt, wordOf, meantFrom, parameterFrom, parameterAt, meantAt, variableWord, resolvedName, resolvedWord, resolved}
-use Rattle.check_function_causes.specs.Functions.{isDefinition, around_of, functionAround}
-use Rattle.join.specs.Join.{ofDefinition, isOther, before, functionsFrom, itemFrom, functionsOf, firstItem, place_of, frontOf, placedLink, placedWord, placedRows, firstPlacement, secondPlacement, outerBlock, joinedRows}
+use Rattle.words.specs.Links.{link, target, linker, received, note_by, note}
+use Rattle.words.specs.Declarations.{is_declaration, declarations_before}
+use Rattle.names.specs.Names.{is_name, in_scope, scope_at, word_of, meant_from, parameter_from, parameter_at, meant_at, variable_word, resolved_name, resolved_word, resolved}
+use Rattle.check_function_causes.specs.Functions.{is_definition, around_of, function_around}
+use Rattle.join.specs.Join.{is_of_definition, is_other, before, functions_from, item_from, functions_of, first_item, place_of, front_of, placed_link, placed_word, placed_rows, first_placement, second_placement, outer_block, joined_rows}
 
 -- A row and the rows behind it.
 abbrev row : ℕ → ℕ → ℕ → ℕ → ℕ → ℕ → List ℤ → List ℤ
@@ -28,8 +28,8 @@ twice a b c d =
     row 42 1 0 0 0 0 (row 42 2 0 0 0 6 (row 58 a 3 0 0 4 (row 1 7 0 0 0 0 (row 41 5 0 0 0 0 (row 2 b 0 0 0 0 (
     row 42 7 0 0 0 0 (row 58 c 8 0 0 9 (row 1 7 0 0 0 0 (row 41 10 0 0 0 0 (row 2 d 0 0 0 0 []))))))))))
 
-pub twice-resolved : resolved 10 (joinedRows (declares 0 0) (declares 0 0)) ≡ twice 10 10 11 11
-unfolding joinedRows outerBlock firstPlacement secondPlacement placedRows placedWord placedLink frontOf place_of firstItem functionsOf functionsFrom itemFrom before isOther ofDefinition isDefinition functionAround around_of resolved resolvedWord resolvedName variableWord number_at natural word_at meantAt parameterAt parameterFrom wordOf meantFrom declarationsBefore scopeAt isDeclaration isName inScope note noteBy received linker lowest target link isLink sortAt sortOf sortIn kind_of kindIn kinds kindRow expressionFields statementFields markFields definitionFields memberFields
+pub twice-resolved : resolved 10 (joined_rows (declares 0 0) (declares 0 0)) ≡ twice 10 10 11 11
+unfolding joined_rows outer_block first_placement second_placement placed_rows placed_word placed_link front_of place_of first_item functions_of functions_from item_from before is_other is_of_definition is_definition function_around around_of resolved resolved_word resolved_name variable_word number_at natural word_at meant_at parameter_at parameter_from word_of meant_from declarations_before scope_at is_declaration is_name in_scope note note_by received linker lowest target link is_link sort_at sort_of sort_in kind_of kind_in kinds kind_row expression_fields statement_fields mark_fields definition_fields member_fields
 twice-resolved = refl
 
 -- { { int v0 = 7; v0; } { v0; } }: the first's object is not the second's
@@ -38,8 +38,8 @@ once a b c =
     row 42 1 0 0 0 0 (row 42 2 0 0 0 6 (row 58 a 3 0 0 4 (row 1 7 0 0 0 0 (row 41 5 0 0 0 0 (row 2 b 0 0 0 0 (
     row 42 7 0 0 0 0 (row 41 8 0 0 0 0 (row 2 c 0 0 0 0 []))))))))
 
-pub once-resolved : resolved 10 (joinedRows (declares 0 0) (names 0)) ≡ once 10 10 0
-unfolding joinedRows outerBlock firstPlacement secondPlacement placedRows placedWord placedLink frontOf place_of firstItem functionsOf functionsFrom itemFrom before isOther ofDefinition isDefinition functionAround around_of resolved resolvedWord resolvedName variableWord number_at natural word_at meantAt parameterAt parameterFrom wordOf meantFrom declarationsBefore scopeAt isDeclaration isName inScope note noteBy received linker lowest target link isLink sortAt sortOf sortIn kind_of kindIn kinds kindRow expressionFields statementFields markFields definitionFields memberFields
+pub once-resolved : resolved 10 (joined_rows (declares 0 0) (names 0)) ≡ once 10 10 0
+unfolding joined_rows outer_block first_placement second_placement placed_rows placed_word placed_link front_of place_of first_item functions_of functions_from item_from before is_other is_of_definition is_definition function_around around_of resolved resolved_word resolved_name variable_word number_at natural word_at meant_at parameter_at parameter_from word_of meant_from declarations_before scope_at is_declaration is_name in_scope note note_by received linker lowest target link is_link sort_at sort_of sort_in kind_of kind_in kinds kind_row expression_fields statement_fields mark_fields definition_fields member_fields
 once-resolved = refl
 
 -- f0() { int v0 = 7; } int v0 = 7;
@@ -47,11 +47,11 @@ abbrev within : List ℤ
 within = row 42 1 0 0 0 0 (row 59 0 0 2 0 5 (row 42 3 0 0 0 0 (row 58 0 4 0 0 0 (row 1 7 0 0 0 0 (row 58 0 6 0 0 0 (row 1 7 0 0 0 0 []))))))
 
 -- the words of both functions come before those of the programs' own items
-pub functions-resolved : resolved 10 (joinedRows within within)
+pub functions-resolved : resolved 10 (joined_rows within within)
     ≡ (row 42 1 0 0 0 0 (
     row 59 0 0 2 0 5 (row 42 3 0 0 0 0 (row 58 10 4 0 0 0 (row 1 7 0 0 0 0 (
     row 59 1 0 6 0 9 (row 42 7 0 0 0 0 (row 58 11 8 0 0 0 (row 1 7 0 0 0 0 (
     row 42 10 0 0 0 12 (row 58 12 11 0 0 0 (row 1 7 0 0 0 0 (
     row 42 13 0 0 0 0 (row 58 13 14 0 0 0 (row 1 7 0 0 0 0 [])))))))))))))))
-unfolding joinedRows outerBlock firstPlacement secondPlacement placedRows placedWord placedLink frontOf place_of firstItem functionsOf functionsFrom itemFrom before isOther ofDefinition isDefinition functionAround around_of resolved resolvedWord resolvedName variableWord number_at natural word_at meantAt parameterAt parameterFrom wordOf meantFrom declarationsBefore scopeAt isDeclaration isName inScope note noteBy received linker lowest target link isLink sortAt sortOf sortIn kind_of kindIn kinds kindRow expressionFields statementFields markFields definitionFields memberFields
+unfolding joined_rows outer_block first_placement second_placement placed_rows placed_word placed_link front_of place_of first_item functions_of functions_from item_from before is_other is_of_definition is_definition function_around around_of resolved resolved_word resolved_name variable_word number_at natural word_at meant_at parameter_at parameter_from word_of meant_from declarations_before scope_at is_declaration is_name in_scope note note_by received linker lowest target link is_link sort_at sort_of sort_in kind_of kind_in kinds kind_row expression_fields statement_fields mark_fields definition_fields member_fields
 functions-resolved = refl

@@ -12,13 +12,5 @@ pub mod MovedScope
 pub mod ResolvedFronts
 -- MovedNames: a resolved table that holds another one's rows, with its words and its functions renamed.
 pub mod MovedNames
--- JoinedWords: a program's declared words stand where the new rows of its declarations put them.
-pub mod JoinedWords
 -- JoinedCalls: functions are looked up by their new numbers.
 pub mod JoinedCalls
--- JoinedNames: both parts of a join whose names are resolved, and its tree.
-pub mod JoinedNames
--- MovedRun: what is shown of a run does not hang on where its declared words stand, nor on what they held at the start.
-pub mod MovedRun
--- JoinedFateLaws: the fate of a join, from its run at every budget.
-pub mod JoinedFateLaws

@@ -8,69 +8,69 @@ use Rattle.std.proofs.Math.Decide.{dec_lt}
 use borrow.Author.Tests.{ne_eqb}
 use Rattle.words.specs.Word.{pick}
 use Rattle.words.specs.Laws.{by_cases, both}
-use Rattle.words.specs.Table.{rowCount, number_at}
-use Rattle.words.specs.Declarations.{isDeclaration}
+use Rattle.words.specs.Table.{row_count, number_at}
+use Rattle.words.specs.Declarations.{is_declaration}
 use Rattle.words.specs.Links.{link, note}
 use Rattle.words.specs.declared.Form.{Form}
 use Rattle.check_fields.specs.declared.Bounds.{Bounds}
 use Rattle.check_structure.specs.LinkLaws.{part-inside}
 use Rattle.check_structure.specs.Structured.{Structured, Tree}
 use Rattle.check_structure.specs.StructuredLaws.{structured-tree}
-use Rattle.names.specs.Names.{inScope, scopeAt, meantFrom, parameterFrom, parameterAt, meantAt}
-use Rattle.names.specs.ScopeLaws.{declaration-beyond, NoneOrDeclared, scope-declared, NoneOrNumbered, meant-from, scope-before}
-use Rattle.check_function_causes.specs.Functions.{isDefinition, functionAround}
-use Rattle.check_function_causes.specs.AroundLaws.{around-most}
+use Rattle.names.specs.Names.{in_scope, scope_at, meant_from, parameter_from, parameter_at, meant_at}
+use Rattle.names.proofs.ScopeLaws.{declaration-beyond, NoneOrDeclared, scope-declared, NoneOrNumbered, meant-from, scope-before}
+use Rattle.check_function_causes.specs.Functions.{is_definition, function_around}
+use Rattle.check_function_causes.proofs.AroundLaws.{around-most}
 use Rattle.check_function_causes.specs.Demands.{InFront}
-use Rattle.check_declaration_causes.specs.DeclarationLaws.{block-undeclared}
-use Rattle.join.specs.Fronts.{atSeam, kept-part, kept_row}
-use Rattle.join.specs.Kept.{InOrder, ordered, kept-undefined}
-use Rattle.join.specs.Moved.{movedLink, Holds, moved-some, declaration-held, link-held}
-use Rattle.join.specs.MovedDeclarations.{declared-number, not_root}
-use Rattle.join.specs.MovedFunctions.{AroundMoved}
-use Rattle.join.specs.MovedNotes.{Hands, HandsMoved, moved-note}
-use Rattle.join.specs.MovedRoles.{definition-undeclared}
+use Rattle.check_declaration_causes.proofs.DeclarationLaws.{block-undeclared}
+use Rattle.join.proofs.Fronts.{at_seam, kept-part, kept_row}
+use Rattle.join.proofs.Kept.{InOrder, ordered, kept-undefined}
+use Rattle.join.proofs.Moved.{moved_link, Holds, moved-some, declaration-held, link-held}
+use Rattle.join.proofs.MovedDeclarations.{declared-number, not_root}
+use Rattle.join.proofs.MovedFunctions.{AroundMoved}
+use Rattle.join.proofs.MovedNotes.{Hands, HandsMoved, moved-note}
+use Rattle.join.proofs.MovedRoles.{definition-undeclared}
 
 -- scopes are handed along the links
-pub scope-hands : (rows : List ℤ) → Hands rows (inScope rows)
-unfolding inScope
+pub scope-hands : (rows : List ℤ) → Hands rows (in_scope rows)
+unfolding in_scope
 scope-hands rows = record { root = refl; along = λ row d. rw (definition-undeclared rows row d) }
 
 -- Row 0 of the new table declares nothing; row 0 of the old table and its definitions stand in no scope of the new one, and each row in the function that it
 -- stood in.
 pub record Outside (joined rows : List ℤ) (ρ : ℕ → ℕ) : Type 0 where
-  pub outer : isDeclaration joined 0 ≡ false
-  pub root : scopeAt joined (ρ 0) ≡ 0
-  pub front : (row place : ℕ) → InFront rows row place → scopeAt joined (ρ row) ≡ 0
+  pub outer : is_declaration joined 0 ≡ false
+  pub root : scope_at joined (ρ 0) ≡ 0
+  pub front : (row place : ℕ) → InFront rows row place → scope_at joined (ρ row) ≡ 0
   pub around : AroundMoved joined rows ρ
 
 module _ {form : Form} {bounds : Bounds} {joined rows : List ℤ} {ρ φ : ℕ → ℕ} (s : Structured form bounds rows) (i : InOrder rows) (h : Holds joined rows ρ φ) (t : Tree joined)
-    (above : (row : ℕ) → row < rowCount rows → 0 < ρ row) (out : Outside joined rows ρ) where
+    (above : (row : ℕ) → row < row_count rows → 0 < ρ row) (out : Outside joined rows ρ) where
   old : Tree rows
   old = structured-tree form bounds rows s
 
   -- ---- scopes
 
   -- what a row hands on, moved
-  handed : (owner field : ℕ) → owner < rowCount rows → note (inScope joined) 0 joined (ρ owner) ≡ movedLink ρ (note (inScope rows) 0 rows owner)
-      → inScope joined (ρ owner) field (note (inScope joined) 0 joined (ρ owner)) ≡ movedLink ρ (inScope rows owner field (note (inScope rows) 0 rows owner))
-  unfolding inScope
+  handed : (owner field : ℕ) → owner < row_count rows → note (in_scope joined) 0 joined (ρ owner) ≡ moved_link ρ (note (in_scope rows) 0 rows owner)
+      → in_scope joined (ρ owner) field (note (in_scope joined) 0 joined (ρ owner)) ≡ moved_link ρ (in_scope rows owner field (note (in_scope rows) 0 rows owner))
+  unfolding in_scope
   handed owner field n above =
       rw (declaration-held h owner n)
-      (by_cases (eqb field 5 && isDeclaration rows owner)
-      (λ e. rw e (sym (moved-some ρ owner (not_root s i h owner (both (eqb field 5) (isDeclaration rows owner) e).1))))
+      (by_cases (eqb field 5 && is_declaration rows owner)
+      (λ e. rw e (sym (moved-some ρ owner (not_root s i h owner (both (eqb field 5) (is_declaration rows owner) e).1))))
       (λ e. rw e above))
 
-  scope-held : HandsMoved joined rows ρ (inScope rows) (inScope joined)
-  unfolding scopeAt inScope
+  scope-held : HandsMoved joined rows ρ (in_scope rows) (in_scope joined)
+  unfolding scope_at in_scope
   scope-held = record { kept = λ owner field n f k above. handed owner field n above; block = refl; top = out.root; front = λ {row} {place} f. out.front row place f }
 
-  pub moved-scope : (row : ℕ) → row < rowCount rows → scopeAt joined (ρ row) ≡ movedLink ρ (scopeAt rows row)
-  unfolding scopeAt
+  pub moved-scope : (row : ℕ) → row < row_count rows → scope_at joined (ρ row) ≡ moved_link ρ (scope_at rows row)
+  unfolding scope_at
   moved-scope = moved-note s i h t (scope-hands rows) scope-held
 
-  moved-from : (outward declaration number : ℕ) → declaration < rowCount rows → NoneOrDeclared rows declaration
-      → meantFrom outward joined (movedLink ρ declaration) number ≡ movedLink ρ (meantFrom outward rows declaration number)
-  unfolding meantFrom
+  moved-from : (outward declaration number : ℕ) → declaration < row_count rows → NoneOrDeclared rows declaration
+      → meant_from outward joined (moved_link ρ declaration) number ≡ moved_link ρ (meant_from outward rows declaration number)
+  unfolding meant_from
   moved-from zero declaration number n d = refl
   moved-from (suc outward) zero number n d = refl
   moved-from (suc outward) (suc declaration) number n (inl z) = absurd (omega arith)
@@ -78,34 +78,34 @@ module _ {form : Form} {bounds : Bounds} {joined rows : List ℤ} {ρ φ : ℕ �
       let up = above (suc declaration) n in
       rw (ne_eqb (ρ (suc declaration)) 0 (λ q. omega arith), ne_eqb (suc declaration) 0 (λ q. omega arith), declared-number s i h (suc declaration) n d, moved-scope (suc declaration) n)
       (by_cases (eqb (number_at rows (suc declaration) 1) number) (λ e. rw e)
-      (λ e. rw e (moved-from outward (scopeAt rows (suc declaration)) number (omega (arith, scope-before rows old (suc declaration) n)) (scope-declared rows (suc declaration)))))
+      (λ e. rw e (moved-from outward (scope_at rows (suc declaration)) number (omega (arith, scope-before rows old (suc declaration) n)) (scope-declared rows (suc declaration)))))
 
   -- ---- parameters
 
   -- a row that definitions do not link, or none
   abbrev Listed : ℕ → Type 0
-  Listed row = (row < rowCount rows) × (0 < row → isDefinition rows row ≡ false)
+  Listed row = (row < row_count rows) × (0 < row → is_definition rows row ≡ false)
 
   -- what a kept field links
-  linked : (row field : ℕ) → row < rowCount rows → field < 6 → atSeam rows row field ≡ false → Listed (link rows row field)
+  linked : (row field : ℕ) → row < row_count rows → field < 6 → at_seam rows row field ≡ false → Listed (link rows row field)
   linked row field n f k =
       (part-inside rows old row field (link rows row field) n f refl, λ p. kept-undefined (ordered s i) row field f (old.forward row field n f p) k)
 
-  moved-parameter : (most parameter number : ℕ) → Listed parameter → parameterFrom most joined (movedLink ρ parameter) number ≡ movedLink ρ (parameterFrom most rows parameter number)
-  unfolding parameterFrom
+  moved-parameter : (most parameter number : ℕ) → Listed parameter → parameter_from most joined (moved_link ρ parameter) number ≡ moved_link ρ (parameter_from most rows parameter number)
+  unfolding parameter_from
   moved-parameter zero parameter number l = refl
   moved-parameter (suc most) zero number l = rw (out.outer, block-undeclared rows 0 s.block)
   moved-parameter (suc most) (suc parameter) number l =
       let k = kept_row rows (suc parameter) 5 (omega arith) (l.1 (omega arith)) in
       rw (declaration-held h (suc parameter) l.0, link-held h (suc parameter) 5 l.0 (omega arith) k)
-      (by_cases (isDeclaration rows (suc parameter))
+      (by_cases (is_declaration rows (suc parameter))
       (λ d. rw (d, declared-number s i h (suc parameter) l.0 d)
       (by_cases (eqb (number_at rows (suc parameter) 1) number) (λ e. rw e)
       (λ e. rw e (moved-parameter most (link rows (suc parameter) 5) number (linked (suc parameter) 5 l.0 (omega arith) k)))))
       (λ d. rw d))
 
-  moved_at : (definition number : ℕ) → definition < rowCount rows → parameterAt joined (movedLink ρ definition) number ≡ movedLink ρ (parameterAt rows definition number)
-  unfolding parameterAt
+  moved_at : (definition number : ℕ) → definition < row_count rows → parameter_at joined (moved_link ρ definition) number ≡ moved_link ρ (parameter_at rows definition number)
+  unfolding parameter_at
   moved_at zero number n = refl
   moved_at (suc definition) number n =
       let up = above (suc definition) n in
@@ -115,22 +115,22 @@ module _ {form : Form} {bounds : Bounds} {joined rows : List ℤ} {ρ φ : ℕ �
 
   -- ---- meanings
 
-  declared-inside : (row : ℕ) → isDeclaration rows row ≡ true → row < rowCount rows
-  declared-inside row d = go (dec_lt row (rowCount rows))
+  declared-inside : (row : ℕ) → is_declaration rows row ≡ true → row < row_count rows
+  declared-inside row d = go (dec_lt row (row_count rows))
     where
-      go : Dec (row < rowCount rows) → row < rowCount rows
+      go : Dec (row < row_count rows) → row < row_count rows
       go (yes n) = n
       go (no n) = absurd (true≢false (sym d ∙ declaration-beyond rows row (omega (arith, n, old.whole))))
 
-  moved-declared : (row number : ℕ) → row < rowCount rows → meantFrom 64 joined (scopeAt joined (ρ row)) number ≡ movedLink ρ (meantFrom 64 rows (scopeAt rows row) number)
-  moved-declared row number n = rw (moved-scope row n) (moved-from 64 (scopeAt rows row) number (omega (arith, scope-before rows old row n)) (scope-declared rows row))
+  moved-declared : (row number : ℕ) → row < row_count rows → meant_from 64 joined (scope_at joined (ρ row)) number ≡ moved_link ρ (meant_from 64 rows (scope_at rows row) number)
+  moved-declared row number n = rw (moved-scope row n) (moved-from 64 (scope_at rows row) number (omega (arith, scope-before rows old row n)) (scope-declared rows row))
 
-  pub moved-meant : (row number : ℕ) → row < rowCount rows → meantAt joined (ρ row) number ≡ movedLink ρ (meantAt rows row number)
-  unfolding meantAt
-  moved-meant row number n = rw (moved-declared row number n, out.around row n) (go (meantFrom 64 rows (scopeAt rows row) number) (meant-from rows 64 (scopeAt rows row) number (scope-declared rows row)))
+  pub moved-meant : (row number : ℕ) → row < row_count rows → meant_at joined (ρ row) number ≡ moved_link ρ (meant_at rows row number)
+  unfolding meant_at
+  moved-meant row number n = rw (moved-declared row number n, out.around row n) (go (meant_from 64 rows (scope_at rows row) number) (meant-from rows 64 (scope_at rows row) number (scope-declared rows row)))
     where
-      go : (declaration : ℕ) → NoneOrNumbered rows number declaration → pick (eqb (movedLink ρ declaration) 0) (parameterAt joined (movedLink ρ (functionAround rows row)) number) (movedLink ρ declaration)
-          ≡ movedLink ρ (pick (eqb declaration 0) (parameterAt rows (functionAround rows row) number) declaration)
-      go zero d = moved_at (functionAround rows row) number (omega (arith, around-most rows old row n))
+      go : (declaration : ℕ) → NoneOrNumbered rows number declaration → pick (eqb (moved_link ρ declaration) 0) (parameter_at joined (moved_link ρ (function_around rows row)) number) (moved_link ρ declaration)
+          ≡ moved_link ρ (pick (eqb declaration 0) (parameter_at rows (function_around rows row) number) declaration)
+      go zero d = moved_at (function_around rows row) number (omega (arith, around-most rows old row n))
       go (suc declaration) (inl z) = absurd (omega arith)
       go (suc declaration) (inr d) = let up = above (suc declaration) (declared-inside (suc declaration) d.0) in rw (ne_eqb (ρ (suc declaration)) 0 (λ q. omega arith), ne_eqb (suc declaration) 0 (λ q. omega arith))

@@ -1,1 +1,2 @@
 // Joins of programs with declarations: definitions and laws alone, in specs/.
+#![tactic(auto)]

@@ -5,8 +5,8 @@ ghost use Rattle.words.specs.Word.{pick, one};
 ghost use Rattle.check_grammar.specs.Grammar.{grammar};
 ghost use Rattle.check_structure.specs.Structured.{Tree};
 ghost use Rattle.check_structure.specs.Passes.{Notes};
-ghost use Rattle.check_function_causes.specs.Functions.{isDefinition, functionAround};
-ghost use Rattle.join.specs.Join.{ofDefinition, definitionRows, functionsOf, firstItem};
+ghost use Rattle.check_function_causes.specs.Functions.{is_definition, function_around};
+ghost use Rattle.join.specs.Join.{is_of_definition, definition_rows, functions_of, first_item};
 ghost use Rattle.join_rows.specs.Standings.{rank_of};
 
 use super::Front;
@@ -16,8 +16,8 @@ use words_roles::is_definition;
 
 // A row of a definition: its own, or one that stands in a function.
 pub fn is_of_definition(rows: &[i32], around: &[u16], row: usize) -> bool
-    requires { Tree rows.now × (row < length rows.now / 6) × Notes rows.now (functionAround rows.now) around.now }
-    ensures { result ≡ ofDefinition rows.now row }
+    requires { Tree rows.now × (row < length rows.now / 6) × Notes rows.now (function_around rows.now) around.now }
+    ensures { result ≡ is_of_definition rows.now row }
 {
     if is_definition(rows, row) {
         return true;
@@ -49,8 +49,8 @@ fn counted(of_definition: bool, definitions: usize) -> usize
 
 // Writes how many rows of its part come before each row; how many are rows of definitions.
 pub fn write_ranks(rows: &[i32], around: &[u16], ranks: &mut [u16]) -> usize
-    requires { Tree rows.now × Notes rows.now (functionAround rows.now) around.now × (length rows.now / 6 ≤ length ranks.old) }
-    ensures { (result ≡ definitionRows rows.now) × Notes rows.now (rank_of rows.now) ranks.new }
+    requires { Tree rows.now × Notes rows.now (function_around rows.now) around.now × (length rows.now / 6 ≤ length ranks.old) }
+    ensures { (result ≡ definition_rows rows.now) × Notes rows.now (rank_of rows.now) ranks.new }
 {
     let count = rows.len() / 6;
     let mut definitions: usize = 0;
@@ -66,8 +66,8 @@ pub fn write_ranks(rows: &[i32], around: &[u16], ranks: &mut [u16]) -> usize
 
 // The definitions at the front: a walk along row 0's list, while it has definitions.
 pub fn front_of(kinds: &KindTable, rows: &[i32]) -> Front
-    requires { Tree rows.now × (isDefinition rows.now 0 ≡ false) × (kinds.now ≡ grammar) }
-    ensures { (result.functions ≡ functionsOf rows.now) × (result.item ≡ firstItem rows.now) × (result.item < length rows.now / 6) × (result.functions < length rows.now / 6) }
+    requires { Tree rows.now × (is_definition rows.now 0 ≡ false) × (kinds.now ≡ grammar) }
+    ensures { (result.functions ≡ functions_of rows.now) × (result.item ≡ first_item rows.now) × (result.item < length rows.now / 6) × (result.functions < length rows.now / 6) }
 {
     let mut row = link(kinds, rows, 0, 1);
     let mut number: usize = 0;

@@ -2,8 +2,8 @@
 ghost use Rattle.std.specs.Prelude.{◌≡◌, ◌&&◌, ◌/◌, ◌<◌, eqb, length};
 ghost use Rattle.words.specs.Word.{pick};
 ghost use Rattle.check_grammar.specs.Grammar.{grammar};
-ghost use Rattle.join.specs.Join.{place_of, frontOf, placedLink, placedWord};
-ghost use Rattle.join_rows.specs.Standings.{placementOf, Ready};
+ghost use Rattle.join.specs.Join.{place_of, front_of, placed_link, placed_word};
+ghost use Rattle.join_rows.specs.Standings.{placement_of, Ready};
 
 use super::Standing;
 use super::parts::is_of_definition;
@@ -15,7 +15,7 @@ use words_roles::is_definition;
 // The new number of a row.
 fn place(standing: Standing, rows: &[i32], around: &[u16], ranks: &[u16], row: usize) -> usize
     requires { Ready rows.now around.now ranks.now standing × (row < length rows.now / 6) }
-    ensures { (result ≡ place_of (placementOf standing) rows.now row) × (result < 65536) }
+    ensures { (result ≡ place_of (placement_of standing) rows.now row) × (result < 65536) }
 {
     let rank = wide(ranks[row]);
     if is_of_definition(rows, around, row) {
@@ -27,7 +27,7 @@ fn place(standing: Standing, rows: &[i32], around: &[u16], ranks: &[u16], row: u
 // A link that is led along; 0 stays absent.
 fn led(standing: Standing, rows: &[i32], around: &[u16], ranks: &[u16], to: usize) -> usize
     requires { Ready rows.now around.now ranks.now standing × (to < length rows.now / 6) }
-    ensures { (result ≡ pick (eqb to 0) 0 (place_of (placementOf standing) rows.now to)) × (result < 65536) }
+    ensures { (result ≡ pick (eqb to 0) 0 (place_of (placement_of standing) rows.now to)) × (result < 65536) }
 {
     if to == 0 {
         return 0;
@@ -38,7 +38,7 @@ fn led(standing: Standing, rows: &[i32], around: &[u16], ranks: &[u16], to: usiz
 // From this item on the list of the new block: a definition, or what stands behind the program's definitions.
 pub fn front(standing: Standing, rows: &[i32], around: &[u16], ranks: &[u16], item: usize) -> usize
     requires { Ready rows.now around.now ranks.now standing × (item < length rows.now / 6) }
-    ensures { (result ≡ frontOf (placementOf standing) rows.now item) × (result < 65536) }
+    ensures { (result ≡ front_of (placement_of standing) rows.now item) × (result < 65536) }
 {
     if is_definition(rows, item) {
         return place(standing, rows, around, ranks, item);
@@ -56,7 +56,7 @@ fn next_link(
     row: usize,
 ) -> usize
     requires { Ready rows.now around.now ranks.now standing × (row < length rows.now / 6) × (kinds.now ≡ grammar) }
-    ensures { (result ≡ placedLink (placementOf standing) rows.now row 5) × (result < 65536) }
+    ensures { (result ≡ placed_link (placement_of standing) rows.now row 5) × (result < 65536) }
 {
     let to = link(kinds, rows, row, 5);
     if is_definition(rows, row) {
@@ -89,7 +89,7 @@ fn part_link(
     field: usize,
 ) -> usize
     requires { Ready rows.now around.now ranks.now standing × (row < length rows.now / 6) × (field < 5) × (kinds.now ≡ grammar) }
-    ensures { (result ≡ placedLink (placementOf standing) rows.now row field) × (result < 65536) }
+    ensures { (result ≡ placed_link (placement_of standing) rows.now row field) × (result < 65536) }
 {
     if is_first(row, field) {
         return led(standing, rows, around, ranks, standing.item);
@@ -109,7 +109,7 @@ fn placed_link(
     field: usize,
 ) -> usize
     requires { Ready rows.now around.now ranks.now standing × (row < length rows.now / 6) × (field < 6) × (kinds.now ≡ grammar) }
-    ensures { (result ≡ placedLink (placementOf standing) rows.now row field) × (result < 65536) }
+    ensures { (result ≡ placed_link (placement_of standing) rows.now row field) × (result < 65536) }
 {
     if field == 5 {
         return next_link(kinds, standing, rows, around, ranks, row);
@@ -128,7 +128,7 @@ pub fn placed_word(
     field: usize,
 ) -> i32
     requires { Ready rows.now around.now ranks.now standing × (row < length rows.now / 6) × (field < 6) × (kinds.now ≡ grammar) }
-    ensures { result ≡ placedWord (placementOf standing) rows.now row field }
+    ensures { result ≡ placed_word (placement_of standing) rows.now row field }
 {
     let sort = sort_at(kinds, rows, row, field);
     if is_link(sort) {

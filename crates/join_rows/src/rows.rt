@@ -7,9 +7,9 @@ ghost use Rattle.words.specs.OverLaws.{part as rest, back_in};
 ghost use Rattle.check_grammar.specs.Grammar.{tabulate, grammar};
 ghost use Rattle.check_structure.specs.Structured.{Tree};
 ghost use Rattle.check_functions.specs.Passes.{Blank};
-ghost use Rattle.join.specs.Join.{before, placedWord, placedRows, outerBlock, joinedRows};
+ghost use Rattle.join.specs.Join.{before, placed_word, placed_rows, outer_block, joined_rows};
 ghost use Rattle.join_rows.specs.Parts.{Parts};
-ghost use Rattle.join_rows.specs.Standings.{chosen_of, part, placementOf, Ready, Noted, Standings};
+ghost use Rattle.join_rows.specs.Standings.{chosen_of, part, placement_of, Ready, Noted, Standings};
 
 use super::Standing;
 use super::parts::{front_of, is_of_definition, write_ranks};
@@ -30,7 +30,7 @@ fn put_words(
     out: &mut [i32],
 )
     requires { Ready rows.now around.now ranks.now standing × (row < length rows.now / 6) × (6 ≤ length out.old) × (kinds.now ≡ grammar) }
-    ensures { out.new ≡ over (tabulate (placedWord (placementOf standing) rows.now row) 0 6) out.old }
+    ensures { out.new ≡ over (tabulate (placed_word (placement_of standing) rows.now row) 0 6) out.old }
 {
     let mut field: usize = 0;
     while field < 6 {
@@ -61,7 +61,7 @@ fn put_chosen(
     out: &mut [i32],
 ) -> usize
     requires { Ready rows.now around.now ranks.now standing × (row < length rows.now / 6) × (pick chosen 6 0 ≤ length out.old) × (kinds.now ≡ grammar) }
-    ensures { (out.new ≡ over (pick chosen (tabulate (placedWord (placementOf standing) rows.now row) 0 6) []) out.old) × (result ≡ pick chosen 6 0) }
+    ensures { (out.new ≡ over (pick chosen (tabulate (placed_word (placement_of standing) rows.now row) 0 6) []) out.old) × (result ≡ pick chosen 6 0) }
 {
     if chosen {
         put_words(kinds, standing, rows, around, ranks, row, out);
@@ -81,7 +81,7 @@ fn put_rows(
     out: &mut [i32],
 ) -> usize
     requires { Ready rows.now around.now ranks.now standing × (6 * before (part definitions rows.now) (length rows.now / 6) ≤ length out.old) × (kinds.now ≡ grammar) }
-    ensures { (out.new ≡ over (placedRows (placementOf standing) (part definitions rows.now) rows.now (length rows.now / 6)) out.old) × (result ≡ 6 * before (part definitions rows.now) (length rows.now / 6)) }
+    ensures { (out.new ≡ over (placed_rows (placement_of standing) (part definitions rows.now) rows.now (length rows.now / 6)) out.old) × (result ≡ 6 * before (part definitions rows.now) (length rows.now / 6)) }
 {
     let count = rows.len() / 6;
     let mut at: usize = 0;
@@ -107,7 +107,7 @@ fn put_rows(
 // Writes the new block, with its first item.
 fn put_outer(item: usize, out: &mut [i32])
     requires { (item < 65536) × (6 ≤ length out.old) }
-    ensures { out.new ≡ over (outerBlock item) out.old }
+    ensures { out.new ≡ over (outer_block item) out.old }
 {
     put(&[42, item as i32, 0, 0, 0, 0], out);
 }
@@ -124,7 +124,7 @@ fn put_part(
     out: &mut [i32],
 ) -> usize
     requires { Ready rows.now around.now ranks.now standing × (at ≤ 65536) × (at + 6 * before (part definitions rows.now) (length rows.now / 6) ≤ length out.old) × (kinds.now ≡ grammar) }
-    ensures { (out.new ≡ back_in at out.old (over (placedRows (placementOf standing) (part definitions rows.now) rows.now (length rows.now / 6)) (rest at out.old))) × (result ≡ at + 6 * before (part definitions rows.now) (length rows.now / 6)) }
+    ensures { (out.new ≡ back_in at out.old (over (placed_rows (placement_of standing) (part definitions rows.now) rows.now (length rows.now / 6)) (rest at out.old))) × (result ≡ at + 6 * before (part definitions rows.now) (length rows.now / 6)) }
 {
     at + put_rows(
         kinds,
@@ -151,7 +151,7 @@ fn put_parts(
     out: &mut [i32],
 )
     requires { Ready first.now around.now ranks.now of_first × Ready second.now second_around.now second_ranks.now of_second × Standings first.now second.now of_first of_second × (6 + length first.now + length second.now ≤ length out.old) × (kinds.now ≡ grammar) }
-    ensures { out.new ≡ over (joinedRows first.now second.now) out.old }
+    ensures { out.new ≡ over (joined_rows first.now second.now) out.old }
 {
     let item = front(of_first, first, around, ranks, link(kinds, first, 0, 1));
     put_outer(item, out);
@@ -215,7 +215,7 @@ fn put_noted(
     out: &mut [i32],
 )
     requires { Parts first.now second.now × Noted first.now around.now ranks.now definitions × Noted second.now second_around.now second_ranks.now second_definitions × (6 + length first.now + length second.now ≤ length out.old) × (kinds.now ≡ grammar) }
-    ensures { out.new ≡ over (joinedRows first.now second.now) out.old }
+    ensures { out.new ≡ over (joined_rows first.now second.now) out.old }
 {
     let front_of_first = front_of(kinds, first);
     let front_of_second = front_of(kinds, second);
@@ -267,7 +267,7 @@ fn note_rows(kinds: &KindTable, rows: &[i32], around: &mut [u16], ranks: &mut [u
 // Writes the joined rows: what is noted of the rows comes first.
 pub fn put_joined(kinds: &KindTable, first: &[i32], second: &[i32], out: &mut [i32])
     requires { Parts first.now second.now × (6 + length first.now + length second.now ≤ length out.old) × (kinds.now ≡ grammar) }
-    ensures { out.new ≡ over (joinedRows first.now second.now) out.old }
+    ensures { out.new ≡ over (joined_rows first.now second.now) out.old }
 {
     let mut around = [0u16; 2048];
     let mut ranks = [0u16; 2048];
@@ -292,7 +292,7 @@ pub fn put_joined(kinds: &KindTable, first: &[i32], second: &[i32], out: &mut [i
 // The same, with the table of kinds.
 pub fn write_joined(first: &[i32], second: &[i32], out: &mut [i32])
     requires { Parts first.now second.now × (6 + length first.now + length second.now ≤ length out.old) }
-    ensures { out.new ≡ over (joinedRows first.now second.now) out.old }
+    ensures { out.new ≡ over (joined_rows first.now second.now) out.old }
 {
     let kinds = kind_table();
     put_joined(&kinds, first, second, out);

@@ -5,11 +5,11 @@ use Rattle.std.proofs.Common.{sym, ◌∙◌, subst, arith, add-one, length-appe
 use Rattle.std.proofs.Math.ListN.{drop_of_length-le}
 use Rattle.std.proofs.Math.Seq.{drop-cons}
 use Rattle.std.proofs.lemmas.Bool.{lt-leb}
-use Rattle.words.specs.Word.{sameWord}
-use Rattle.words.specs.Laws.{by_cases, countFits-facts}
+use Rattle.words.specs.Word.{same_word}
+use Rattle.words.specs.Laws.{by_cases, count_fits-facts}
 use Rattle.words.specs.Over.{over}
 use Rattle.words.specs.OverLaws.{length_over, take-over}
-use Rattle.words.specs.Table.{rowCount}
+use Rattle.words.specs.Table.{row_count}
 use Rattle.words.specs.Links.{link}
 use Rattle.words.specs.declared.Form.TheVariants.{Source}
 use Rattle.words.specs.declared.Refusal.{Refusal}
@@ -22,40 +22,40 @@ use Rattle.check_fields.specs.declared.Bounds.{Bounds}
 use Rattle.check_structure.specs.Structured.{Structured}
 use Rattle.check_structure.specs.StructuredLaws.{structured-tree}
 use Rattle.check_source.specs.Refusal.{refusal}
-use Rattle.check_source.specs.AcceptsLegal.{accepts-legal}
+use Rattle.check_source.proofs.AcceptsLegal.{accepts-legal}
 use Rattle.check_source.specs.Legal.{Legal}
-use Rattle.check_function_causes.specs.Functions.{isDefinition}
+use Rattle.check_function_causes.specs.Functions.{is_definition}
 use Rattle.check_function_causes.specs.Demands.{WellCalled}
-use Rattle.check_function_causes.specs.FrontLaws.{block-undefined}
-use Rattle.join.specs.Join.{functionsFrom, functionsOf, joinedRows, sameHeader, rowsRefusal, ownRefusal, joinRefusal}
-use Rattle.join.specs.JoinLaws.{same-header}
-use Rattle.join_names.specs.JoinedFateLaws.{accepted-joins}
-use Rattle.join_names.specs.JoinedNames.{function-below}
-use Rattle.join.specs.JoinedRows.{length-joined, count-joined}
-use Rattle.join.specs.JoinedStructured.{joined-structured}
+use Rattle.check_function_causes.proofs.FrontLaws.{block-undefined}
+use Rattle.join.specs.Join.{functions_from, functions_of, joined_rows, same_header, rows_refusal, own_refusal, join_refusal}
+use Rattle.join.proofs.JoinLaws.{same-header}
+use Rattle.join_names.proofs.JoinedFateLaws.{accepted-joins}
+use Rattle.join_names.proofs.JoinedNames.{function-below}
+use Rattle.join.proofs.JoinedRows.{length-joined, count-joined}
+use Rattle.join.proofs.JoinedStructured.{joined-structured}
 use Rattle.join_rows.specs.Parts.{FunctionNumbers, Parts}
 use Rattle.joiner.specs.Joinable.{Joinable}
-use Rattle.joiner.specs.Joining.{JoinResult, answerAndRows, joinAfter, joinResult, WritesJoin}
+use Rattle.joiner.specs.Joining.{JoinResult, answer_and_rows, join_after, join_result, WritesJoin}
 use Rattle.joiner.specs.declared.JoinAnswer.{JoinAnswer}
 use Rattle.joiner.specs.declared.JoinAnswer.TheVariants.{Joined, Refused as JoinRefused}
 
 -- ---- equal headers
 
 module _ (header other : List ℤ) where
-  pub headers-unlike : (length header ≡ length other → ⊥) → sameHeader header other ≡ false
-  headers-unlike d = by_cases (sameHeader header other) (λ e. absurd (d (ap length (same-header header other e)))) (λ e. e)
+  pub headers-unlike : (length header ≡ length other → ⊥) → same_header header other ≡ false
+  headers-unlike d = by_cases (same_header header other) (λ e. absurd (d (ap length (same-header header other e)))) (λ e. e)
 
   module _ (i : ℕ) (inside : i < length header) (within : i < length other) where
-    pub headers-differ : sameWord (get_or header i (pos 0)) (get_or other i (pos 0)) ≡ false → sameHeader (drop i header) (drop i other) ≡ false
-    unfolding sameHeader
+    pub headers-differ : same_word (get_or header i (pos 0)) (get_or other i (pos 0)) ≡ false → same_header (drop i header) (drop i other) ≡ false
+    unfolding same_header
     headers-differ e = rw (drop-cons header i (pos 0) inside, drop-cons other i (pos 0) within, e)
 
-    pub headers-agree : sameWord (get_or header i (pos 0)) (get_or other i (pos 0)) ≡ true → sameHeader (drop i header) (drop i other) ≡ sameHeader (drop (i + 1) header) (drop (i + 1) other)
-    unfolding sameHeader
+    pub headers-agree : same_word (get_or header i (pos 0)) (get_or other i (pos 0)) ≡ true → same_header (drop i header) (drop i other) ≡ same_header (drop (i + 1) header) (drop (i + 1) other)
+    unfolding same_header
     headers-agree e = rw (add-one i, drop-cons header i (pos 0) inside, drop-cons other i (pos 0) within, e)
 
-  pub headers-end : (i : ℕ) → length header ≤ i → length other ≤ i → sameHeader (drop i header) (drop i other) ≡ true
-  unfolding sameHeader
+  pub headers-end : (i : ℕ) → length header ≤ i → length other ≤ i → same_header (drop i header) (drop i other) ≡ true
+  unfolding same_header
   headers-end i h o = rw (drop_of_length-le header {i = i} h, drop_of_length-le other {i = i} o)
 
 -- ---- rows
@@ -66,22 +66,22 @@ filled u l m e h = sym (take_all (length u) m (let long = length_over u l m e (o
 
 -- ---- what the checks leave to the join
 
-functions-most : (most : ℕ) (rows : List ℤ) (row : ℕ) → functionsFrom most rows row ≤ most
-unfolding functionsFrom
+functions-most : (most : ℕ) (rows : List ℤ) (row : ℕ) → functions_from most rows row ≤ most
+unfolding functions_from
 functions-most zero rows row = omega arith
-functions-most (suc most) rows row = let rest = functions-most most rows (link rows row 5) in by_cases (isDefinition rows row) (λ d. rw d (omega arith)) (λ d. rw d (omega arith))
+functions-most (suc most) rows row = let rest = functions-most most rows (link rows row 5) in by_cases (is_definition rows row) (λ d. rw d (omega arith)) (λ d. rw d (omega arith))
 
 -- a number of a function is one of as many as there are rows at most
-numbers-small : (rows : List ℤ) → rowCount rows ≤ 2048 → WellCalled rows → FunctionNumbers rows
-unfolding functionsOf
-numbers-small rows few w row field n f e = let below = function-below rows w row field n f e in let most = functions-most (rowCount rows) rows (link rows 0 1) in omega arith
+numbers-small : (rows : List ℤ) → row_count rows ≤ 2048 → WellCalled rows → FunctionNumbers rows
+unfolding functions_of
+numbers-small rows few w row field n f e = let below = function-below rows w row field n f e in let most = functions-most (row_count rows) rows (link rows 0 1) in omega arith
 
 module _ (first second : List ℤ) (parts : Parts first second) where
-  pub parts-length : length (joinedRows first second) ≡ 6 + length first + length second
-  parts-length = length-joined first second (sym parts.tree-first.whole) (sym parts.tree-second.whole)
+  pub parts-length : length (joined_rows first second) ≡ 6 + length first + length second
+  parts-length = length-joined first second (sym parts.tree_first.whole) (sym parts.tree_second.whole)
 
-  pub parts-count : rowCount (joinedRows first second) ≡ 1 + rowCount first + rowCount second
-  parts-count = count-joined first second (sym parts.tree-first.whole) (sym parts.tree-second.whole)
+  pub parts-count : row_count (joined_rows first second) ≡ 1 + row_count first + row_count second
+  parts-count = count-joined first second (sym parts.tree_first.whole) (sym parts.tree_second.whole)
 
 module _ (header first secondHeader second : List ℤ) (accepted : refusal header first ≡ Accepted) (second-accepted : refusal secondHeader second ≡ Accepted) where
   legal-first : Legal header first
@@ -96,36 +96,36 @@ module _ (header first secondHeader second : List ℤ) (accepted : refusal heade
   of-second : Structured Source (bounds_of Source secondHeader) second
   of-second = legal-second.structured
 
-  few-rows : {bounds : Bounds} {rows : List ℤ} → Structured Source bounds rows → rowCount rows ≤ 2048
-  few-rows {bounds} {rows} s = let facts = countFits-facts Source (length rows) s.count-fits in let most = facts.most in omega arith
+  few_rows : {bounds : Bounds} {rows : List ℤ} → Structured Source bounds rows → row_count rows ≤ 2048
+  few_rows {bounds} {rows} s = let facts = count_fits-facts Source (length rows) s.count-fits in let most = facts.most in omega arith
 
   pub accepted-parts : Parts first second
   accepted-parts = record {
-    tree-first = structured-tree Source _ first of-first;
-    tree-second = structured-tree Source _ second of-second;
-    few-first = few-rows of-first;
-    few-second = few-rows of-second;
-    root-first = block-undefined first 0 of-first.block;
-    root-second = block-undefined second 0 of-second.block;
-    numbers-first = numbers-small first (few-rows of-first) legal-first.well-called;
-    numbers-second = numbers-small second (few-rows of-second) legal-second.well-called;
+    tree_first = structured-tree Source _ first of-first;
+    tree_second = structured-tree Source _ second of-second;
+    few_first = few_rows of-first;
+    few_second = few_rows of-second;
+    root_first = block-undefined first 0 of-first.block;
+    root_second = block-undefined second 0 of-second.block;
+    numbers_first = numbers-small first (few_rows of-first) legal-first.well_called;
+    numbers_second = numbers-small second (few_rows of-second) legal-second.well_called;
   }
 
-  pub accepted-joinable : sameHeader header secondHeader ≡ true → 1 + rowCount first + rowCount second ≤ 2048 → Joinable first second
+  pub accepted-joinable : same_header header secondHeader ≡ true → 1 + row_count first + row_count second ≤ 2048 → Joinable first second
   accepted-joinable same few =
       let alike : Structured Source (bounds_of Source header) second = subst (λ (h : List ℤ). Structured Source (bounds_of Source h) second) (sym (same-header header secondHeader same)) of-second in
       record {
         parts = accepted-parts;
         few = few;
-        tree = structured-tree Source _ (joinedRows first second) (joined-structured first second of-first alike legal-first.well-called.in_order legal-second.well-called.in_order (let c = parts-count first second accepted-parts in omega arith));
+        tree = structured-tree Source _ (joined_rows first second) (joined-structured first second of-first alike legal-first.well_called.in_order legal-second.well_called.in_order (let c = parts-count first second accepted-parts in omega arith));
       }
 
 -- ---- causes in order
 
 -- a join with equal headers and few rows
-pub own-rows : (header first secondHeader second : List ℤ) → sameHeader header secondHeader ≡ true → leb (rowCount (joinedRows first second)) 2048 ≡ true
-    → ownRefusal header first secondHeader second ≡ rowsRefusal (joinedRows first second)
-unfolding ownRefusal unless ◌next◌
+pub own-rows : (header first secondHeader second : List ℤ) → same_header header secondHeader ≡ true → leb (row_count (joined_rows first second)) 2048 ≡ true
+    → own_refusal header first secondHeader second ≡ rows_refusal (joined_rows first second)
+unfolding own_refusal unless ◌next◌
 own-rows header first secondHeader second e n = rw (e, n)
 
 -- one cause behind a chain of three
@@ -141,38 +141,38 @@ over-long u l = omega (arith, length-append u (drop (length u) l))
 
 module _ (header first secondHeader second out : List ℤ) where
   abbrev joined : List ℤ
-  joined = joinedRows first second
+  joined = joined_rows first second
 
   -- every cause but 10
-  abbrev pub beforeTen : Verdict
-  beforeTen = refusal header first next refusal secondHeader second next ownRefusal header first secondHeader second
+  abbrev pub before_ten : Verdict
+  before_ten = refusal header first next refusal secondHeader second next own_refusal header first secondHeader second
 
-  refusal-chain : joinRefusal header first secondHeader second (length out) ≡ (beforeTen next unless (leb (length joined) (length out)) 10)
-  unfolding joinRefusal
-  refusal-chain = chain (refusal header first) (refusal secondHeader second) (ownRefusal header first secondHeader second) (unless (leb (length joined) (length out)) 10)
+  refusal-chain : join_refusal header first secondHeader second (length out) ≡ (before_ten next unless (leb (length joined) (length out)) 10)
+  unfolding join_refusal
+  refusal-chain = chain (refusal header first) (refusal secondHeader second) (own_refusal header first secondHeader second) (unless (leb (length joined) (length out)) 10)
 
-  pub before-ten-parts : beforeTen ≡ Accepted → Parts first second
+  pub before-ten-parts : before_ten ≡ Accepted → Parts first second
   before-ten-parts e =
-      let ofFirst = next-accepts (refusal header first) _ e in
-      let ofSecond = next-accepts (refusal secondHeader second) _ ofFirst.1 in
-      accepted-parts header first secondHeader second ofFirst.0 ofSecond.0
+      let of_first = next-accepts (refusal header first) _ e in
+      let of_second = next-accepts (refusal secondHeader second) _ of_first.1 in
+      accepted-parts header first secondHeader second of_first.0 of_second.0
 
-  pub join-refused : (r : Refusal) → beforeTen ≡ Refused r → answerAndRows (JoinRefused r) out ≡ joinResult header first secondHeader second out
-  unfolding joinResult ◌next◌
+  pub join-refused : (r : Refusal) → before_ten ≡ Refused r → answer_and_rows (JoinRefused r) out ≡ join_result header first secondHeader second out
+  unfolding join_result ◌next◌
   join-refused r e = rw (refusal-chain, e)
 
-  pub join_written : (answer : JoinAnswer) (left : List ℤ) → beforeTen ≡ Accepted → answerAndRows answer left ≡ joinAfter (unless (leb (length joined) (length out)) 10) joined out
-      → answerAndRows answer left ≡ joinResult header first secondHeader second out
-  unfolding joinResult ◌next◌
+  pub join_written : (answer : JoinAnswer) (left : List ℤ) → before_ten ≡ Accepted → answer_and_rows answer left ≡ join_after (unless (leb (length joined) (length out)) 10) joined out
+      → answer_and_rows answer left ≡ join_result header first secondHeader second out
+  unfolding join_result ◌next◌
   join_written answer left e w = rw (refusal-chain, e) w
 
   -- ---- the words written
 
-  pub writes-join : (answer : JoinAnswer) (left : List ℤ) → answerAndRows answer left ≡ joinResult header first secondHeader second out → WritesJoin header first second answer left
-  unfolding joinResult
-  writes-join answer left e = go (joinRefusal header first secondHeader second (length out)) refl e
+  pub writes-join : (answer : JoinAnswer) (left : List ℤ) → answer_and_rows answer left ≡ join_result header first secondHeader second out → WritesJoin header first second answer left
+  unfolding join_result
+  writes-join answer left e = go (join_refusal header first secondHeader second (length out)) refl e
     where
-      go : (verdict : Verdict) → joinRefusal header first secondHeader second (length out) ≡ verdict → answerAndRows answer left ≡ joinAfter verdict joined out → WritesJoin header first second answer left
+      go : (verdict : Verdict) → join_refusal header first secondHeader second (length out) ≡ verdict → answer_and_rows answer left ≡ join_after verdict joined out → WritesJoin header first second answer left
       go (Refused r) p e = rw (ap (λ (j : JoinResult). j.answer) e) tt
       go Accepted p e =
           let stands : left ≡ over joined out = ap (λ (j : JoinResult). j.rows) e in
@@ -184,11 +184,11 @@ module _ (header first secondHeader second out : List ℤ) where
 -- ---- cause 10
 
 module _ (joined out : List ℤ) where
-  pub no_room : length out < length joined → answerAndRows (JoinRefused (record { number = 10; place = 0 })) out ≡ joinAfter (unless (leb (length joined) (length out)) 10) joined out
+  pub no_room : length out < length joined → answer_and_rows (JoinRefused (record { number = 10; place = 0 })) out ≡ join_after (unless (leb (length joined) (length out)) 10) joined out
   unfolding unless
   no_room h = rw (lt-leb (length joined) (length out) h)
 
   pub with-room : (words : ℕ) (left : List ℤ) → words ≡ length joined → left ≡ over joined out → length joined ≤ length out
-      → answerAndRows (Joined words) left ≡ joinAfter (unless (leb (length joined) (length out)) 10) joined out
+      → answer_and_rows (Joined words) left ≡ join_after (unless (leb (length joined) (length out)) 10) joined out
   unfolding unless
   with-room words left e w h = rw (le-leb (length joined) (length out) h, e, w)

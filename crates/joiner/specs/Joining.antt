@@ -4,15 +4,15 @@ use Rattle.words.specs.Numbers.{Numbers, done, refused}
 use Rattle.words.specs.Over.{over}
 use Rattle.words.specs.declared.Verdict.{Verdict}
 use Rattle.words.specs.declared.Verdict.TheVariants.{Accepted, Refused}
-use Rattle.join.specs.Join.{joinedRows, joinRefusal}
+use Rattle.join.specs.Join.{joined_rows, join_refusal}
 use Rattle.join_names.specs.JoinedFate.{Joins}
 use Rattle.joiner.specs.declared.JoinAnswer.{JoinAnswer}
 use Rattle.joiner.specs.declared.JoinAnswer.TheVariants.{Joined, Refused as JoinRefused}
 
 -- A join in numbers: the words of the joined rows, or the refusal.
-abbrev pub joinNumbers : JoinAnswer → Numbers
-joinNumbers (Joined words) = done words 0
-joinNumbers (JoinRefused refusal) = refused refusal.number refusal.place
+abbrev pub join_numbers : JoinAnswer → Numbers
+join_numbers (Joined words) = done words 0
+join_numbers (JoinRefused refusal) = refused refusal.number refusal.place
 
 -- What a join gives: its answer, that answer in numbers, and the table that it leaves.
 pub record JoinResult : Type 0 where
@@ -21,16 +21,16 @@ pub record JoinResult : Type 0 where
   pub rows : List ℤ
 
 -- An answer and the table that it leaves.
-abbrev pub answerAndRows : JoinAnswer → List ℤ → JoinResult
-answerAndRows answer rows = record { answer = answer; numbers = joinNumbers answer; rows = rows }
+abbrev pub answer_and_rows : JoinAnswer → List ℤ → JoinResult
+answer_and_rows answer rows = record { answer = answer; numbers = join_numbers answer; rows = rows }
 
 -- The joined rows, written from the table's start: "Rows of an output table .. beyond the result keep their content." A refusal leaves it as it was.
-abbrev pub joinAfter : Verdict → (joined out : List ℤ) → JoinResult
-joinAfter (Refused refusal) joined out = answerAndRows (JoinRefused refusal) out
-joinAfter Accepted joined out = answerAndRows (Joined (length joined)) (over joined out)
+abbrev pub join_after : Verdict → (joined out : List ℤ) → JoinResult
+join_after (Refused refusal) joined out = answer_and_rows (JoinRefused refusal) out
+join_after Accepted joined out = answer_and_rows (Joined (length joined)) (over joined out)
 
-unfoldable pub joinResult : (header first secondHeader second out : List ℤ) → JoinResult
-joinResult header first secondHeader second out = joinAfter (joinRefusal header first secondHeader second (length out)) (joinedRows first second) out
+unfoldable pub join_result : (header first secondHeader second out : List ℤ) → JoinResult
+join_result header first secondHeader second out = join_after (join_refusal header first secondHeader second (length out)) (joined_rows first second) out
 
 -- ---- the words written
 

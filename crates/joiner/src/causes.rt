@@ -5,7 +5,7 @@ ghost use Rattle.check_grammar.specs.Grammar.{grammar};
 ghost use Rattle.check_structure.specs.Structured.{Tree};
 ghost use Rattle.check_structure.specs.Refusal.{◌next◌};
 ghost use Rattle.check_source.specs.Refusal.{refusal};
-ghost use Rattle.join.specs.Join.{joinedRows, rowsRefusal, ownRefusal};
+ghost use Rattle.join.specs.Join.{joined_rows, rows_refusal, own_refusal};
 ghost use Rattle.joiner.specs.Joinable.{Joinable};
 
 use super::declarations::lowest_too_many;
@@ -20,7 +20,7 @@ use words::{Form, Found, Refusal, Verdict};
 // Causes 9 and 20 of the joined rows.
 fn rows_refusal(kinds: &KindTable, rows: &[i32]) -> Verdict
     requires { Tree rows.now × (kinds.now ≡ grammar) }
-    ensures { result ≡ rowsRefusal rows.now }
+    ensures { result ≡ rows_refusal rows.now }
 {
     let deep = lowest_deep_by(kinds, Form::Source, rows);
     if let Found::At(row) = deep {
@@ -35,7 +35,7 @@ fn rows_refusal(kinds: &KindTable, rows: &[i32]) -> Verdict
 // Both causes of two programs' joined rows: they are put into a table lent for them.
 fn refusal_in_table(kinds: &KindTable, first: &[i32], second: &[i32], table: &mut [i32]) -> Verdict
     requires { Joinable first.now second.now × (length table.old ≡ 6 + length first.now + length second.now) × (kinds.now ≡ grammar) }
-    ensures { result ≡ rowsRefusal (joinedRows first.now second.now) }
+    ensures { result ≡ rows_refusal (joined_rows first.now second.now) }
 {
     put_joined(kinds, first, second, table);
     rows_refusal(kinds, table)
@@ -44,7 +44,7 @@ fn refusal_in_table(kinds: &KindTable, first: &[i32], second: &[i32], table: &mu
 // The same in a table of its own, so that a join that is refused changes no word of the output.
 fn refusal_by(kinds: &KindTable, first: &[i32], second: &[i32]) -> Verdict
     requires { Joinable first.now second.now × (kinds.now ≡ grammar) }
-    ensures { result ≡ rowsRefusal (joinedRows first.now second.now) }
+    ensures { result ≡ rows_refusal (joined_rows first.now second.now) }
 {
     let words = 6 + first.len() + second.len();
     let mut table = [0i32; 12288];
@@ -54,7 +54,7 @@ fn refusal_by(kinds: &KindTable, first: &[i32], second: &[i32]) -> Verdict
 // The same, with the table of kinds.
 fn joined_refusal(first: &[i32], second: &[i32]) -> Verdict
     requires { Joinable first.now second.now }
-    ensures { result ≡ rowsRefusal (joinedRows first.now second.now) }
+    ensures { result ≡ rows_refusal (joined_rows first.now second.now) }
 {
     let kinds = kind_table();
     refusal_by(&kinds, first, second)
@@ -63,7 +63,7 @@ fn joined_refusal(first: &[i32], second: &[i32]) -> Verdict
 // The causes of the join of two accepted programs: 16, 17, 9, 20.
 fn own_refusal(header: &[i32], first: &[i32], second_header: &[i32], second: &[i32]) -> Verdict
     requires { (refusal header.now first.now ≡ Accepted) × (refusal second_header.now second.now ≡ Accepted) }
-    ensures { result ≡ ownRefusal header.now first.now second_header.now second.now }
+    ensures { result ≡ own_refusal header.now first.now second_header.now second.now }
 {
     if !same_header(header, second_header) {
         return Verdict::Refused(Refusal {
@@ -83,7 +83,7 @@ fn own_refusal(header: &[i32], first: &[i32], second_header: &[i32], second: &[i
 // The second's causes, then those of the join.
 fn second_refusal(header: &[i32], first: &[i32], second_header: &[i32], second: &[i32]) -> Verdict
     requires { refusal header.now first.now ≡ Accepted }
-    ensures { result ≡ (refusal second_header.now second.now next ownRefusal header.now first.now second_header.now second.now) }
+    ensures { result ≡ (refusal second_header.now second.now next own_refusal header.now first.now second_header.now second.now) }
 {
     let verdict = check_source::check(second_header, second);
     match verdict {
@@ -94,7 +94,7 @@ fn second_refusal(header: &[i32], first: &[i32], second_header: &[i32], second: 
 
 // Every cause but 10: the first's, then the second's, then those of the join. "The check takes causes in order".
 pub fn join_refusal(header: &[i32], first: &[i32], second_header: &[i32], second: &[i32]) -> Verdict
-    ensures { result ≡ (refusal header.now first.now next refusal second_header.now second.now next ownRefusal header.now first.now second_header.now second.now) }
+    ensures { result ≡ (refusal header.now first.now next refusal second_header.now second.now next own_refusal header.now first.now second_header.now second.now) }
 {
     let verdict = check_source::check(header, first);
     match verdict {

@@ -1,8 +1,8 @@
 // Cause 20 of a join: the 65th declaration of both programs together, in row order.
 ghost use Rattle.std.specs.Prelude.{◌≡◌, ◌*◌, ◌<◌, length};
-ghost use Rattle.words.specs.Declarations.{declarationsBefore};
-ghost use Rattle.words.specs.Search.{lowestRow};
-ghost use Rattle.check_declaration_causes.specs.Causes.{oneTooMany};
+ghost use Rattle.words.specs.Declarations.{declarations_before};
+ghost use Rattle.words.specs.Search.{lowest_row};
+ghost use Rattle.check_declaration_causes.specs.Causes.{one_too_many};
 
 use words::Found;
 use words::declarations::{counted, is_declaration};
@@ -12,8 +12,8 @@ const LIMIT: usize = 64;
 
 // The row is the 65th declaration, with the number of those before it.
 fn is_too_many(rows: &[i32], row: usize, before: usize) -> bool
-    requires { (6 * row < length rows.now) × (before ≡ declarationsBefore rows.now row) }
-    ensures { result ≡ oneTooMany rows.now row }
+    requires { (6 * row < length rows.now) × (before ≡ declarations_before rows.now row) }
+    ensures { result ≡ one_too_many rows.now row }
 {
     if before == LIMIT {
         return is_declaration(rows, row);
@@ -23,7 +23,7 @@ fn is_too_many(rows: &[i32], row: usize, before: usize) -> bool
 
 // The row of the 65th declaration, where there is one: they are counted in one pass.
 pub fn lowest_too_many(rows: &[i32]) -> Found
-    ensures { result ≡ lowestRow rows.now (oneTooMany rows.now) }
+    ensures { result ≡ lowest_row rows.now (one_too_many rows.now) }
 {
     let count = rows.len() / 6;
     let mut before: usize = 0;

@@ -1,16 +1,16 @@
 // Equal headers: V and every array length agree.
 ghost use Rattle.std.specs.Prelude.{◌≡◌};
-ghost use Rattle.words.specs.Word.{sameWord};
-ghost use Rattle.join.specs.Join.{sameHeader};
+ghost use Rattle.words.specs.Word.{same_word};
+ghost use Rattle.join.specs.Join.{same_header};
 
 fn same_word(word: i32, other: i32) -> bool
-    ensures { result ≡ sameWord word other }
+    ensures { result ≡ same_word word other }
 {
     word == other
 }
 
 pub fn same_header(header: &[i32], other: &[i32]) -> bool
-    ensures { result ≡ sameHeader header.now other.now }
+    ensures { result ≡ same_header header.now other.now }
 {
     if header.len() != other.len() {
         return false;

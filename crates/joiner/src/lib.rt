@@ -1,11 +1,13 @@
 // The join of two source programs: one that runs the first, then the second. Both are checked, and their join is not: that it is legal is a
 // theorem.
+#![tactic(auto)]
+
 ghost use Rattle.std.specs.Prelude.{◌≡◌, leb, length};
 ghost use Rattle.words.specs.declared.Verdict.TheVariants.{Accepted};
 ghost use Rattle.check_structure.specs.Refusal.{unless};
-ghost use Rattle.join.specs.Join.{joinedRows};
+ghost use Rattle.join.specs.Join.{joined_rows};
 ghost use Rattle.join_rows.specs.Parts.{Parts};
-ghost use Rattle.joiner.specs.Joining.{answerAndRows, joinAfter, joinResult, WritesJoin};
+ghost use Rattle.joiner.specs.Joining.{answer_and_rows, join_after, join_result, WritesJoin};
 
 use join_rows::rows::write_joined;
 use words::{Refusal, Verdict};
@@ -15,7 +17,7 @@ pub mod declarations; // declarations.rt: the 65th declaration
 pub mod headers; // headers.rt: equal headers
 
 // What a join answers: how many words the joined rows have.
-#[derive(Drop)]
+#[derive(Clone, Copy)]
 pub enum JoinAnswer {
     Joined(usize),
     Refused(Refusal),
@@ -24,7 +26,7 @@ pub enum JoinAnswer {
 // Writes the rows of a join that has no cause but 10, which comes before the first word is written.
 fn write_join(first: &[i32], second: &[i32], out: &mut [i32]) -> JoinAnswer
     requires { Parts first.now second.now }
-    ensures { answerAndRows result out.new ≡ joinAfter (unless (leb (length (joinedRows first.now second.now)) (length out.old)) 10) (joinedRows first.now second.now) out.old }
+    ensures { answer_and_rows result out.new ≡ join_after (unless (leb (length (joined_rows first.now second.now)) (length out.old)) 10) (joined_rows first.now second.now) out.old }
 {
     let words = 6 + first.len() + second.len();
     if words > out.len() {
@@ -46,7 +48,7 @@ pub fn join(
     second_rows: &[i32],
     out_rows: &mut [i32],
 ) -> JoinAnswer
-    ensures out_rows_after { answerAndRows result out_rows.new ≡ joinResult header.now rows.now second_header.now second_rows.now out_rows.old }
+    ensures out_rows_after { answer_and_rows result out_rows.new ≡ join_result header.now rows.now second_header.now second_rows.now out_rows.old }
     ensures writes_join { WritesJoin header.now rows.now second_rows.now result out_rows.new }
 {
     let verdict = causes::join_refusal(header, rows, second_header, second_rows);

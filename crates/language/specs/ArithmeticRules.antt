@@ -5,8 +5,8 @@ use Rattle.words.specs.declared.Ending.TheVariants.{Plain, Fault}
 use Rattle.language.specs.Rule.{Rule, row, constant}
 
 -- v0 = -v1;
-abbrev pub minus-value : Rule
-minus-value = record {
+abbrev pub minus_value : Rule
+minus_value = record {
   header = pos 2 ∷ [];
   rows = row 42 1 0 0 0 0
       ++ row 41 2 0 0 0 0
@@ -16,12 +16,12 @@ minus-value = record {
       ++ row 2 1 0 0 0 0;
   store = pos 0 ∷ pos 5 ∷ [];
   budget = 100;
-  comes-to = record { ending = Plain; count = 6; store = negsuc 4 ∷ pos 5 ∷ [] };
+  comes_to = record { ending = Plain; count = 6; store = negsuc 4 ∷ pos 5 ∷ [] };
 }
 
 -- v0 = -v1; with v1 = -2147483647
-abbrev pub minus-of-negative : Rule
-minus-of-negative = record {
+abbrev pub minus_of_negative : Rule
+minus_of_negative = record {
   header = pos 2 ∷ [];
   rows = row 42 1 0 0 0 0
       ++ row 41 2 0 0 0 0
@@ -31,12 +31,12 @@ minus-of-negative = record {
       ++ row 2 1 0 0 0 0;
   store = pos 0 ∷ negsuc 2147483646 ∷ [];
   budget = 100;
-  comes-to = record { ending = Plain; count = 6; store = pos 2147483647 ∷ negsuc 2147483646 ∷ [] };
+  comes_to = record { ending = Plain; count = 6; store = pos 2147483647 ∷ negsuc 2147483646 ∷ [] };
 }
 
 -- v0 = -v1; with v1 = -2147483648
-abbrev pub minus-overflows : Rule
-minus-overflows = record {
+abbrev pub minus_overflows : Rule
+minus_overflows = record {
   header = pos 2 ∷ [];
   rows = row 42 1 0 0 0 0
       ++ row 41 2 0 0 0 0
@@ -46,12 +46,12 @@ minus-overflows = record {
       ++ row 2 1 0 0 0 0;
   store = pos 3 ∷ negsuc 2147483647 ∷ [];
   budget = 100;
-  comes-to = record { ending = Fault Overflow; count = 5; store = pos 3 ∷ negsuc 2147483647 ∷ [] };
+  comes_to = record { ending = Fault Overflow; count = 5; store = pos 3 ∷ negsuc 2147483647 ∷ [] };
 }
 
 -- v0 = !v0; v1 = !v1; v2 = !v2; with 0, 7 and -7
-abbrev pub not-gives-bits : Rule
-not-gives-bits = record {
+abbrev pub not_gives_bits : Rule
+not_gives_bits = record {
   header = pos 3 ∷ [];
   rows = row 42 1 0 0 0 0
       ++ row 41 2 0 0 0 6
@@ -71,12 +71,12 @@ not-gives-bits = record {
       ++ row 2 2 0 0 0 0;
   store = pos 0 ∷ pos 7 ∷ negsuc 6 ∷ [];
   budget = 100;
-  comes-to = record { ending = Plain; count = 16; store = pos 1 ∷ pos 0 ∷ pos 0 ∷ [] };
+  comes_to = record { ending = Plain; count = 16; store = pos 1 ∷ pos 0 ∷ pos 0 ∷ [] };
 }
 
 -- v0 = -2147483647 + -1;
-abbrev pub least-sum : Rule
-least-sum = record {
+abbrev pub least_sum : Rule
+least_sum = record {
   header = pos 1 ∷ [];
   rows = row 42 1 0 0 0 0
       ++ row 41 2 0 0 0 0
@@ -87,12 +87,12 @@ least-sum = record {
       ++ constant (negsuc 0);
   store = pos 0 ∷ [];
   budget = 100;
-  comes-to = record { ending = Plain; count = 7; store = negsuc 2147483647 ∷ [] };
+  comes_to = record { ending = Plain; count = 7; store = negsuc 2147483647 ∷ [] };
 }
 
 -- v0 = -2147483648 + -1;
-abbrev pub sum-below-least : Rule
-sum-below-least = record {
+abbrev pub sum_below_least : Rule
+sum_below_least = record {
   header = pos 1 ∷ [];
   rows = row 42 1 0 0 0 0
       ++ row 41 2 0 0 0 0
@@ -103,7 +103,7 @@ sum-below-least = record {
       ++ constant (negsuc 0);
   store = pos 5 ∷ [];
   budget = 100;
-  comes-to = record { ending = Fault Overflow; count = 6; store = pos 5 ∷ [] };
+  comes_to = record { ending = Fault Overflow; count = 6; store = pos 5 ∷ [] };
 }
 
 -- v0 = 3 - 5;
@@ -119,12 +119,12 @@ difference = record {
       ++ constant (pos 5);
   store = pos 0 ∷ [];
   budget = 100;
-  comes-to = record { ending = Plain; count = 7; store = negsuc 1 ∷ [] };
+  comes_to = record { ending = Plain; count = 7; store = negsuc 1 ∷ [] };
 }
 
 -- v0 = 0 - -2147483648;
-abbrev pub difference-overflows : Rule
-difference-overflows = record {
+abbrev pub difference_overflows : Rule
+difference_overflows = record {
   header = pos 1 ∷ [];
   rows = row 42 1 0 0 0 0
       ++ row 41 2 0 0 0 0
@@ -135,7 +135,7 @@ difference-overflows = record {
       ++ constant (negsuc 2147483647);
   store = pos 5 ∷ [];
   budget = 100;
-  comes-to = record { ending = Fault Overflow; count = 6; store = pos 5 ∷ [] };
+  comes_to = record { ending = Fault Overflow; count = 6; store = pos 5 ∷ [] };
 }
 
 -- v0 = -3 * 4;
@@ -151,12 +151,12 @@ product = record {
       ++ constant (pos 4);
   store = pos 0 ∷ [];
   budget = 100;
-  comes-to = record { ending = Plain; count = 7; store = negsuc 11 ∷ [] };
+  comes_to = record { ending = Plain; count = 7; store = negsuc 11 ∷ [] };
 }
 
 -- v0 = -65536 * 32768;
-abbrev pub least-product : Rule
-least-product = record {
+abbrev pub least_product : Rule
+least_product = record {
   header = pos 1 ∷ [];
   rows = row 42 1 0 0 0 0
       ++ row 41 2 0 0 0 0
@@ -167,12 +167,12 @@ least-product = record {
       ++ constant (pos 32768);
   store = pos 0 ∷ [];
   budget = 100;
-  comes-to = record { ending = Plain; count = 7; store = negsuc 2147483647 ∷ [] };
+  comes_to = record { ending = Plain; count = 7; store = negsuc 2147483647 ∷ [] };
 }
 
 -- v0 = 65536 * 32768;
-abbrev pub product-overflows : Rule
-product-overflows = record {
+abbrev pub product_overflows : Rule
+product_overflows = record {
   header = pos 1 ∷ [];
   rows = row 42 1 0 0 0 0
       ++ row 41 2 0 0 0 0
@@ -183,7 +183,7 @@ product-overflows = record {
       ++ constant (pos 32768);
   store = pos 5 ∷ [];
   budget = 100;
-  comes-to = record { ending = Fault Overflow; count = 6; store = pos 5 ∷ [] };
+  comes_to = record { ending = Fault Overflow; count = 6; store = pos 5 ∷ [] };
 }
 
 -- v0 = 7 / -2; v1 = -7 / -2; v2 = 7 / 2;
@@ -211,7 +211,7 @@ divisions = record {
       ++ constant (pos 2);
   store = pos 0 ∷ pos 0 ∷ pos 0 ∷ [];
   budget = 100;
-  comes-to = record { ending = Plain; count = 19; store = negsuc 2 ∷ pos 3 ∷ pos 3 ∷ [] };
+  comes_to = record { ending = Plain; count = 19; store = negsuc 2 ∷ pos 3 ∷ pos 3 ∷ [] };
 }
 
 -- v0 = 7 % -2; v1 = -7 % -2; v2 = 7 % 2;
@@ -239,7 +239,7 @@ remainders = record {
       ++ constant (pos 2);
   store = pos 0 ∷ pos 0 ∷ pos 0 ∷ [];
   budget = 100;
-  comes-to = record { ending = Plain; count = 19; store = pos 1 ∷ negsuc 0 ∷ pos 1 ∷ [] };
+  comes_to = record { ending = Plain; count = 19; store = pos 1 ∷ negsuc 0 ∷ pos 1 ∷ [] };
 }
 
 -- v0 = 0 / 0;
@@ -255,12 +255,12 @@ zero_by_zero = record {
       ++ constant (pos 0);
   store = pos 5 ∷ [];
   budget = 100;
-  comes-to = record { ending = Fault ZeroDivisor; count = 6; store = pos 5 ∷ [] };
+  comes_to = record { ending = Fault ZeroDivisor; count = 6; store = pos 5 ∷ [] };
 }
 
 -- v0 = 7 % 0;
-abbrev pub remainder-by-zero : Rule
-remainder-by-zero = record {
+abbrev pub remainder_by_zero : Rule
+remainder_by_zero = record {
   header = pos 1 ∷ [];
   rows = row 42 1 0 0 0 0
       ++ row 41 2 0 0 0 0
@@ -271,5 +271,5 @@ remainder-by-zero = record {
       ++ constant (pos 0);
   store = pos 5 ∷ [];
   budget = 100;
-  comes-to = record { ending = Fault ZeroDivisor; count = 6; store = pos 5 ∷ [] };
+  comes_to = record { ending = Fault ZeroDivisor; count = 6; store = pos 5 ∷ [] };
 }

@@ -28,7 +28,7 @@ less = record {
       ++ constant (negsuc 0);
   store = pos 9 ∷ pos 9 ∷ pos 9 ∷ [];
   budget = 100;
-  comes-to = record { ending = Plain; count = 19; store = pos 1 ∷ pos 0 ∷ pos 0 ∷ [] };
+  comes_to = record { ending = Plain; count = 19; store = pos 1 ∷ pos 0 ∷ pos 0 ∷ [] };
 }
 
 -- v0 = -1 > 2; v1 = 2 > 2; v2 = 2 > -1;
@@ -56,12 +56,12 @@ greater = record {
       ++ constant (negsuc 0);
   store = pos 9 ∷ pos 9 ∷ pos 9 ∷ [];
   budget = 100;
-  comes-to = record { ending = Plain; count = 19; store = pos 0 ∷ pos 0 ∷ pos 1 ∷ [] };
+  comes_to = record { ending = Plain; count = 19; store = pos 0 ∷ pos 0 ∷ pos 1 ∷ [] };
 }
 
 -- v0 = -1 <= 2; v1 = 2 <= 2; v2 = 2 <= -1;
-abbrev pub less-or-equal : Rule
-less-or-equal = record {
+abbrev pub less_or_equal : Rule
+less_or_equal = record {
   header = pos 3 ∷ [];
   rows = row 42 1 0 0 0 0
       ++ row 41 2 0 0 0 7
@@ -84,12 +84,12 @@ less-or-equal = record {
       ++ constant (negsuc 0);
   store = pos 9 ∷ pos 9 ∷ pos 9 ∷ [];
   budget = 100;
-  comes-to = record { ending = Plain; count = 19; store = pos 1 ∷ pos 1 ∷ pos 0 ∷ [] };
+  comes_to = record { ending = Plain; count = 19; store = pos 1 ∷ pos 1 ∷ pos 0 ∷ [] };
 }
 
 -- v0 = -1 >= 2; v1 = 2 >= 2; v2 = 2 >= -1;
-abbrev pub greater-or-equal : Rule
-greater-or-equal = record {
+abbrev pub greater_or_equal : Rule
+greater_or_equal = record {
   header = pos 3 ∷ [];
   rows = row 42 1 0 0 0 0
       ++ row 41 2 0 0 0 7
@@ -112,7 +112,7 @@ greater-or-equal = record {
       ++ constant (negsuc 0);
   store = pos 9 ∷ pos 9 ∷ pos 9 ∷ [];
   budget = 100;
-  comes-to = record { ending = Plain; count = 19; store = pos 0 ∷ pos 1 ∷ pos 1 ∷ [] };
+  comes_to = record { ending = Plain; count = 19; store = pos 0 ∷ pos 1 ∷ pos 1 ∷ [] };
 }
 
 -- v0 = -1 == 2; v1 = 2 == 2; v2 = 2 == -1;
@@ -140,7 +140,7 @@ equal = record {
       ++ constant (negsuc 0);
   store = pos 9 ∷ pos 9 ∷ pos 9 ∷ [];
   budget = 100;
-  comes-to = record { ending = Plain; count = 19; store = pos 0 ∷ pos 1 ∷ pos 0 ∷ [] };
+  comes_to = record { ending = Plain; count = 19; store = pos 0 ∷ pos 1 ∷ pos 0 ∷ [] };
 }
 
 -- v0 = -1 != 2; v1 = 2 != 2; v2 = 2 != -1;
@@ -168,7 +168,7 @@ not_equal = record {
       ++ constant (negsuc 0);
   store = pos 9 ∷ pos 9 ∷ pos 9 ∷ [];
   budget = 100;
-  comes-to = record { ending = Plain; count = 19; store = pos 1 ∷ pos 0 ∷ pos 1 ∷ [] };
+  comes_to = record { ending = Plain; count = 19; store = pos 1 ∷ pos 0 ∷ pos 1 ∷ [] };
 }
 
 -- v0 = -3 < -2; v1 = -3 == -3; v2 = -3 == -2;
@@ -196,5 +196,5 @@ both_negative = record {
       ++ constant (negsuc 1);
   store = pos 9 ∷ pos 9 ∷ pos 9 ∷ [];
   budget = 100;
-  comes-to = record { ending = Plain; count = 19; store = pos 1 ∷ pos 1 ∷ pos 0 ∷ [] };
+  comes_to = record { ending = Plain; count = 19; store = pos 1 ∷ pos 1 ∷ pos 0 ∷ [] };
 }

@@ -2,8 +2,8 @@
 -- that does not lead to a later row to something harmless too.
 use Rattle.std.specs.Prelude.{List, [], ◌∷◌, ℕ, zero, suc, ◌<◌, ltb, ℤ, pos}
 use Rattle.words.specs.Word.{natural, pick}
-use Rattle.words.specs.Table.{rowCount, word_at, number_at}
-use Rattle.words.specs.Declarations.{isDeclaration}
+use Rattle.words.specs.Table.{row_count, word_at, number_at}
+use Rattle.words.specs.Declarations.{is_declaration}
 use Rattle.words.specs.Kinds.{kind_at}
 use Rattle.words.specs.declared.Kind.{Kind}
 use Rattle.words.specs.declared.Kind.TheVariants.{OfExpression, OfStatement, OfMark, OfMember, Definition, Other}
@@ -11,7 +11,7 @@ use Rattle.words.specs.declared.ExpressionKind.TheVariants.{Constant, Variable, 
 use Rattle.words.specs.declared.StatementKind.TheVariants.{Empty, Express, Block, If, While, Do, For, Switch, Break, Continue, Goto, GuardedIf, GuardedDo, Abort, Declare, Return}
 use Rattle.words.specs.declared.MarkKind.TheVariants.{Case, Default, Label}
 use Rattle.words.specs.declared.MemberKind.TheVariants.{Arm, Argument}
-use Rattle.language.specs.Trees.{Expression, constant, read, minus, not, binary, and, or, comma, conditional, assign, compound, prefix, postfix, call, Place, variable, element, Arguments, no_more, ◌also◌, Part, absent, present, case, default, label, Statement, empty, express, block, ifThen, ifElse, while, doWhile, for, switch, break, continue, goto, guardedIf, guardedDo, abort, declare, giveBack, Arms, no_arm, arm, Items, none, ◌then◌, ◌here◌, define}
+use Rattle.language.specs.Trees.{Expression, constant, read, minus, not, binary, and, or, comma, conditional, assign, compound, prefix, postfix, call, Place, variable, element, Arguments, no_more, ◌also◌, Part, absent, present, case, default, label, Statement, empty, express, block, if_then, if_else, while, do_while, for, switch, break, continue, goto, guarded_if, guarded_do, abort, declare, give_back, Arms, no_arm, arm, Items, none, ◌then◌, ◌here◌, define}
 
 -- "A link is a row number greater than the row's own": the tree at such a link, else `other`.
 abbrev pub later : {A : Type 0} → A → ℕ → (ℕ → A) → ℕ → A
@@ -35,37 +35,37 @@ place_of (call f arguments) = variable 0
 
 -- The expression of a row, by its kind; `word f` is its field f (1 to 4 for a to d), `tree l` the expression at link l, `arguments l` the
 -- arguments from there on.
-unfoldable pub expressionOf : Kind → (ℕ → ℤ) → (ℕ → Expression) → (ℕ → Arguments) → Expression
-expressionOf (OfExpression Constant) word tree arguments = constant (word 1)
-expressionOf (OfExpression Variable) word tree arguments = read (variable (natural (word 1)))
-expressionOf (OfExpression Element) word tree arguments = read (element (natural (word 1)) (tree (natural (word 2))))
-expressionOf (OfExpression Minus) word tree arguments = minus (tree (natural (word 1)))
-expressionOf (OfExpression Not) word tree arguments = not (tree (natural (word 1)))
-expressionOf (OfExpression (Binary o)) word tree arguments = binary o (tree (natural (word 1))) (tree (natural (word 2)))
-expressionOf (OfExpression And) word tree arguments = and (tree (natural (word 1))) (tree (natural (word 2)))
-expressionOf (OfExpression Or) word tree arguments = or (tree (natural (word 1))) (tree (natural (word 2)))
-expressionOf (OfExpression Conditional) word tree arguments = conditional (tree (natural (word 1))) (tree (natural (word 2))) (tree (natural (word 3)))
-expressionOf (OfExpression Comma) word tree arguments = comma (tree (natural (word 1))) (tree (natural (word 2)))
-expressionOf (OfExpression Assign) word tree arguments = assign (place_of (tree (natural (word 1)))) (tree (natural (word 2)))
-expressionOf (OfExpression (Compound o)) word tree arguments = compound o (place_of (tree (natural (word 1)))) (tree (natural (word 2)))
-expressionOf (OfExpression (Prefix o)) word tree arguments = prefix o (place_of (tree (natural (word 1))))
-expressionOf (OfExpression (Postfix o)) word tree arguments = postfix o (place_of (tree (natural (word 1))))
-expressionOf (OfExpression Call) word tree arguments = call (natural (word 1)) (arguments (natural (word 2)))
-expressionOf (OfStatement kind) word tree arguments = constant (pos 0)
-expressionOf (OfMark kind) word tree arguments = constant (pos 0)
-expressionOf (OfMember kind) word tree arguments = constant (pos 0)
-expressionOf Definition word tree arguments = constant (pos 0)
-expressionOf Other word tree arguments = constant (pos 0)
+unfoldable pub expression_of : Kind → (ℕ → ℤ) → (ℕ → Expression) → (ℕ → Arguments) → Expression
+expression_of (OfExpression Constant) word tree arguments = constant (word 1)
+expression_of (OfExpression Variable) word tree arguments = read (variable (natural (word 1)))
+expression_of (OfExpression Element) word tree arguments = read (element (natural (word 1)) (tree (natural (word 2))))
+expression_of (OfExpression Minus) word tree arguments = minus (tree (natural (word 1)))
+expression_of (OfExpression Not) word tree arguments = not (tree (natural (word 1)))
+expression_of (OfExpression (Binary o)) word tree arguments = binary o (tree (natural (word 1))) (tree (natural (word 2)))
+expression_of (OfExpression And) word tree arguments = and (tree (natural (word 1))) (tree (natural (word 2)))
+expression_of (OfExpression Or) word tree arguments = or (tree (natural (word 1))) (tree (natural (word 2)))
+expression_of (OfExpression Conditional) word tree arguments = conditional (tree (natural (word 1))) (tree (natural (word 2))) (tree (natural (word 3)))
+expression_of (OfExpression Comma) word tree arguments = comma (tree (natural (word 1))) (tree (natural (word 2)))
+expression_of (OfExpression Assign) word tree arguments = assign (place_of (tree (natural (word 1)))) (tree (natural (word 2)))
+expression_of (OfExpression (Compound o)) word tree arguments = compound o (place_of (tree (natural (word 1)))) (tree (natural (word 2)))
+expression_of (OfExpression (Prefix o)) word tree arguments = prefix o (place_of (tree (natural (word 1))))
+expression_of (OfExpression (Postfix o)) word tree arguments = postfix o (place_of (tree (natural (word 1))))
+expression_of (OfExpression Call) word tree arguments = call (natural (word 1)) (arguments (natural (word 2)))
+expression_of (OfStatement kind) word tree arguments = constant (pos 0)
+expression_of (OfMark kind) word tree arguments = constant (pos 0)
+expression_of (OfMember kind) word tree arguments = constant (pos 0)
+expression_of Definition word tree arguments = constant (pos 0)
+expression_of Other word tree arguments = constant (pos 0)
 
 -- The arguments from a row on: its expression, and then the arguments behind it.
-unfoldable pub argumentsOf : Kind → Expression → Arguments → Arguments
-argumentsOf (OfExpression kind) e arguments = no_more
-argumentsOf (OfStatement kind) e arguments = no_more
-argumentsOf (OfMark kind) e arguments = no_more
-argumentsOf (OfMember Arm) e arguments = no_more
-argumentsOf (OfMember Argument) e arguments = e also arguments
-argumentsOf Definition e arguments = no_more
-argumentsOf Other e arguments = no_more
+unfoldable pub arguments_of : Kind → Expression → Arguments → Arguments
+arguments_of (OfExpression kind) e arguments = no_more
+arguments_of (OfStatement kind) e arguments = no_more
+arguments_of (OfMark kind) e arguments = no_more
+arguments_of (OfMember Arm) e arguments = no_more
+arguments_of (OfMember Argument) e arguments = e also arguments
+arguments_of Definition e arguments = no_more
+arguments_of Other e arguments = no_more
 
 -- What stands at a row: an expression; and the arguments from the row on.
 pub record ValueTrees : Type 0 where
@@ -74,29 +74,29 @@ pub record ValueTrees : Type 0 where
 
 unfoldable pub values_of : Kind → (ℕ → ℤ) → (ℕ → Expression) → (ℕ → Arguments) → ValueTrees
 values_of kind word tree arguments =
-    record { expression = expressionOf kind word tree arguments; arguments = argumentsOf kind (tree (natural (word 1))) (arguments (natural (word 5))) }
+    record { expression = expression_of kind word tree arguments; arguments = arguments_of kind (tree (natural (word 1))) (arguments (natural (word 5))) }
 
 -- Links lead to later rows, so as many links as there are rows are enough.
-unfoldable pub valuesBy : ℕ → List ℤ → ℕ → ValueTrees
-valuesBy zero rows row = record { expression = constant (pos 0); arguments = no_more }
-valuesBy (suc links) rows row =
+unfoldable pub values_by : ℕ → List ℤ → ℕ → ValueTrees
+values_by zero rows row = record { expression = constant (pos 0); arguments = no_more }
+values_by (suc links) rows row =
     values_of (kind_at rows row) (word_at rows row)
-    (later (constant (pos 0)) row (λ l. (valuesBy links rows l).expression)) (later no_more row (λ l. (valuesBy links rows l).arguments))
+    (later (constant (pos 0)) row (λ l. (values_by links rows l).expression)) (later no_more row (λ l. (values_by links rows l).arguments))
 
-unfoldable pub expressionAt : List ℤ → ℕ → Expression
-expressionAt rows row = (valuesBy (rowCount rows) rows row).expression
+unfoldable pub expression_at : List ℤ → ℕ → Expression
+expression_at rows row = (values_by (row_count rows) rows row).expression
 
-unfoldable pub argumentsAt : List ℤ → ℕ → Arguments
-argumentsAt rows row = (valuesBy (rowCount rows) rows row).arguments
+unfoldable pub arguments_at : List ℤ → ℕ → Arguments
+arguments_at rows row = (values_by (row_count rows) rows row).arguments
 
 -- The words of the parameters from a row on: rows of kind 58, linked by next.
-unfoldable pub parametersBy : ℕ → List ℤ → ℕ → List ℕ
-parametersBy zero rows row = []
-parametersBy (suc links) rows row =
-    pick (isDeclaration rows row) (number_at rows row 1 ∷ later [] row (parametersBy links rows) (number_at rows row 5)) []
+unfoldable pub parameters_by : ℕ → List ℤ → ℕ → List ℕ
+parameters_by zero rows row = []
+parameters_by (suc links) rows row =
+    pick (is_declaration rows row) (number_at rows row 1 ∷ later [] row (parameters_by links rows) (number_at rows row 5)) []
 
-unfoldable pub parametersAt : List ℤ → ℕ → List ℕ
-parametersAt rows row = parametersBy (rowCount rows) rows row
+unfoldable pub parameters_at : List ℤ → ℕ → List ℕ
+parameters_at rows row = parameters_by (row_count rows) rows row
 
 -- A part of a for: "each may be 0". Of a return: "or 0 where a is 0".
 abbrev pub part_of : ℕ → Expression → Part
@@ -104,54 +104,54 @@ part_of zero e = absent
 part_of (suc link) e = present e
 
 -- An if: "c else or 0".
-abbrev pub ifOf : ℕ → Expression → Statement → Statement → Statement
-ifOf zero e onTrue onFalse = ifThen e onTrue
-ifOf (suc link) e onTrue onFalse = ifElse e onTrue onFalse
+abbrev pub if_of : ℕ → Expression → Statement → Statement → Statement
+if_of zero e on_true on_false = if_then e on_true
+if_of (suc link) e on_true on_false = if_else e on_true on_false
 
 -- The statement of a row; `expression l`, `statement l`, `items l` and `arms l` are the trees at link l.
-unfoldable pub statementOf : Kind → (ℕ → ℤ) → (ℕ → Expression) → (ℕ → Statement) → (ℕ → Items) → (ℕ → Arms) → Statement
-statementOf (OfExpression kind) word expression statement items arms = empty
-statementOf (OfStatement Empty) word expression statement items arms = empty
-statementOf (OfStatement Express) word expression statement items arms = express (expression (natural (word 1)))
-statementOf (OfStatement Block) word expression statement items arms = block (items (natural (word 1)))
-statementOf (OfStatement If) word expression statement items arms = ifOf (natural (word 3)) (expression (natural (word 1))) (statement (natural (word 2))) (statement (natural (word 3)))
-statementOf (OfStatement While) word expression statement items arms = while (expression (natural (word 1))) (statement (natural (word 2)))
-statementOf (OfStatement Do) word expression statement items arms = doWhile (statement (natural (word 1))) (expression (natural (word 2)))
-statementOf (OfStatement For) word expression statement items arms =
+unfoldable pub statement_of : Kind → (ℕ → ℤ) → (ℕ → Expression) → (ℕ → Statement) → (ℕ → Items) → (ℕ → Arms) → Statement
+statement_of (OfExpression kind) word expression statement items arms = empty
+statement_of (OfStatement Empty) word expression statement items arms = empty
+statement_of (OfStatement Express) word expression statement items arms = express (expression (natural (word 1)))
+statement_of (OfStatement Block) word expression statement items arms = block (items (natural (word 1)))
+statement_of (OfStatement If) word expression statement items arms = if_of (natural (word 3)) (expression (natural (word 1))) (statement (natural (word 2))) (statement (natural (word 3)))
+statement_of (OfStatement While) word expression statement items arms = while (expression (natural (word 1))) (statement (natural (word 2)))
+statement_of (OfStatement Do) word expression statement items arms = do_while (statement (natural (word 1))) (expression (natural (word 2)))
+statement_of (OfStatement For) word expression statement items arms =
     for (part_of (natural (word 1)) (expression (natural (word 1)))) (part_of (natural (word 2)) (expression (natural (word 2)))) (part_of (natural (word 3)) (expression (natural (word 3)))) (statement (natural (word 4)))
-statementOf (OfStatement Switch) word expression statement items arms = switch (expression (natural (word 1))) (items (natural (word 2)))
-statementOf (OfStatement Break) word expression statement items arms = break
-statementOf (OfStatement Continue) word expression statement items arms = continue
-statementOf (OfStatement Goto) word expression statement items arms = goto (natural (word 1))
-statementOf (OfStatement GuardedIf) word expression statement items arms = guardedIf (arms (natural (word 1)))
-statementOf (OfStatement GuardedDo) word expression statement items arms = guardedDo (arms (natural (word 1)))
-statementOf (OfStatement Abort) word expression statement items arms = abort
-statementOf (OfStatement Declare) word expression statement items arms = declare (natural (word 1)) (expression (natural (word 2)))
-statementOf (OfStatement Return) word expression statement items arms = giveBack (part_of (natural (word 1)) (expression (natural (word 1))))
-statementOf (OfMark kind) word expression statement items arms = empty
-statementOf (OfMember kind) word expression statement items arms = empty
-statementOf Definition word expression statement items arms = empty
-statementOf Other word expression statement items arms = empty
+statement_of (OfStatement Switch) word expression statement items arms = switch (expression (natural (word 1))) (items (natural (word 2)))
+statement_of (OfStatement Break) word expression statement items arms = break
+statement_of (OfStatement Continue) word expression statement items arms = continue
+statement_of (OfStatement Goto) word expression statement items arms = goto (natural (word 1))
+statement_of (OfStatement GuardedIf) word expression statement items arms = guarded_if (arms (natural (word 1)))
+statement_of (OfStatement GuardedDo) word expression statement items arms = guarded_do (arms (natural (word 1)))
+statement_of (OfStatement Abort) word expression statement items arms = abort
+statement_of (OfStatement Declare) word expression statement items arms = declare (natural (word 1)) (expression (natural (word 2)))
+statement_of (OfStatement Return) word expression statement items arms = give_back (part_of (natural (word 1)) (expression (natural (word 1))))
+statement_of (OfMark kind) word expression statement items arms = empty
+statement_of (OfMember kind) word expression statement items arms = empty
+statement_of Definition word expression statement items arms = empty
+statement_of Other word expression statement items arms = empty
 
 -- "c a block": its items.
-abbrev pub blockItems : Statement → Items
-blockItems empty = none
-blockItems (express e) = none
-blockItems (block is) = is
-blockItems (ifThen e onTrue) = none
-blockItems (ifElse e onTrue onFalse) = none
-blockItems (while e body) = none
-blockItems (doWhile body e) = none
-blockItems (for first test action body) = none
-blockItems (switch e is) = none
-blockItems break = none
-blockItems continue = none
-blockItems (goto l) = none
-blockItems (guardedIf arms) = none
-blockItems (guardedDo arms) = none
-blockItems abort = none
-blockItems (declare word e) = none
-blockItems (giveBack value) = none
+abbrev pub block_items : Statement → Items
+block_items empty = none
+block_items (express e) = none
+block_items (block is) = is
+block_items (if_then e on_true) = none
+block_items (if_else e on_true on_false) = none
+block_items (while e body) = none
+block_items (do_while body e) = none
+block_items (for first test action body) = none
+block_items (switch e is) = none
+block_items break = none
+block_items continue = none
+block_items (goto l) = none
+block_items (guarded_if arms) = none
+block_items (guarded_do arms) = none
+block_items abort = none
+block_items (declare word e) = none
+block_items (give_back value) = none
 
 -- The list from a row on: its mark, its definition or its statement, and then the items behind it. `words` are those of the parameters of a
 -- definition, `body` is what stands at its block.
@@ -162,7 +162,7 @@ items_of (OfMark Case) word statement words body items = case (word 1) here item
 items_of (OfMark Default) word statement words body items = default here items
 items_of (OfMark Label) word statement words body items = label (natural (word 1)) here items
 items_of (OfMember kind) word statement words body items = statement then items
-items_of Definition word statement words body items = define (natural (word 1)) words (blockItems body) items
+items_of Definition word statement words body items = define (natural (word 1)) words (block_items body) items
 items_of Other word statement words body items = none
 
 -- The arms from a row on: its guard and its block, and then the arms behind it.
@@ -181,33 +181,33 @@ pub record RowTrees : Type 0 where
   pub items : Items
   pub arms : Arms
 
-unfoldable pub treesOf : Kind → (ℕ → ℤ) → (ℕ → Expression) → (ℕ → List ℕ) → (ℕ → Statement) → (ℕ → Items) → (ℕ → Arms) → RowTrees
-treesOf kind word expression parameters statement items arms =
-    let own = statementOf kind word expression statement items arms in
+unfoldable pub trees_of : Kind → (ℕ → ℤ) → (ℕ → Expression) → (ℕ → List ℕ) → (ℕ → Statement) → (ℕ → Items) → (ℕ → Arms) → RowTrees
+trees_of kind word expression parameters statement items arms =
+    let own = statement_of kind word expression statement items arms in
     record {
       statement = own;
       items = items_of kind word own (parameters (natural (word 2))) (statement (natural (word 3))) (items (natural (word 5)));
       arms = arms_of kind (expression (natural (word 1))) (statement (natural (word 2))) (arms (natural (word 5)));
     }
 
-unfoldable pub treesBy : ℕ → List ℤ → ℕ → RowTrees
-treesBy zero rows row = record { statement = empty; items = none; arms = no_arm }
-treesBy (suc links) rows row =
-    treesOf (kind_at rows row) (word_at rows row) (later (constant (pos 0)) row (expressionAt rows)) (later [] row (parametersAt rows))
-    (later empty row (λ l. (treesBy links rows l).statement)) (later none row (λ l. (treesBy links rows l).items)) (later no_arm row (λ l. (treesBy links rows l).arms))
+unfoldable pub trees_by : ℕ → List ℤ → ℕ → RowTrees
+trees_by zero rows row = record { statement = empty; items = none; arms = no_arm }
+trees_by (suc links) rows row =
+    trees_of (kind_at rows row) (word_at rows row) (later (constant (pos 0)) row (expression_at rows)) (later [] row (parameters_at rows))
+    (later empty row (λ l. (trees_by links rows l).statement)) (later none row (λ l. (trees_by links rows l).items)) (later no_arm row (λ l. (trees_by links rows l).arms))
 
-unfoldable pub statementAt : List ℤ → ℕ → Statement
-statementAt rows row = (treesBy (rowCount rows) rows row).statement
+unfoldable pub statement_at : List ℤ → ℕ → Statement
+statement_at rows row = (trees_by (row_count rows) rows row).statement
 
-unfoldable pub itemsAt : List ℤ → ℕ → Items
-itemsAt rows row = (treesBy (rowCount rows) rows row).items
+unfoldable pub items_at : List ℤ → ℕ → Items
+items_at rows row = (trees_by (row_count rows) rows row).items
 
-unfoldable pub armsAt : List ℤ → ℕ → Arms
-armsAt rows row = (treesBy (rowCount rows) rows row).arms
+unfoldable pub arms_at : List ℤ → ℕ → Arms
+arms_at rows row = (trees_by (row_count rows) rows row).arms
 
 -- The program that a table holds: "Row 0 is a block".
 unfoldable pub decode : List ℤ → Statement
-decode rows = statementAt rows 0
+decode rows = statement_at rows 0
 
 -- ---- trees at links that may be 0
 
@@ -216,26 +216,26 @@ abbrev pub Forward : ℕ → ℕ → Type 0
 Forward row l = 0 < l → row < l
 
 -- The list that begins at a link; 0 is the empty list.
-abbrev pub listAt : List ℤ → ℕ → Items
-listAt rows zero = none
-listAt rows (suc l) = itemsAt rows (suc l)
+abbrev pub list_at : List ℤ → ℕ → Items
+list_at rows zero = none
+list_at rows (suc l) = items_at rows (suc l)
 
 -- The arms that begin at a link; 0 is no arm.
-abbrev pub armListAt : List ℤ → ℕ → Arms
-armListAt rows zero = no_arm
-armListAt rows (suc l) = armsAt rows (suc l)
+abbrev pub arm_list_at : List ℤ → ℕ → Arms
+arm_list_at rows zero = no_arm
+arm_list_at rows (suc l) = arms_at rows (suc l)
 
 -- The part of a for at a link; 0 is absent.
 abbrev pub part_at : List ℤ → ℕ → Part
 part_at rows zero = absent
-part_at rows (suc l) = present (expressionAt rows (suc l))
+part_at rows (suc l) = present (expression_at rows (suc l))
 
 -- The arguments that begin at a link; 0 is no argument.
-abbrev pub argumentListAt : List ℤ → ℕ → Arguments
-argumentListAt rows zero = no_more
-argumentListAt rows (suc l) = argumentsAt rows (suc l)
+abbrev pub argument_list_at : List ℤ → ℕ → Arguments
+argument_list_at rows zero = no_more
+argument_list_at rows (suc l) = arguments_at rows (suc l)
 
 -- The words of the parameters that begin at a link; 0 is no parameter.
-abbrev pub parameterListAt : List ℤ → ℕ → List ℕ
-parameterListAt rows zero = []
-parameterListAt rows (suc l) = parametersAt rows (suc l)
+abbrev pub parameter_list_at : List ℤ → ℕ → List ℕ
+parameter_list_at rows zero = []
+parameter_list_at rows (suc l) = parameters_at rows (suc l)

@@ -5,8 +5,8 @@ use Rattle.words.specs.declared.Ending.TheVariants.{Plain, Fault}
 use Rattle.language.specs.Rule.{Rule, row, constant}
 
 -- v0 = -3 && 5;
-abbrev pub and-is-truth : Rule
-and-is-truth = record {
+abbrev pub and_is_truth : Rule
+and_is_truth = record {
   header = pos 1 ∷ [];
   rows = row 42 1 0 0 0 0
       ++ row 41 2 0 0 0 0
@@ -17,12 +17,12 @@ and-is-truth = record {
       ++ constant (pos 5);
   store = pos 9 ∷ [];
   budget = 100;
-  comes-to = record { ending = Plain; count = 7; store = pos 1 ∷ [] };
+  comes_to = record { ending = Plain; count = 7; store = pos 1 ∷ [] };
 }
 
 -- v0 = 3 && 0;
-abbrev pub and-right-false : Rule
-and-right-false = record {
+abbrev pub and_right_false : Rule
+and_right_false = record {
   header = pos 1 ∷ [];
   rows = row 42 1 0 0 0 0
       ++ row 41 2 0 0 0 0
@@ -33,12 +33,12 @@ and-right-false = record {
       ++ constant (pos 0);
   store = pos 9 ∷ [];
   budget = 100;
-  comes-to = record { ending = Plain; count = 7; store = pos 0 ∷ [] };
+  comes_to = record { ending = Plain; count = 7; store = pos 0 ∷ [] };
 }
 
 -- v1 = 4 || (v0 = 1);
-abbrev pub or-stops : Rule
-or-stops = record {
+abbrev pub or_stops : Rule
+or_stops = record {
   header = pos 2 ∷ [];
   rows = row 42 1 0 0 0 0
       ++ row 41 2 0 0 0 0
@@ -51,12 +51,12 @@ or-stops = record {
       ++ constant (pos 1);
   store = pos 5 ∷ pos 8 ∷ [];
   budget = 100;
-  comes-to = record { ending = Plain; count = 6; store = pos 5 ∷ pos 1 ∷ [] };
+  comes_to = record { ending = Plain; count = 6; store = pos 5 ∷ pos 1 ∷ [] };
 }
 
 -- v0 = 0 || 0;
-abbrev pub or-both-false : Rule
-or-both-false = record {
+abbrev pub or_both_false : Rule
+or_both_false = record {
   header = pos 1 ∷ [];
   rows = row 42 1 0 0 0 0
       ++ row 41 2 0 0 0 0
@@ -67,12 +67,12 @@ or-both-false = record {
       ++ constant (pos 0);
   store = pos 9 ∷ [];
   budget = 100;
-  comes-to = record { ending = Plain; count = 7; store = pos 0 ∷ [] };
+  comes_to = record { ending = Plain; count = 7; store = pos 0 ∷ [] };
 }
 
 -- v0 = v1 ? 10 : 20; with v1 = -1
-abbrev pub conditional-true : Rule
-conditional-true = record {
+abbrev pub conditional_true : Rule
+conditional_true = record {
   header = pos 2 ∷ [];
   rows = row 42 1 0 0 0 0
       ++ row 41 2 0 0 0 0
@@ -84,12 +84,12 @@ conditional-true = record {
       ++ constant (pos 20);
   store = pos 0 ∷ negsuc 0 ∷ [];
   budget = 100;
-  comes-to = record { ending = Plain; count = 7; store = pos 10 ∷ negsuc 0 ∷ [] };
+  comes_to = record { ending = Plain; count = 7; store = pos 10 ∷ negsuc 0 ∷ [] };
 }
 
 -- v0 = v1 ? 10 : 20; with v1 = 0
-abbrev pub conditional-false : Rule
-conditional-false = record {
+abbrev pub conditional_false : Rule
+conditional_false = record {
   header = pos 2 ∷ [];
   rows = row 42 1 0 0 0 0
       ++ row 41 2 0 0 0 0
@@ -101,12 +101,12 @@ conditional-false = record {
       ++ constant (pos 20);
   store = pos 0 ∷ pos 0 ∷ [];
   budget = 100;
-  comes-to = record { ending = Plain; count = 7; store = pos 20 ∷ pos 0 ∷ [] };
+  comes_to = record { ending = Plain; count = 7; store = pos 20 ∷ pos 0 ∷ [] };
 }
 
 -- v1 = (v0 = 3, v0 + 1);
-abbrev pub comma-left-first : Rule
-comma-left-first = record {
+abbrev pub comma_left_first : Rule
+comma_left_first = record {
   header = pos 2 ∷ [];
   rows = row 42 1 0 0 0 0
       ++ row 41 2 0 0 0 0
@@ -121,12 +121,12 @@ comma-left-first = record {
       ++ constant (pos 1);
   store = pos 7 ∷ pos 0 ∷ [];
   budget = 100;
-  comes-to = record { ending = Plain; count = 11; store = pos 3 ∷ pos 4 ∷ [] };
+  comes_to = record { ending = Plain; count = 11; store = pos 3 ∷ pos 4 ∷ [] };
 }
 
 -- v0 = v1 = 7;
-abbrev pub assign-gives-value : Rule
-assign-gives-value = record {
+abbrev pub assign_gives_value : Rule
+assign_gives_value = record {
   header = pos 2 ∷ [];
   rows = row 42 1 0 0 0 0
       ++ row 41 2 0 0 0 0
@@ -137,12 +137,12 @@ assign-gives-value = record {
       ++ constant (pos 7);
   store = pos 0 ∷ pos 0 ∷ [];
   budget = 100;
-  comes-to = record { ending = Plain; count = 7; store = pos 7 ∷ pos 7 ∷ [] };
+  comes_to = record { ending = Plain; count = 7; store = pos 7 ∷ pos 7 ∷ [] };
 }
 
 -- b[1] = b[2]; with b behind an array of 2
-abbrev pub second-array : Rule
-second-array = record {
+abbrev pub second_array : Rule
+second_array = record {
   header = pos 1 ∷ pos 2 ∷ pos 3 ∷ [];
   rows = row 42 1 0 0 0 0
       ++ row 41 2 0 0 0 0
@@ -153,12 +153,12 @@ second-array = record {
       ++ constant (pos 2);
   store = pos 9 ∷ pos 1 ∷ pos 2 ∷ pos 3 ∷ pos 4 ∷ pos 5 ∷ [];
   budget = 100;
-  comes-to = record { ending = Plain; count = 7; store = pos 9 ∷ pos 1 ∷ pos 2 ∷ pos 3 ∷ pos 5 ∷ pos 5 ∷ [] };
+  comes_to = record { ending = Plain; count = 7; store = pos 9 ∷ pos 1 ∷ pos 2 ∷ pos 3 ∷ pos 5 ∷ pos 5 ∷ [] };
 }
 
 -- v0 = b[2]; with b of 2 behind an array of 3
-abbrev pub second-array-length : Rule
-second-array-length = record {
+abbrev pub second_array_length : Rule
+second_array_length = record {
   header = pos 1 ∷ pos 3 ∷ pos 2 ∷ [];
   rows = row 42 1 0 0 0 0
       ++ row 41 2 0 0 0 0
@@ -168,12 +168,12 @@ second-array-length = record {
       ++ constant (pos 2);
   store = pos 9 ∷ pos 1 ∷ pos 2 ∷ pos 3 ∷ pos 4 ∷ pos 5 ∷ [];
   budget = 100;
-  comes-to = record { ending = Fault Index; count = 5; store = pos 9 ∷ pos 1 ∷ pos 2 ∷ pos 3 ∷ pos 4 ∷ pos 5 ∷ [] };
+  comes_to = record { ending = Fault Index; count = 5; store = pos 9 ∷ pos 1 ∷ pos 2 ∷ pos 3 ∷ pos 4 ∷ pos 5 ∷ [] };
 }
 
 -- v1 = a[v0 = 1];
-abbrev pub index-assigns : Rule
-index-assigns = record {
+abbrev pub index_assigns : Rule
+index_assigns = record {
   header = pos 2 ∷ pos 3 ∷ [];
   rows = row 42 1 0 0 0 0
       ++ row 41 2 0 0 0 0
@@ -185,12 +185,12 @@ index-assigns = record {
       ++ constant (pos 1);
   store = pos 0 ∷ pos 0 ∷ pos 4 ∷ pos 5 ∷ pos 6 ∷ [];
   budget = 100;
-  comes-to = record { ending = Plain; count = 8; store = pos 1 ∷ pos 5 ∷ pos 4 ∷ pos 5 ∷ pos 6 ∷ [] };
+  comes_to = record { ending = Plain; count = 8; store = pos 1 ∷ pos 5 ∷ pos 4 ∷ pos 5 ∷ pos 6 ∷ [] };
 }
 
 -- v1 = v0 += 3;
-abbrev pub compound-gives-new-value : Rule
-compound-gives-new-value = record {
+abbrev pub compound_gives_new_value : Rule
+compound_gives_new_value = record {
   header = pos 2 ∷ [];
   rows = row 42 1 0 0 0 0
       ++ row 41 2 0 0 0 0
@@ -201,12 +201,12 @@ compound-gives-new-value = record {
       ++ constant (pos 3);
   store = pos 4 ∷ pos 0 ∷ [];
   budget = 100;
-  comes-to = record { ending = Plain; count = 7; store = pos 7 ∷ pos 7 ∷ [] };
+  comes_to = record { ending = Plain; count = 7; store = pos 7 ∷ pos 7 ∷ [] };
 }
 
 -- v0 += 10; v1 -= 10; v2 *= 10; v3 /= 10; v4 %= 10;
-abbrev pub compound-operators : Rule
-compound-operators = record {
+abbrev pub compound_operators : Rule
+compound_operators = record {
   header = pos 5 ∷ [];
   rows = row 42 1 0 0 0 0
       ++ row 41 2 0 0 0 5
@@ -231,12 +231,12 @@ compound-operators = record {
       ++ constant (pos 10);
   store = pos 7 ∷ pos 7 ∷ pos 7 ∷ pos 27 ∷ pos 27 ∷ [];
   budget = 100;
-  comes-to = record { ending = Plain; count = 21; store = pos 17 ∷ negsuc 2 ∷ pos 70 ∷ pos 2 ∷ pos 7 ∷ [] };
+  comes_to = record { ending = Plain; count = 21; store = pos 17 ∷ negsuc 2 ∷ pos 70 ∷ pos 2 ∷ pos 7 ∷ [] };
 }
 
 -- a[v0 = 1] += v0;
-abbrev pub compound-value-first : Rule
-compound-value-first = record {
+abbrev pub compound_value_first : Rule
+compound_value_first = record {
   header = pos 1 ∷ pos 3 ∷ [];
   rows = row 42 1 0 0 0 0
       ++ row 41 2 0 0 0 0
@@ -248,12 +248,12 @@ compound-value-first = record {
       ++ row 2 0 0 0 0 0;
   store = pos 5 ∷ pos 10 ∷ pos 20 ∷ pos 30 ∷ [];
   budget = 100;
-  comes-to = record { ending = Plain; count = 8; store = pos 1 ∷ pos 10 ∷ pos 25 ∷ pos 30 ∷ [] };
+  comes_to = record { ending = Plain; count = 8; store = pos 1 ∷ pos 10 ∷ pos 25 ∷ pos 30 ∷ [] };
 }
 
 -- a[a[2] = 2] += 4;
-abbrev pub compound-reads-after-index : Rule
-compound-reads-after-index = record {
+abbrev pub compound_reads_after_index : Rule
+compound_reads_after_index = record {
   header = pos 0 ∷ pos 3 ∷ [];
   rows = row 42 1 0 0 0 0
       ++ row 41 2 0 0 0 0
@@ -266,12 +266,12 @@ compound-reads-after-index = record {
       ++ constant (pos 4);
   store = pos 7 ∷ pos 8 ∷ pos 9 ∷ [];
   budget = 100;
-  comes-to = record { ending = Plain; count = 9; store = pos 7 ∷ pos 8 ∷ pos 6 ∷ [] };
+  comes_to = record { ending = Plain; count = 9; store = pos 7 ∷ pos 8 ∷ pos 6 ∷ [] };
 }
 
 -- v0 += 1; with v0 = 2147483647
-abbrev pub compound-overflows : Rule
-compound-overflows = record {
+abbrev pub compound_overflows : Rule
+compound_overflows = record {
   header = pos 1 ∷ [];
   rows = row 42 1 0 0 0 0
       ++ row 41 2 0 0 0 0
@@ -280,12 +280,12 @@ compound-overflows = record {
       ++ constant (pos 1);
   store = pos 2147483647 ∷ [];
   budget = 100;
-  comes-to = record { ending = Fault Overflow; count = 5; store = pos 2147483647 ∷ [] };
+  comes_to = record { ending = Fault Overflow; count = 5; store = pos 2147483647 ∷ [] };
 }
 
 -- v1 = ++v0;
-abbrev pub prefix-gives-new-value : Rule
-prefix-gives-new-value = record {
+abbrev pub prefix_gives_new_value : Rule
+prefix_gives_new_value = record {
   header = pos 2 ∷ [];
   rows = row 42 1 0 0 0 0
       ++ row 41 2 0 0 0 0
@@ -295,12 +295,12 @@ prefix-gives-new-value = record {
       ++ row 2 0 0 0 0 0;
   store = pos 4 ∷ pos 0 ∷ [];
   budget = 100;
-  comes-to = record { ending = Plain; count = 6; store = pos 5 ∷ pos 5 ∷ [] };
+  comes_to = record { ending = Plain; count = 6; store = pos 5 ∷ pos 5 ∷ [] };
 }
 
 -- v1 = --a[v0++];
-abbrev pub prefix-index-once : Rule
-prefix-index-once = record {
+abbrev pub prefix_index_once : Rule
+prefix_index_once = record {
   header = pos 2 ∷ pos 3 ∷ [];
   rows = row 42 1 0 0 0 0
       ++ row 41 2 0 0 0 0
@@ -312,12 +312,12 @@ prefix-index-once = record {
       ++ row 2 0 0 0 0 0;
   store = pos 1 ∷ pos 0 ∷ pos 5 ∷ pos 6 ∷ pos 7 ∷ [];
   budget = 100;
-  comes-to = record { ending = Plain; count = 8; store = pos 2 ∷ pos 5 ∷ pos 5 ∷ pos 5 ∷ pos 7 ∷ [] };
+  comes_to = record { ending = Plain; count = 8; store = pos 2 ∷ pos 5 ∷ pos 5 ∷ pos 5 ∷ pos 7 ∷ [] };
 }
 
 -- --v0; with v0 = -2147483648
-abbrev pub prefix-overflows : Rule
-prefix-overflows = record {
+abbrev pub prefix_overflows : Rule
+prefix_overflows = record {
   header = pos 1 ∷ [];
   rows = row 42 1 0 0 0 0
       ++ row 41 2 0 0 0 0
@@ -325,12 +325,12 @@ prefix-overflows = record {
       ++ row 2 0 0 0 0 0;
   store = negsuc 2147483647 ∷ [];
   budget = 100;
-  comes-to = record { ending = Fault Overflow; count = 4; store = negsuc 2147483647 ∷ [] };
+  comes_to = record { ending = Fault Overflow; count = 4; store = negsuc 2147483647 ∷ [] };
 }
 
 -- v1 = v0--;
-abbrev pub postfix-gives-old-value : Rule
-postfix-gives-old-value = record {
+abbrev pub postfix_gives_old_value : Rule
+postfix_gives_old_value = record {
   header = pos 2 ∷ [];
   rows = row 42 1 0 0 0 0
       ++ row 41 2 0 0 0 0
@@ -340,12 +340,12 @@ postfix-gives-old-value = record {
       ++ row 2 0 0 0 0 0;
   store = pos 4 ∷ pos 0 ∷ [];
   budget = 100;
-  comes-to = record { ending = Plain; count = 6; store = pos 3 ∷ pos 4 ∷ [] };
+  comes_to = record { ending = Plain; count = 6; store = pos 3 ∷ pos 4 ∷ [] };
 }
 
 -- v1 = a[v0--]++;
-abbrev pub postfix-index-once : Rule
-postfix-index-once = record {
+abbrev pub postfix_index_once : Rule
+postfix_index_once = record {
   header = pos 2 ∷ pos 3 ∷ [];
   rows = row 42 1 0 0 0 0
       ++ row 41 2 0 0 0 0
@@ -357,12 +357,12 @@ postfix-index-once = record {
       ++ row 2 0 0 0 0 0;
   store = pos 1 ∷ pos 0 ∷ pos 5 ∷ pos 6 ∷ pos 7 ∷ [];
   budget = 100;
-  comes-to = record { ending = Plain; count = 8; store = pos 0 ∷ pos 6 ∷ pos 5 ∷ pos 7 ∷ pos 7 ∷ [] };
+  comes_to = record { ending = Plain; count = 8; store = pos 0 ∷ pos 6 ∷ pos 5 ∷ pos 7 ∷ pos 7 ∷ [] };
 }
 
 -- v0++; with v0 = 2147483647
-abbrev pub postfix-overflows : Rule
-postfix-overflows = record {
+abbrev pub postfix_overflows : Rule
+postfix_overflows = record {
   header = pos 1 ∷ [];
   rows = row 42 1 0 0 0 0
       ++ row 41 2 0 0 0 0
@@ -370,5 +370,5 @@ postfix-overflows = record {
       ++ row 2 0 0 0 0 0;
   store = pos 2147483647 ∷ [];
   budget = 100;
-  comes-to = record { ending = Fault Overflow; count = 4; store = pos 2147483647 ∷ [] };
+  comes_to = record { ending = Fault Overflow; count = 4; store = pos 2147483647 ∷ [] };
 }

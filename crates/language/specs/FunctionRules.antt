@@ -12,8 +12,8 @@ abbrev comes : Ending → ℕ → List ℤ → Finished
 comes ending count store = record { ending = ending; count = count; store = store }
 
 -- int f(int x, int y) { return x - y; } v0 = f(f(9, 3), 2);
-abbrev nestedRows : List ℤ
-nestedRows = row 42 1 0 0 0 0
+abbrev nested_rows : List ℤ
+nested_rows = row 42 1 0 0 0 0
     ++ row 59 0 2 4 0 9
     ++ row 58 1 0 0 0 3
     ++ row 58 2 0 0 0 0
@@ -35,34 +35,34 @@ nestedRows = row 42 1 0 0 0 0
     ++ row 32 20 0 0 0 0
     ++ constant (pos 2)
 
-abbrev nestedCall : ℕ → Finished → Rule
-nestedCall budget finished = record { header = pos 1 ∷ []; rows = nestedRows; store = pos 0 ∷ pos 5 ∷ pos 5 ∷ []; budget = budget; comes-to = finished }
+abbrev nested_call : ℕ → Finished → Rule
+nested_call budget finished = record { header = pos 1 ∷ []; rows = nested_rows; store = pos 0 ∷ pos 5 ∷ pos 5 ∷ []; budget = budget; comes_to = finished }
 
 -- the call's row, then for each argument, from the last on, its row and its expression's rows; the block's row; the return's, and its expression's
 abbrev pub nested-call : Rule
-nested-call = nestedCall 100 (comes Plain 23 (pos 4 ∷ pos 6 ∷ pos 2 ∷ []))
+nested-call = nested_call 100 (comes Plain 23 (pos 4 ∷ pos 6 ∷ pos 2 ∷ []))
 
 -- the step that falls due is the first argument's constant: nothing is stored
-abbrev pub spent-at-an-argument : Rule
-spent-at-an-argument = nestedCall 11 (comes Spent 11 (pos 0 ∷ pos 5 ∷ pos 5 ∷ []))
+abbrev pub spent_at_an_argument : Rule
+spent_at_an_argument = nested_call 11 (comes Spent 11 (pos 0 ∷ pos 5 ∷ pos 5 ∷ []))
 
 -- the step that falls due is the block's: the parameters are stored
-abbrev pub spent-at-the-block : Rule
-spent-at-the-block = nestedCall 12 (comes Spent 12 (pos 0 ∷ pos 9 ∷ pos 3 ∷ []))
+abbrev pub spent_at_the_block : Rule
+spent_at_the_block = nested_call 12 (comes Spent 12 (pos 0 ∷ pos 9 ∷ pos 3 ∷ []))
 
 -- the same in the outer call
-abbrev pub spent-at-the-outer-block : Rule
-spent-at-the-outer-block = nestedCall 17 (comes Spent 17 (pos 0 ∷ pos 6 ∷ pos 2 ∷ []))
+abbrev pub spent_at_the_outer_block : Rule
+spent_at_the_outer_block = nested_call 17 (comes Spent 17 (pos 0 ∷ pos 6 ∷ pos 2 ∷ []))
 
-abbrev pub spent-at-the-place : Rule
-spent-at-the-place = nestedCall 22 (comes Spent 22 (pos 0 ∷ pos 6 ∷ pos 2 ∷ []))
+abbrev pub spent_at_the_place : Rule
+spent_at_the_place = nested_call 22 (comes Spent 22 (pos 0 ∷ pos 6 ∷ pos 2 ∷ []))
 
 abbrev pub just_enough : Rule
-just_enough = nestedCall 23 (comes Plain 23 (pos 4 ∷ pos 6 ∷ pos 2 ∷ []))
+just_enough = nested_call 23 (comes Plain 23 (pos 4 ∷ pos 6 ∷ pos 2 ∷ []))
 
 -- int f(int x, int y) { } v1 = f(v0, v0 = 3); with v0 = 1: the last argument is worked out first; reaching the end returns 0
-abbrev pub last-argument-first : Rule
-last-argument-first = record {
+abbrev pub last_argument_first : Rule
+last_argument_first = record {
   header = pos 2 ∷ [];
   rows = row 42 1 0 0 0 0
       ++ row 59 0 2 4 0 5
@@ -81,12 +81,12 @@ last-argument-first = record {
       ++ constant (pos 3);
   store = pos 1 ∷ pos 7 ∷ pos 5 ∷ pos 5 ∷ [];
   budget = 100;
-  comes-to = comes Plain 12 (pos 3 ∷ pos 0 ∷ pos 3 ∷ pos 3 ∷ []);
+  comes_to = comes Plain 12 (pos 3 ∷ pos 0 ∷ pos 3 ∷ pos 3 ∷ []);
 }
 
 -- v1 = f(v0 = 3, v0); with v0 = 1
-abbrev pub first-argument-last : Rule
-first-argument-last = record {
+abbrev pub first_argument_last : Rule
+first_argument_last = record {
   header = pos 2 ∷ [];
   rows = row 42 1 0 0 0 0
       ++ row 59 0 2 4 0 5
@@ -105,12 +105,12 @@ first-argument-last = record {
       ++ row 2 0 0 0 0 0;
   store = pos 1 ∷ pos 7 ∷ pos 5 ∷ pos 5 ∷ [];
   budget = 100;
-  comes-to = comes Plain 12 (pos 3 ∷ pos 0 ∷ pos 3 ∷ pos 1 ∷ []);
+  comes_to = comes Plain 12 (pos 3 ∷ pos 0 ∷ pos 3 ∷ pos 1 ∷ []);
 }
 
 -- v1 = f(v0 = 3, 1 / 0); the fault comes before the first argument is worked out, and no parameter is stored
-abbrev pub argument-faults : Rule
-argument-faults = record {
+abbrev pub argument_faults : Rule
+argument_faults = record {
   header = pos 2 ∷ [];
   rows = row 42 1 0 0 0 0
       ++ row 59 0 2 4 0 5
@@ -131,12 +131,12 @@ argument-faults = record {
       ++ constant (pos 0);
   store = pos 1 ∷ pos 7 ∷ pos 5 ∷ pos 5 ∷ [];
   budget = 100;
-  comes-to = comes (Fault ZeroDivisor) 8 (pos 1 ∷ pos 7 ∷ pos 5 ∷ pos 5 ∷ []);
+  comes_to = comes (Fault ZeroDivisor) 8 (pos 1 ∷ pos 7 ∷ pos 5 ∷ pos 5 ∷ []);
 }
 
 -- int f() { while (1) do for (;;) switch (1) { case 1: return 7; case 2: } while (1); } v0 = f();
-abbrev pub return-leaves-loops : Rule
-return-leaves-loops = record {
+abbrev pub return_leaves_loops : Rule
+return_leaves_loops = record {
   header = pos 1 ∷ [];
   rows = row 42 1 0 0 0 0
       ++ row 59 0 0 2 0 14
@@ -158,12 +158,12 @@ return-leaves-loops = record {
       ++ row 31 0 0 0 0 0;
   store = pos 0 ∷ [];
   budget = 100;
-  comes-to = comes Plain 15 (pos 7 ∷ []);
+  comes_to = comes Plain 15 (pos 7 ∷ []);
 }
 
 -- int f() { do if 1 -> return 4; od } v0 = f(); in guarded commands
-abbrev pub return-leaves-guarded-forms : Rule
-return-leaves-guarded-forms = record {
+abbrev pub return_leaves_guarded_forms : Rule
+return_leaves_guarded_forms = record {
   header = pos 1 ∷ [];
   rows = row 42 1 0 0 0 0
       ++ row 59 0 0 2 0 13
@@ -184,12 +184,12 @@ return-leaves-guarded-forms = record {
       ++ row 31 0 0 0 0 0;
   store = pos 0 ∷ [];
   budget = 100;
-  comes-to = comes Plain 16 (pos 4 ∷ []);
+  comes_to = comes Plain 16 (pos 4 ∷ []);
 }
 
 -- int f() { v0 = 5; return; ++v0; } int g() { return v0 + f(); } v1 = g(); with v0 = 9: the right operand comes first
-abbrev pub call-within-a-call : Rule
-call-within-a-call = record {
+abbrev pub call_within_a_call : Rule
+call_within_a_call = record {
   header = pos 2 ∷ [];
   rows = row 42 1 0 0 0 0
       ++ row 59 0 0 2 0 11
@@ -214,32 +214,32 @@ call-within-a-call = record {
       ++ row 31 1 0 0 0 0;
   store = pos 9 ∷ pos 9 ∷ [];
   budget = 100;
-  comes-to = comes Plain 16 (pos 5 ∷ pos 5 ∷ []);
+  comes_to = comes Plain 16 (pos 5 ∷ pos 5 ∷ []);
 }
 
 -- int f() { } and nothing else: the definition is passed over
-abbrev pub definitions-alone : Rule
-definitions-alone = record {
+abbrev pub definitions_alone : Rule
+definitions_alone = record {
   header = pos 1 ∷ [];
   rows = row 42 1 0 0 0 0 ++ row 59 0 0 2 0 0 ++ row 42 0 0 0 0 0;
   store = pos 3 ∷ [];
   budget = 100;
-  comes-to = comes Plain 1 (pos 3 ∷ []);
+  comes_to = comes Plain 1 (pos 3 ∷ []);
 }
 
-abbrev pub functionTable : List Rule
-functionTable =
+abbrev pub function_table : List Rule
+function_table =
     nested-call ∷
-    spent-at-an-argument ∷
-    spent-at-the-block ∷
-    spent-at-the-outer-block ∷
-    spent-at-the-place ∷
+    spent_at_an_argument ∷
+    spent_at_the_block ∷
+    spent_at_the_outer_block ∷
+    spent_at_the_place ∷
     just_enough ∷
-    last-argument-first ∷
-    first-argument-last ∷
-    argument-faults ∷
-    return-leaves-loops ∷
-    return-leaves-guarded-forms ∷
-    call-within-a-call ∷
-    definitions-alone ∷
+    last_argument_first ∷
+    first_argument_last ∷
+    argument_faults ∷
+    return_leaves_loops ∷
+    return_leaves_guarded_forms ∷
+    call_within_a_call ∷
+    definitions_alone ∷
     []

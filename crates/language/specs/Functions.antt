@@ -12,17 +12,17 @@ pub record Function : Type 0 where
   pub body : Items
 
 -- The function with this number; where there is none, one that does nothing.
-unfoldable pub functionOf : ℕ → Items → Function
-functionOf f none = record { parameters = []; body = none }
-functionOf f (s then is) = functionOf f is
-functionOf f (m here is) = functionOf f is
-functionOf f (define g words body is) = pick (eqb f g) (record { parameters = words; body = body }) (functionOf f is)
+unfoldable pub function_of : ℕ → Items → Function
+function_of f none = record { parameters = []; body = none }
+function_of f (s then is) = function_of f is
+function_of f (m here is) = function_of f is
+function_of f (define g words body is) = pick (eqb f g) (record { parameters = words; body = body }) (function_of f is)
 
-unfoldable pub functionCount : Items → ℕ
-functionCount none = 0
-functionCount (s then is) = functionCount is
-functionCount (m here is) = functionCount is
-functionCount (define f words body is) = suc (functionCount is)
+unfoldable pub function_count : Items → ℕ
+function_count none = 0
+function_count (s then is) = function_count is
+function_count (m here is) = function_count is
+function_count (define f words body is) = suc (function_count is)
 
 -- Each parameter's word gets its value. "Neither definition nor parameter rows ever count a step". A call has as many arguments as its function has
 -- parameters (24); a value that were missing would be 0.
@@ -46,18 +46,18 @@ invoke C function values = do
   signal ← exec C (block function.body)
   ret (returned signal)
 
-abbrev pub contextBy : Layout → (ℕ → List ℤ → Computation ℤ) → Context
-contextBy L calling = record { layout = L; calling = calling }
+abbrev pub context_by : Layout → (ℕ → List ℤ → Computation ℤ) → Context
+context_by L calling = record { layout = L; calling = calling }
 
 -- A function calls lower ones alone, so as many calls within calls as there are functions are enough.
 unfoldable pub call_by : ℕ → Layout → Items → ℕ → List ℤ → Computation ℤ
 call_by zero L program f values = ret (pos 0)
-call_by (suc calls) L program f values = invoke (contextBy L (call_by calls L program)) (functionOf f program) values
+call_by (suc calls) L program f values = invoke (context_by L (call_by calls L program)) (function_of f program) values
 
 -- What the trees of a program are read in.
 unfoldable pub context_of : Layout → Items → Context
-context_of L program = contextBy L (call_by (functionCount program) L program)
+context_of L program = context_by L (call_by (function_count program) L program)
 
 -- The same for a program without functions.
 abbrev pub plain : Layout → Context
-plain L = contextBy L (λ f values. ret (pos 0))
+plain L = context_by L (λ f values. ret (pos 0))

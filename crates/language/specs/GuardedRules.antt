@@ -6,8 +6,8 @@ use Rattle.words.specs.declared.Ending.TheVariants.{Plain, Spent, Fault}
 use Rattle.language.specs.Rule.{Rule, row, constant, case}
 
 -- if 1 -> { v0 = 1; } [] v1 = 1 -> { v0 = 2; } fi: later guards are not worked out
-abbrev pub first-true-guard : Rule
-first-true-guard = record {
+abbrev pub first_true_guard : Rule
+first_true_guard = record {
   header = pos 2 ∷ [];
   rows = row 42 1 0 0 0 0
       ++ row 54 2 0 0 0 0
@@ -29,12 +29,12 @@ first-true-guard = record {
       ++ constant (pos 2);
   store = pos 0 ∷ pos 0 ∷ [];
   budget = 100;
-  comes-to = record { ending = Plain; count = 9; store = pos 1 ∷ pos 0 ∷ [] };
+  comes_to = record { ending = Plain; count = 9; store = pos 1 ∷ pos 0 ∷ [] };
 }
 
 -- if v0 -> { v1 = 1; } [] v0 == 0 -> { v1 = 2; } fi v0 = 3;
-abbrev pub second-guard-true : Rule
-second-guard-true = record {
+abbrev pub second_guard_true : Rule
+second_guard_true = record {
   header = pos 2 ∷ [];
   rows = row 42 1 0 0 0 0
       ++ row 54 2 0 0 0 18
@@ -60,12 +60,12 @@ second-guard-true = record {
       ++ constant (pos 3);
   store = pos 0 ∷ pos 0 ∷ [];
   budget = 100;
-  comes-to = record { ending = Plain; count = 17; store = pos 3 ∷ pos 2 ∷ [] };
+  comes_to = record { ending = Plain; count = 17; store = pos 3 ∷ pos 2 ∷ [] };
 }
 
 -- if v0 = 0 -> { v1 = 1; } [] 1 -> { v1 = 2; } fi with v0 = 5: what a false guard stored stays
-abbrev pub false-guard-stores : Rule
-false-guard-stores = record {
+abbrev pub false_guard_stores : Rule
+false_guard_stores = record {
   header = pos 2 ∷ [];
   rows = row 42 1 0 0 0 0
       ++ row 54 2 0 0 0 0
@@ -87,12 +87,12 @@ false-guard-stores = record {
       ++ constant (pos 2);
   store = pos 5 ∷ pos 0 ∷ [];
   budget = 100;
-  comes-to = record { ending = Plain; count = 13; store = pos 0 ∷ pos 2 ∷ [] };
+  comes_to = record { ending = Plain; count = 13; store = pos 0 ∷ pos 2 ∷ [] };
 }
 
 -- v1 = 1; if v0 = 0 -> { v1 = 2; } [] 0 -> {} fi v1 = 3; with v0 = 5
-abbrev pub no-guard-true : Rule
-no-guard-true = record {
+abbrev pub no_guard_true : Rule
+no_guard_true = record {
   header = pos 2 ∷ [];
   rows = row 42 1 0 0 0 0
       ++ row 41 2 0 0 0 5
@@ -118,12 +118,12 @@ no-guard-true = record {
       ++ constant (pos 3);
   store = pos 5 ∷ pos 0 ∷ [];
   budget = 100;
-  comes-to = record { ending = Fault Guard; count = 12; store = pos 0 ∷ pos 1 ∷ [] };
+  comes_to = record { ending = Fault Guard; count = 12; store = pos 0 ∷ pos 1 ∷ [] };
 }
 
 -- if fi v0 = 1;
-abbrev pub guarded-if-without-arms : Rule
-guarded-if-without-arms = record {
+abbrev pub guarded_if_without_arms : Rule
+guarded_if_without_arms = record {
   header = pos 1 ∷ [];
   rows = row 42 1 0 0 0 0
       ++ row 54 0 0 0 0 2
@@ -133,12 +133,12 @@ guarded-if-without-arms = record {
       ++ constant (pos 1);
   store = pos 0 ∷ [];
   budget = 100;
-  comes-to = record { ending = Fault Guard; count = 2; store = pos 0 ∷ [] };
+  comes_to = record { ending = Fault Guard; count = 2; store = pos 0 ∷ [] };
 }
 
 -- do od v0 = 1;
-abbrev pub guarded-do-without-arms : Rule
-guarded-do-without-arms = record {
+abbrev pub guarded_do_without_arms : Rule
+guarded_do_without_arms = record {
   header = pos 1 ∷ [];
   rows = row 42 1 0 0 0 0
       ++ row 55 0 0 0 0 2
@@ -148,12 +148,12 @@ guarded-do-without-arms = record {
       ++ constant (pos 1);
   store = pos 0 ∷ [];
   budget = 100;
-  comes-to = record { ending = Plain; count = 6; store = pos 1 ∷ [] };
+  comes_to = record { ending = Plain; count = 6; store = pos 1 ∷ [] };
 }
 
 -- do v0 -> { v1 = 1; } [] 0 -> {} od v0 = 1;
-abbrev pub guarded-do-never : Rule
-guarded-do-never = record {
+abbrev pub guarded_do_never : Rule
+guarded_do_never = record {
   header = pos 2 ∷ [];
   rows = row 42 1 0 0 0 0
       ++ row 55 2 0 0 0 12
@@ -173,12 +173,12 @@ guarded-do-never = record {
       ++ constant (pos 1);
   store = pos 0 ∷ pos 0 ∷ [];
   budget = 100;
-  comes-to = record { ending = Plain; count = 10; store = pos 1 ∷ pos 0 ∷ [] };
+  comes_to = record { ending = Plain; count = 10; store = pos 1 ∷ pos 0 ∷ [] };
 }
 
 -- do v0 > v1 -> { v0 -= v1; } [] v1 > v0 -> { v1 -= v0; } od with v0 = 6, v1 = 4
-abbrev pub greatest-common-divisor : Rule
-greatest-common-divisor = record {
+abbrev pub greatest_common_divisor : Rule
+greatest_common_divisor = record {
   header = pos 2 ∷ [];
   rows = row 42 1 0 0 0 0
       ++ row 55 2 0 0 0 0
@@ -202,12 +202,12 @@ greatest-common-divisor = record {
       ++ row 2 0 0 0 0 0;
   store = pos 6 ∷ pos 4 ∷ [];
   budget = 100;
-  comes-to = record { ending = Plain; count = 32; store = pos 2 ∷ pos 2 ∷ [] };
+  comes_to = record { ending = Plain; count = 32; store = pos 2 ∷ pos 2 ∷ [] };
 }
 
 -- do v0 = 0 -> {} [] v1 -> { v1--; } od with v1 = 1
-abbrev pub guarded-do-from-its-first-arm : Rule
-guarded-do-from-its-first-arm = record {
+abbrev pub guarded_do_from_its_first_arm : Rule
+guarded_do_from_its_first_arm = record {
   header = pos 2 ∷ [];
   rows = row 42 1 0 0 0 0
       ++ row 55 2 0 0 0 0
@@ -224,12 +224,12 @@ guarded-do-from-its-first-arm = record {
       ++ row 2 1 0 0 0 0;
   store = pos 5 ∷ pos 1 ∷ [];
   budget = 100;
-  comes-to = record { ending = Plain; count = 18; store = pos 0 ∷ pos 0 ∷ [] };
+  comes_to = record { ending = Plain; count = 18; store = pos 0 ∷ pos 0 ∷ [] };
 }
 
 -- while (1) { if 1 -> { break; v0 = 1; } fi v0 = 2; } v1 = 1;
-abbrev pub break-through-guarded-if : Rule
-break-through-guarded-if = record {
+abbrev pub break_through_guarded_if : Rule
+break_through_guarded_if = record {
   header = pos 2 ∷ [];
   rows = row 42 1 0 0 0 0
       ++ row 44 2 3 0 0 17
@@ -254,12 +254,12 @@ break-through-guarded-if = record {
       ++ constant (pos 1);
   store = pos 0 ∷ pos 0 ∷ [];
   budget = 100;
-  comes-to = record { ending = Plain; count = 13; store = pos 0 ∷ pos 1 ∷ [] };
+  comes_to = record { ending = Plain; count = 13; store = pos 0 ∷ pos 1 ∷ [] };
 }
 
 -- while (1) { do 1 -> { break; v0 = 1; } od v0 = 2; } v1 = 1;
-abbrev pub break-through-guarded-do : Rule
-break-through-guarded-do = record {
+abbrev pub break_through_guarded_do : Rule
+break_through_guarded_do = record {
   header = pos 2 ∷ [];
   rows = row 42 1 0 0 0 0
       ++ row 44 2 3 0 0 17
@@ -284,12 +284,12 @@ break-through-guarded-do = record {
       ++ constant (pos 1);
   store = pos 0 ∷ pos 0 ∷ [];
   budget = 100;
-  comes-to = record { ending = Plain; count = 13; store = pos 0 ∷ pos 1 ∷ [] };
+  comes_to = record { ending = Plain; count = 13; store = pos 0 ∷ pos 1 ∷ [] };
 }
 
 -- while (v0) { v0--; if 1 -> { continue; } fi v1 = 1; } with v0 = 2
-abbrev pub continue-through-guarded-if : Rule
-continue-through-guarded-if = record {
+abbrev pub continue_through_guarded_if : Rule
+continue_through_guarded_if = record {
   header = pos 2 ∷ [];
   rows = row 42 1 0 0 0 0
       ++ row 44 2 3 0 0 0
@@ -309,12 +309,12 @@ continue-through-guarded-if = record {
       ++ constant (pos 1);
   store = pos 2 ∷ pos 0 ∷ [];
   budget = 100;
-  comes-to = record { ending = Plain; count = 23; store = pos 0 ∷ pos 0 ∷ [] };
+  comes_to = record { ending = Plain; count = 23; store = pos 0 ∷ pos 0 ∷ [] };
 }
 
 -- while (v0) { do 1 -> { v0--; continue; } od v1 = 1; } with v0 = 2
-abbrev pub continue-through-guarded-do : Rule
-continue-through-guarded-do = record {
+abbrev pub continue_through_guarded_do : Rule
+continue_through_guarded_do = record {
   header = pos 2 ∷ [];
   rows = row 42 1 0 0 0 0
       ++ row 44 2 3 0 0 0
@@ -334,12 +334,12 @@ continue-through-guarded-do = record {
       ++ constant (pos 1);
   store = pos 2 ∷ pos 0 ∷ [];
   budget = 100;
-  comes-to = record { ending = Plain; count = 23; store = pos 0 ∷ pos 0 ∷ [] };
+  comes_to = record { ending = Plain; count = 23; store = pos 0 ∷ pos 0 ∷ [] };
 }
 
 -- switch (1) { case 1: do 1 -> { if 1 -> { break; } fi } od v0 = 1; } v1 = 1;
-abbrev pub break-leaves-switch-around-guards : Rule
-break-leaves-switch-around-guards = record {
+abbrev pub break_leaves_switch_around_guards : Rule
+break_leaves_switch_around_guards = record {
   header = pos 2 ∷ [];
   rows = row 42 1 0 0 0 0
       ++ row 47 2 3 0 0 17
@@ -364,12 +364,12 @@ break-leaves-switch-around-guards = record {
       ++ constant (pos 1);
   store = pos 0 ∷ pos 0 ∷ [];
   budget = 100;
-  comes-to = record { ending = Plain; count = 17; store = pos 0 ∷ pos 1 ∷ [] };
+  comes_to = record { ending = Plain; count = 17; store = pos 0 ∷ pos 1 ∷ [] };
 }
 
 -- if 1 / v0 -> { v0 = 1; } [] 1 -> { v0 = 2; } fi
-abbrev pub guard-faults : Rule
-guard-faults = record {
+abbrev pub guard_faults : Rule
+guard_faults = record {
   header = pos 1 ∷ [];
   rows = row 42 1 0 0 0 0
       ++ row 54 2 0 0 0 0
@@ -391,12 +391,12 @@ guard-faults = record {
       ++ constant (pos 2);
   store = pos 0 ∷ [];
   budget = 100;
-  comes-to = record { ending = Fault ZeroDivisor; count = 6; store = pos 0 ∷ [] };
+  comes_to = record { ending = Fault ZeroDivisor; count = 6; store = pos 0 ∷ [] };
 }
 
 -- do 1 / v0 -> { v0--; } od with v0 = 1
-abbrev pub guard-faults-in-a-later-round : Rule
-guard-faults-in-a-later-round = record {
+abbrev pub guard_faults_in_a_later_round : Rule
+guard_faults_in_a_later_round = record {
   header = pos 1 ∷ [];
   rows = row 42 1 0 0 0 0
       ++ row 55 2 0 0 0 0
@@ -410,12 +410,12 @@ guard-faults-in-a-later-round = record {
       ++ row 2 0 0 0 0 0;
   store = pos 1 ∷ [];
   budget = 100;
-  comes-to = record { ending = Fault ZeroDivisor; count = 14; store = pos 0 ∷ [] };
+  comes_to = record { ending = Fault ZeroDivisor; count = 14; store = pos 0 ∷ [] };
 }
 
 -- do 1 -> { if v0 -> { v0--; } fi } od with v0 = 1
-abbrev pub guarded-if-fails-in-guarded-do : Rule
-guarded-if-fails-in-guarded-do = record {
+abbrev pub guarded_if_fails_in_guarded_do : Rule
+guarded_if_fails_in_guarded_do = record {
   header = pos 1 ∷ [];
   rows = row 42 1 0 0 0 0
       ++ row 55 2 0 0 0 0
@@ -431,12 +431,12 @@ guarded-if-fails-in-guarded-do = record {
       ++ row 2 0 0 0 0 0;
   store = pos 1 ∷ [];
   budget = 100;
-  comes-to = record { ending = Fault Guard; count = 18; store = pos 0 ∷ [] };
+  comes_to = record { ending = Fault Guard; count = 18; store = pos 0 ∷ [] };
 }
 
 -- do v0 -> {} [] 1 -> { v1 = 1; } od with budget 12
-abbrev pub guarded-do-spent : Rule
-guarded-do-spent = record {
+abbrev pub guarded_do_spent : Rule
+guarded_do_spent = record {
   header = pos 2 ∷ [];
   rows = row 42 1 0 0 0 0
       ++ row 55 2 0 0 0 0
@@ -452,5 +452,5 @@ guarded-do-spent = record {
       ++ constant (pos 1);
   store = pos 0 ∷ pos 0 ∷ [];
   budget = 12;
-  comes-to = record { ending = Spent; count = 12; store = pos 0 ∷ pos 1 ∷ [] };
+  comes_to = record { ending = Spent; count = 12; store = pos 0 ∷ pos 1 ∷ [] };
 }

@@ -31,12 +31,12 @@ temporaries = record {
       ++ constant (pos 2);
   store = pos 0 ∷ pos 8 ∷ pos 9 ∷ pos 6 ∷ pos 1 ∷ pos 1 ∷ [];
   budget = 100;
-  comes-to = record { ending = Plain; count = 21; store = pos 7 ∷ pos 8 ∷ pos 9 ∷ pos 7 ∷ pos 5 ∷ pos 7 ∷ [] };
+  comes_to = record { ending = Plain; count = 21; store = pos 7 ∷ pos 8 ∷ pos 9 ∷ pos 7 ∷ pos 5 ∷ pos 7 ∷ [] };
 }
 
 -- goto 7; v0 = 1; label 7: v1 = 1;
-abbrev pub goto-passes-over : Rule
-goto-passes-over = record {
+abbrev pub goto_passes_over : Rule
+goto_passes_over = record {
   header = pos 2 ∷ pos 0 ∷ pos 0 ∷ [];
   rows = row 42 1 0 0 0 0
       ++ row 52 7 0 0 0 2
@@ -51,12 +51,12 @@ goto-passes-over = record {
       ++ constant (pos 1);
   store = pos 0 ∷ pos 0 ∷ [];
   budget = 100;
-  comes-to = record { ending = Plain; count = 7; store = pos 0 ∷ pos 1 ∷ [] };
+  comes_to = record { ending = Plain; count = 7; store = pos 0 ∷ pos 1 ∷ [] };
 }
 
 -- label 0: v0 = 1;
-abbrev pub label-fallen-into : Rule
-label-fallen-into = record {
+abbrev pub label_fallen_into : Rule
+label_fallen_into = record {
   header = pos 1 ∷ pos 0 ∷ pos 0 ∷ [];
   rows = row 42 1 0 0 0 0
       ++ row 53 0 0 0 0 2
@@ -66,12 +66,12 @@ label-fallen-into = record {
       ++ constant (pos 1);
   store = pos 0 ∷ [];
   budget = 100;
-  comes-to = record { ending = Plain; count = 6; store = pos 1 ∷ [] };
+  comes_to = record { ending = Plain; count = 6; store = pos 1 ∷ [] };
 }
 
 -- { { goto 1; v0 = 1; } label 0: v1 = 1; } label 1: v2 = 1;
-abbrev pub goto-leaves-blocks : Rule
-goto-leaves-blocks = record {
+abbrev pub goto_leaves_blocks : Rule
+goto_leaves_blocks = record {
   header = pos 3 ∷ pos 0 ∷ pos 0 ∷ [];
   rows = row 42 1 0 0 0 0
       ++ row 42 2 0 0 0 13
@@ -93,12 +93,12 @@ goto-leaves-blocks = record {
       ++ constant (pos 1);
   store = pos 0 ∷ pos 0 ∷ pos 0 ∷ [];
   budget = 100;
-  comes-to = record { ending = Plain; count = 9; store = pos 0 ∷ pos 0 ∷ pos 1 ∷ [] };
+  comes_to = record { ending = Plain; count = 9; store = pos 0 ∷ pos 0 ∷ pos 1 ∷ [] };
 }
 
 -- { goto 0; v0 = 1; label 0: v1 = 1; } v2 = 1;
-abbrev pub goto-stays-in-block : Rule
-goto-stays-in-block = record {
+abbrev pub goto_stays_in_block : Rule
+goto_stays_in_block = record {
   header = pos 3 ∷ pos 0 ∷ pos 0 ∷ [];
   rows = row 42 1 0 0 0 0
       ++ row 42 2 0 0 0 12
@@ -118,12 +118,12 @@ goto-stays-in-block = record {
       ++ constant (pos 1);
   store = pos 0 ∷ pos 0 ∷ pos 0 ∷ [];
   budget = 100;
-  comes-to = record { ending = Plain; count = 12; store = pos 0 ∷ pos 1 ∷ pos 1 ∷ [] };
+  comes_to = record { ending = Plain; count = 12; store = pos 0 ∷ pos 1 ∷ pos 1 ∷ [] };
 }
 
 -- while (1) { goto 3; v0 = 1; } v1 = 1; label 3: v2 = 1;
-abbrev pub goto-leaves-while : Rule
-goto-leaves-while = record {
+abbrev pub goto_leaves_while : Rule
+goto_leaves_while = record {
   header = pos 3 ∷ pos 0 ∷ pos 0 ∷ [];
   rows = row 42 1 0 0 0 0
       ++ row 44 2 3 0 0 9
@@ -145,12 +145,12 @@ goto-leaves-while = record {
       ++ constant (pos 1);
   store = pos 0 ∷ pos 0 ∷ pos 0 ∷ [];
   budget = 100;
-  comes-to = record { ending = Plain; count = 10; store = pos 0 ∷ pos 0 ∷ pos 1 ∷ [] };
+  comes_to = record { ending = Plain; count = 10; store = pos 0 ∷ pos 0 ∷ pos 1 ∷ [] };
 }
 
 -- while (v0) { v0 = v0 - 1; if (v0) { goto 2; } else {} v1 = v1 + 1; label 2: } with v0 = 2
-abbrev pub goto-in-while : Rule
-goto-in-while = record {
+abbrev pub goto_in_while : Rule
+goto_in_while = record {
   header = pos 2 ∷ pos 0 ∷ pos 0 ∷ [];
   rows = row 42 1 0 0 0 0
       ++ row 44 2 3 0 0 0
@@ -176,12 +176,12 @@ goto-in-while = record {
       ++ row 53 2 0 0 0 0;
   store = pos 2 ∷ pos 0 ∷ [];
   budget = 100;
-  comes-to = record { ending = Plain; count = 34; store = pos 0 ∷ pos 1 ∷ [] };
+  comes_to = record { ending = Plain; count = 34; store = pos 0 ∷ pos 1 ∷ [] };
 }
 
 -- a[v0] = 1; with v0 = 2, an array of 2 and 3 temporaries behind it
-abbrev pub kernel-index : Rule
-kernel-index = record {
+abbrev pub kernel_index : Rule
+kernel_index = record {
   header = pos 1 ∷ pos 0 ∷ pos 3 ∷ pos 2 ∷ [];
   rows = row 42 1 0 0 0 0
       ++ row 41 2 0 0 0 0
@@ -191,12 +191,12 @@ kernel-index = record {
       ++ constant (pos 1);
   store = pos 2 ∷ pos 8 ∷ pos 9 ∷ pos 7 ∷ pos 7 ∷ pos 7 ∷ [];
   budget = 100;
-  comes-to = record { ending = Fault Index; count = 6; store = pos 2 ∷ pos 8 ∷ pos 9 ∷ pos 7 ∷ pos 7 ∷ pos 7 ∷ [] };
+  comes_to = record { ending = Fault Index; count = 6; store = pos 2 ∷ pos 8 ∷ pos 9 ∷ pos 7 ∷ pos 7 ∷ pos 7 ∷ [] };
 }
 
 -- while (1) {} with budget 9
-abbrev pub kernel-spent : Rule
-kernel-spent = record {
+abbrev pub kernel_spent : Rule
+kernel_spent = record {
   header = pos 0 ∷ pos 0 ∷ pos 0 ∷ [];
   rows = row 42 1 0 0 0 0
       ++ row 44 2 3 0 0 0
@@ -204,12 +204,12 @@ kernel-spent = record {
       ++ row 42 0 0 0 0 0;
   store = [];
   budget = 9;
-  comes-to = record { ending = Spent; count = 9; store = [] };
+  comes_to = record { ending = Spent; count = 9; store = [] };
 }
 
 -- v0 = 1; { abort; } v0 = 2;
-abbrev pub abort-fails : Rule
-abort-fails = record {
+abbrev pub abort_fails : Rule
+abort_fails = record {
   header = pos 1 ∷ pos 0 ∷ pos 0 ∷ [];
   rows = row 42 1 0 0 0 0
       ++ row 41 2 0 0 0 5
@@ -224,12 +224,12 @@ abort-fails = record {
       ++ constant (pos 2);
   store = pos 0 ∷ [];
   budget = 100;
-  comes-to = record { ending = Fault Guard; count = 7; store = pos 1 ∷ [] };
+  comes_to = record { ending = Fault Guard; count = 7; store = pos 1 ∷ [] };
 }
 
 -- goto 0; abort; label 0: v0 = 1;
-abbrev pub goto-passes-abort : Rule
-goto-passes-abort = record {
+abbrev pub goto_passes_abort : Rule
+goto_passes_abort = record {
   header = pos 1 ∷ pos 0 ∷ pos 0 ∷ [];
   rows = row 42 1 0 0 0 0
       ++ row 52 0 0 0 0 2
@@ -241,20 +241,20 @@ goto-passes-abort = record {
       ++ constant (pos 1);
   store = pos 0 ∷ [];
   budget = 100;
-  comes-to = record { ending = Plain; count = 7; store = pos 1 ∷ [] };
+  comes_to = record { ending = Plain; count = 7; store = pos 1 ∷ [] };
 }
 
-abbrev pub kernelTable : List Rule
-kernelTable =
+abbrev pub kernel_table : List Rule
+kernel_table =
     temporaries ∷
-    goto-passes-over ∷
-    label-fallen-into ∷
-    goto-leaves-blocks ∷
-    goto-stays-in-block ∷
-    goto-leaves-while ∷
-    goto-in-while ∷
-    kernel-index ∷
-    kernel-spent ∷
-    abort-fails ∷
-    goto-passes-abort ∷
+    goto_passes_over ∷
+    label_fallen_into ∷
+    goto_leaves_blocks ∷
+    goto_stays_in_block ∷
+    goto_leaves_while ∷
+    goto_in_while ∷
+    kernel_index ∷
+    kernel_spent ∷
+    abort_fails ∷
+    goto_passes_abort ∷
     []

@@ -38,23 +38,10 @@ pub mod WellFormed
 -- Sound tables: what a run asks of a table.
 pub mod Sound
 -- ---- laws
--- The theorem: every rule of the four tables holds.
-pub mod RulesHold
--- The writes that some runs make.
-pub mod WriteExamples
 -- Laws of trees: one list of items behind another, the marks that a list has, the rows of a statement.
 pub mod TreeLaws
--- Laws of write sets: the test is exact; an expression leaves the variables outside its set alone.
-pub mod WriteLaws
-pub mod Untouched
--- The same of statements and functions.
-pub mod FunctionUntouched
 -- Laws of decode: a row's tree by its kind.
 pub mod DecodeLaws
--- Laws of functions: a call is the run of its function; programs without functions.
-pub mod FunctionLaws
-pub mod PlainTables
-pub mod PlainCalls
 -- Fields by role: where a field holds the same in each role of its kind.
 pub mod FieldRoles
 -- Laws of sound tables: what a row's field holds, by the row's kind.

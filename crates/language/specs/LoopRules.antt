@@ -4,8 +4,8 @@ use Rattle.words.specs.declared.Ending.TheVariants.{Plain, Spent}
 use Rattle.language.specs.Rule.{Rule, row, constant}
 
 -- while (0) v0 = 1;
-abbrev pub while-never : Rule
-while-never = record {
+abbrev pub while_never : Rule
+while_never = record {
   header = pos 1 ∷ [];
   rows = row 42 1 0 0 0 0
       ++ row 44 2 3 0 0 0
@@ -16,12 +16,12 @@ while-never = record {
       ++ constant (pos 1);
   store = pos 5 ∷ [];
   budget = 100;
-  comes-to = record { ending = Plain; count = 3; store = pos 5 ∷ [] };
+  comes_to = record { ending = Plain; count = 3; store = pos 5 ∷ [] };
 }
 
 -- while (v0) v0--; with v0 = 2
-abbrev pub while-rounds : Rule
-while-rounds = record {
+abbrev pub while_rounds : Rule
+while_rounds = record {
   header = pos 1 ∷ [];
   rows = row 42 1 0 0 0 0
       ++ row 44 2 3 0 0 0
@@ -31,12 +31,12 @@ while-rounds = record {
       ++ row 2 0 0 0 0 0;
   store = pos 2 ∷ [];
   budget = 100;
-  comes-to = record { ending = Plain; count = 11; store = pos 0 ∷ [] };
+  comes_to = record { ending = Plain; count = 11; store = pos 0 ∷ [] };
 }
 
 -- while (v0) { v0--; continue; v1 = 1; } with v0 = 2
-abbrev pub continue-in-while : Rule
-continue-in-while = record {
+abbrev pub continue_in_while : Rule
+continue_in_while = record {
   header = pos 2 ∷ [];
   rows = row 42 1 0 0 0 0
       ++ row 44 2 3 0 0 0
@@ -52,12 +52,12 @@ continue-in-while = record {
       ++ constant (pos 1);
   store = pos 2 ∷ pos 5 ∷ [];
   budget = 100;
-  comes-to = record { ending = Plain; count = 15; store = pos 0 ∷ pos 5 ∷ [] };
+  comes_to = record { ending = Plain; count = 15; store = pos 0 ∷ pos 5 ∷ [] };
 }
 
 -- while (1) { break; v0 = 1; } v1 = 1;
-abbrev pub break-in-while : Rule
-break-in-while = record {
+abbrev pub break_in_while : Rule
+break_in_while = record {
   header = pos 2 ∷ [];
   rows = row 42 1 0 0 0 0
       ++ row 44 2 3 0 0 9
@@ -74,12 +74,12 @@ break-in-while = record {
       ++ constant (pos 1);
   store = pos 0 ∷ pos 0 ∷ [];
   budget = 100;
-  comes-to = record { ending = Plain; count = 9; store = pos 0 ∷ pos 1 ∷ [] };
+  comes_to = record { ending = Plain; count = 9; store = pos 0 ∷ pos 1 ∷ [] };
 }
 
 -- while (v0) { v0--; while (1) break; v1++; } with v0 = 2
-abbrev pub break-leaves-inner-loop : Rule
-break-leaves-inner-loop = record {
+abbrev pub break_leaves_inner_loop : Rule
+break_leaves_inner_loop = record {
   header = pos 2 ∷ [];
   rows = row 42 1 0 0 0 0
       ++ row 44 2 3 0 0 0
@@ -96,12 +96,12 @@ break-leaves-inner-loop = record {
       ++ row 2 1 0 0 0 0;
   store = pos 2 ∷ pos 0 ∷ [];
   budget = 100;
-  comes-to = record { ending = Plain; count = 25; store = pos 0 ∷ pos 2 ∷ [] };
+  comes_to = record { ending = Plain; count = 25; store = pos 0 ∷ pos 2 ∷ [] };
 }
 
 -- do v0++; while (0);
-abbrev pub do-once : Rule
-do-once = record {
+abbrev pub do_once : Rule
+do_once = record {
   header = pos 1 ∷ [];
   rows = row 42 1 0 0 0 0
       ++ row 45 2 5 0 0 0
@@ -111,12 +111,12 @@ do-once = record {
       ++ constant (pos 0);
   store = pos 0 ∷ [];
   budget = 100;
-  comes-to = record { ending = Plain; count = 6; store = pos 1 ∷ [] };
+  comes_to = record { ending = Plain; count = 6; store = pos 1 ∷ [] };
 }
 
 -- do v0--; while (v0); with v0 = 2
-abbrev pub do-rounds : Rule
-do-rounds = record {
+abbrev pub do_rounds : Rule
+do_rounds = record {
   header = pos 1 ∷ [];
   rows = row 42 1 0 0 0 0
       ++ row 45 2 5 0 0 0
@@ -126,12 +126,12 @@ do-rounds = record {
       ++ row 2 0 0 0 0 0;
   store = pos 2 ∷ [];
   budget = 100;
-  comes-to = record { ending = Plain; count = 10; store = pos 0 ∷ [] };
+  comes_to = record { ending = Plain; count = 10; store = pos 0 ∷ [] };
 }
 
 -- do { break; v0 = 1; } while (1);
-abbrev pub break-in-do : Rule
-break-in-do = record {
+abbrev pub break_in_do : Rule
+break_in_do = record {
   header = pos 1 ∷ [];
   rows = row 42 1 0 0 0 0
       ++ row 45 2 8 0 0 0
@@ -144,12 +144,12 @@ break-in-do = record {
       ++ constant (pos 1);
   store = pos 5 ∷ [];
   budget = 100;
-  comes-to = record { ending = Plain; count = 4; store = pos 5 ∷ [] };
+  comes_to = record { ending = Plain; count = 4; store = pos 5 ∷ [] };
 }
 
 -- for (v0 = 0; v0 < 2; v0++) { do continue; while (0); v1++; }
-abbrev pub continue-stays-in-inner-loop : Rule
-continue-stays-in-inner-loop = record {
+abbrev pub continue_stays_in_inner_loop : Rule
+continue_stays_in_inner_loop = record {
   header = pos 2 ∷ [];
   rows = row 42 1 0 0 0 0
       ++ row 46 2 5 8 10 0
@@ -170,12 +170,12 @@ continue-stays-in-inner-loop = record {
       ++ row 2 1 0 0 0 0;
   store = pos 9 ∷ pos 0 ∷ [];
   budget = 100;
-  comes-to = record { ending = Plain; count = 32; store = pos 2 ∷ pos 2 ∷ [] };
+  comes_to = record { ending = Plain; count = 32; store = pos 2 ∷ pos 2 ∷ [] };
 }
 
 -- do { switch (1) { case 1: continue; case 2: v0 = 1; } v1 = 1; } while (0);
-abbrev pub continue-leaves-switch : Rule
-continue-leaves-switch = record {
+abbrev pub continue_leaves_switch : Rule
+continue_leaves_switch = record {
   header = pos 2 ∷ [];
   rows = row 42 1 0 0 0 0
       ++ row 45 2 16 0 0 0
@@ -196,12 +196,12 @@ continue-leaves-switch = record {
       ++ constant (pos 0);
   store = pos 5 ∷ pos 6 ∷ [];
   budget = 100;
-  comes-to = record { ending = Plain; count = 8; store = pos 5 ∷ pos 6 ∷ [] };
+  comes_to = record { ending = Plain; count = 8; store = pos 5 ∷ pos 6 ∷ [] };
 }
 
 -- for (;;) { v0++; break; }
-abbrev pub for-without-parts : Rule
-for-without-parts = record {
+abbrev pub for_without_parts : Rule
+for_without_parts = record {
   header = pos 1 ∷ [];
   rows = row 42 1 0 0 0 0
       ++ row 46 0 0 0 2 0
@@ -212,12 +212,12 @@ for-without-parts = record {
       ++ row 50 0 0 0 0 0;
   store = pos 0 ∷ [];
   budget = 100;
-  comes-to = record { ending = Plain; count = 7; store = pos 1 ∷ [] };
+  comes_to = record { ending = Plain; count = 7; store = pos 1 ∷ [] };
 }
 
 -- for (v0 = 0;; v0++) if (v0 == 2) break;
-abbrev pub for-without-test : Rule
-for-without-test = record {
+abbrev pub for_without_test : Rule
+for_without_test = record {
   header = pos 1 ∷ [];
   rows = row 42 1 0 0 0 0
       ++ row 46 2 0 5 7 0
@@ -233,12 +233,12 @@ for-without-test = record {
       ++ row 50 0 0 0 0 0;
   store = pos 9 ∷ [];
   budget = 100;
-  comes-to = record { ending = Plain; count = 22; store = pos 2 ∷ [] };
+  comes_to = record { ending = Plain; count = 22; store = pos 2 ∷ [] };
 }
 
 -- for (; v0 < 2;) v0++;
-abbrev pub for-without-step : Rule
-for-without-step = record {
+abbrev pub for_without_step : Rule
+for_without_step = record {
   header = pos 1 ∷ [];
   rows = row 42 1 0 0 0 0
       ++ row 46 0 2 0 5 0
@@ -250,12 +250,12 @@ for-without-step = record {
       ++ row 2 0 0 0 0 0;
   store = pos 0 ∷ [];
   budget = 100;
-  comes-to = record { ending = Plain; count = 17; store = pos 2 ∷ [] };
+  comes_to = record { ending = Plain; count = 17; store = pos 2 ∷ [] };
 }
 
 -- for (v0 = 5; v0 < 3; v0++) v1 = 1;
-abbrev pub for-never : Rule
-for-never = record {
+abbrev pub for_never : Rule
+for_never = record {
   header = pos 2 ∷ [];
   rows = row 42 1 0 0 0 0
       ++ row 46 2 5 8 10 0
@@ -273,12 +273,12 @@ for-never = record {
       ++ constant (pos 1);
   store = pos 0 ∷ pos 0 ∷ [];
   budget = 100;
-  comes-to = record { ending = Plain; count = 8; store = pos 5 ∷ pos 0 ∷ [] };
+  comes_to = record { ending = Plain; count = 8; store = pos 5 ∷ pos 0 ∷ [] };
 }
 
 -- for (v0 = 0; v0 < 3; v0++) break;
-abbrev pub break-passes-step : Rule
-break-passes-step = record {
+abbrev pub break_passes_step : Rule
+break_passes_step = record {
   header = pos 1 ∷ [];
   rows = row 42 1 0 0 0 0
       ++ row 46 2 5 8 10 0
@@ -293,12 +293,12 @@ break-passes-step = record {
       ++ row 50 0 0 0 0 0;
   store = pos 9 ∷ [];
   budget = 100;
-  comes-to = record { ending = Plain; count = 9; store = pos 0 ∷ [] };
+  comes_to = record { ending = Plain; count = 9; store = pos 0 ∷ [] };
 }
 
 -- for (;; v0++) { if (v0 == 1) break; continue; }
-abbrev pub continue-without-test : Rule
-continue-without-test = record {
+abbrev pub continue_without_test : Rule
+continue_without_test = record {
   header = pos 1 ∷ [];
   rows = row 42 1 0 0 0 0
       ++ row 46 0 0 2 4 0
@@ -313,12 +313,12 @@ continue-without-test = record {
       ++ row 51 0 0 0 0 0;
   store = pos 0 ∷ [];
   budget = 100;
-  comes-to = record { ending = Plain; count = 16; store = pos 1 ∷ [] };
+  comes_to = record { ending = Plain; count = 16; store = pos 1 ∷ [] };
 }
 
 -- while (1) v0++; with budget 9
-abbrev pub while-spent : Rule
-while-spent = record {
+abbrev pub while_spent : Rule
+while_spent = record {
   header = pos 1 ∷ [];
   rows = row 42 1 0 0 0 0
       ++ row 44 2 3 0 0 0
@@ -328,17 +328,17 @@ while-spent = record {
       ++ row 2 0 0 0 0 0;
   store = pos 0 ∷ [];
   budget = 9;
-  comes-to = record { ending = Spent; count = 9; store = pos 1 ∷ [] };
+  comes_to = record { ending = Spent; count = 9; store = pos 1 ∷ [] };
 }
 
 -- for (;;) ; with budget 10
-abbrev pub for-spent : Rule
-for-spent = record {
+abbrev pub for_spent : Rule
+for_spent = record {
   header = pos 1 ∷ [];
   rows = row 42 1 0 0 0 0
       ++ row 46 0 0 0 2 0
       ++ row 40 0 0 0 0 0;
   store = pos 5 ∷ [];
   budget = 10;
-  comes-to = record { ending = Spent; count = 10; store = pos 5 ∷ [] };
+  comes_to = record { ending = Spent; count = 10; store = pos 5 ∷ [] };
 }

@@ -2,20 +2,20 @@
 -- rules of Preprint 97. "One step is counted each time a row is entered, places, labels and the mark a switch goes to included".
 use Rattle.std.specs.Prelude.{Bool, true, false, List, [], ◌∷◌, ℕ, ℤ, pos}
 use Rattle.words.specs.Word.{pick}
-use Rattle.words.specs.Layout.{Layout, arrayBase, arrayLength}
-use Rattle.arithmetic.specs.Arithmetic.{isTrue, truth, logicalNot, apply, minus as minusWord, element as elementWord}
+use Rattle.words.specs.Layout.{Layout, array_base, array_length}
+use Rattle.arithmetic.specs.Arithmetic.{is_true, truth, logical_not, apply, minus as minus_word, element as element_word}
 use Rattle.words.specs.declared.Operator.{Operator}
 use Rattle.words.specs.declared.FaultSort.TheVariants.{Guard}
 use Rattle.computation.specs.Computation.{Turn, again, leave, Computation, ret, ◌>>=◌, ◌>>◌, step, load, save, fail, loop, settle}
-use Rattle.language.specs.Trees.{Expression, constant, read, minus, not, binary, and, or, comma, conditional, assign, compound, prefix, postfix, call, Place, variable, element, Arguments, no_more, ◌also◌, Part, absent, present, Mark, case, default, label, Statement, empty, express, block, ifThen, ifElse, while, doWhile, for, switch, break, continue, goto, guardedIf, guardedDo, abort, declare, giveBack, Arms, no_arm, arm, Items, none, ◌then◌, ◌here◌, define, sameMark, has}
+use Rattle.language.specs.Trees.{Expression, constant, read, minus, not, binary, and, or, comma, conditional, assign, compound, prefix, postfix, call, Place, variable, element, Arguments, no_more, ◌also◌, Part, absent, present, Mark, case, default, label, Statement, empty, express, block, if_then, if_else, while, do_while, for, switch, break, continue, goto, guarded_if, guarded_do, abort, declare, give_back, Arms, no_arm, arm, Items, none, ◌then◌, ◌here◌, define, same_mark, has}
 
 -- Entering a row is one step; what follows is m.
 abbrev pub enter : {A : Type 0} → Computation A → Computation A
 enter m = step >> m
 
 -- A value is true unless it is 0.
-abbrev pub ifTrue : {A : Type 0} → ℤ → Computation A → Computation A → Computation A
-ifTrue v onTrue onFalse = pick (isTrue v) onTrue onFalse
+abbrev pub if_true : {A : Type 0} → ℤ → Computation A → Computation A → Computation A
+if_true v on_true on_false = pick (is_true v) on_true on_false
 
 -- Read a word, operate, store: the old value and the new one.
 abbrev pub update : Operator → ℕ → ℤ → (ℤ → ℤ → ℤ) → Computation ℤ
@@ -25,11 +25,11 @@ update operator position right result = do
   save position new
   ret (result old new)
 
-abbrev pub oldValue : ℤ → ℤ → ℤ
-oldValue old new = old
+abbrev pub old_value : ℤ → ℤ → ℤ
+old_value old new = old
 
-abbrev pub newValue : ℤ → ℤ → ℤ
-newValue old new = new
+abbrev pub new_value : ℤ → ℤ → ℤ
+new_value old new = new
 
 -- What a tree is read in: where the arrays lie, and what a call does with the number of its function and the values of its arguments.
 pub record Context : Type 1 where
@@ -49,11 +49,11 @@ module _ (C : Context) where
     -- [10] "Faults: overflow (also minus of −2147483648 ..)"
     evaluate (minus e) = do
       v ← enter (evaluate e)
-      settle (minusWord v)
+      settle (minus_word v)
     -- [10] "Not gives 0 or 1."
     evaluate (not e) = do
       v ← enter (evaluate e)
-      ret (logicalNot v)
+      ret (logical_not v)
     -- [9] "Binary kinds 6 to 16: right operand, then left, then the operation."
     evaluate (binary operator a b) = do
       right ← enter (evaluate b)
@@ -62,11 +62,11 @@ module _ (C : Context) where
     -- [13, 15, 17, 18] "And, or: left first; the right only where needed; the result is 0 or 1."
     evaluate (and a b) = do
       left ← enter (evaluate a)
-      ifTrue left (do right ← enter (evaluate b); ret (truth right)) (ret (pos 0))
+      if_true left (do right ← enter (evaluate b); ret (truth right)) (ret (pos 0))
     -- [14, 16, 17, 18]
     evaluate (or a b) = do
       left ← enter (evaluate a)
-      ifTrue left (ret (pos 1)) (do right ← enter (evaluate b); ret (truth right))
+      if_true left (ret (pos 1)) (do right ← enter (evaluate b); ret (truth right))
     -- [12] "Comma: left, then right; the result is the right's."
     evaluate (comma a b) = do
       enter (evaluate a)
@@ -74,7 +74,7 @@ module _ (C : Context) where
     -- [19, 20] "Conditional: the test, then one branch."
     evaluate (conditional c a b) = do
       test ← enter (evaluate c)
-      ifTrue test (enter (evaluate a)) (enter (evaluate b))
+      if_true test (enter (evaluate a)) (enter (evaluate b))
     -- [22] "Assign: value, then the place's index, then the bounds test, then the store. The result is the value stored."
     evaluate (assign p e) = do
       v ← enter (evaluate e)
@@ -85,15 +85,15 @@ module _ (C : Context) where
     evaluate (compound operator p e) = do
       right ← enter (evaluate e)
       position ← enter (locate p)
-      update operator position right newValue
+      update operator position right new_value
     -- [23] "++e is e += 1."
     evaluate (prefix operator p) = do
       position ← enter (locate p)
-      update operator position (pos 1) newValue
+      update operator position (pos 1) new_value
     -- [24] "e++ gives the old value; the index is worked out once."
     evaluate (postfix operator p) = do
       position ← enter (locate p)
-      update operator position (pos 1) oldValue
+      update operator position (pos 1) old_value
     -- "Kind 31, an expression, calls". "Arguments are evaluated from the last to the first, all before any parameter is stored".
     evaluate (call f arguments) = do
       values ← given arguments
@@ -104,7 +104,7 @@ module _ (C : Context) where
     locate (variable i) = ret i
     locate (element array e) = do
       index ← enter (evaluate e)
-      settle (elementWord (arrayBase C.layout array) (arrayLength C.layout array) index)
+      settle (element_word (array_base C.layout array) (array_length C.layout array) index)
 
     -- The values of the arguments from one on: of each its row is entered, and then its expression's.
     pub given : Arguments → Computation (List ℤ)
@@ -130,19 +130,19 @@ pub data Signal : Type 0 where
   returning : ℤ → Signal
 
 -- Whether a run with this signal enters the statement that follows, and the mark m. [56 to 63, 69]
-abbrev pub entersStatement : Signal → Bool
-entersStatement next = true
-entersStatement breaking = false
-entersStatement continuing = false
-entersStatement (seeking m) = false
-entersStatement (returning v) = false
+abbrev pub enters_statement : Signal → Bool
+enters_statement next = true
+enters_statement breaking = false
+enters_statement continuing = false
+enters_statement (seeking m) = false
+enters_statement (returning v) = false
 
-abbrev pub entersMark : Signal → Mark → Bool
-entersMark next m = true
-entersMark breaking m = false
-entersMark continuing m = false
-entersMark (seeking n) m = sameMark n m
-entersMark (returning v) m = false
+abbrev pub enters_mark : Signal → Mark → Bool
+enters_mark next m = true
+enters_mark breaking m = false
+enters_mark continuing m = false
+enters_mark (seeking n) m = same_mark n m
+enters_mark (returning v) m = false
 
 -- "Switch: go to the case of equal value, else to default, else past the switch": a switch in which no mark is gone to ends like one that
 -- a break leaves.
@@ -150,49 +150,49 @@ abbrev pub target : ℤ → Items → Signal
 target v is = pick (has (case v) is) (seeking (case v)) (pick (has default is) (seeking default) breaking)
 
 -- A switch ends a break. [77 to 79]
-abbrev pub afterSwitch : Signal → Signal
-afterSwitch next = next
-afterSwitch breaking = next
-afterSwitch continuing = continuing
-afterSwitch (seeking m) = seeking m
-afterSwitch (returning v) = returning v
+abbrev pub after_switch : Signal → Signal
+after_switch next = next
+after_switch breaking = next
+after_switch continuing = continuing
+after_switch (seeking m) = seeking m
+after_switch (returning v) = returning v
 
 -- What follows a loop's body: the rest of the round, or the loop is left. [80 to 85]
-abbrev pub afterBody : Computation (Turn Signal) → Signal → Computation (Turn Signal)
-afterBody rest next = rest
-afterBody rest continuing = rest
-afterBody rest breaking = ret (leave next)
-afterBody rest (seeking m) = ret (leave (seeking m))
-afterBody rest (returning v) = ret (leave (returning v))
+abbrev pub after_body : Computation (Turn Signal) → Signal → Computation (Turn Signal)
+after_body rest next = rest
+after_body rest continuing = rest
+after_body rest breaking = ret (leave next)
+after_body rest (seeking m) = ret (leave (seeking m))
+after_body rest (returning v) = ret (leave (returning v))
 
 -- What the arms of a guarded statement come to: no guard was true, or a block ran and ended with this signal.
 pub data Choice : Type 0 where
-  noneTrue : Choice
+  none_true : Choice
   ran : Signal → Choice
 
 -- "Guarded if with no true guard gives a fourth fault".
-abbrev pub afterChoice : Choice → Computation Signal
-afterChoice noneTrue = fail Guard
-afterChoice (ran signal) = ret signal
+abbrev pub after_choice : Choice → Computation Signal
+after_choice none_true = fail Guard
+after_choice (ran signal) = ret signal
 
 -- "Guarded do then begins again at its arms, and ends when no guard is true." "Neither form counts as a loop for break and continue."
-abbrev pub afterArms : Choice → Turn Signal
-afterArms noneTrue = leave next
-afterArms (ran next) = again
-afterArms (ran breaking) = leave breaking
-afterArms (ran continuing) = leave continuing
-afterArms (ran (seeking m)) = leave (seeking m)
-afterArms (ran (returning v)) = leave (returning v)
+abbrev pub after_arms : Choice → Turn Signal
+after_arms none_true = leave next
+after_arms (ran next) = again
+after_arms (ran breaking) = leave breaking
+after_arms (ran continuing) = leave continuing
+after_arms (ran (seeking m)) = leave (seeking m)
+after_arms (ran (returning v)) = leave (returning v)
 
 -- What follows the entry of an arm's row: its guard, then its block or the arms behind it.
-abbrev pub tryArm : Computation ℤ → Computation Signal → Computation Choice → Computation Choice
-tryArm guard body rest = do
+abbrev pub try_arm : Computation ℤ → Computation Signal → Computation Choice → Computation Choice
+try_arm guard body rest = do
   v ← guard
-  ifTrue v (do signal ← body; ret (ran signal)) rest
+  if_true v (do signal ← body; ret (ran signal)) rest
 
 -- What follows a loop's test.
 abbrev pub after_test : Computation (Turn Signal) → ℤ → Computation (Turn Signal)
-after_test rest v = ifTrue v rest (ret (leave next))
+after_test rest v = if_true v rest (ret (leave next))
 
 module _ (C : Context) where
   -- The rounds of while and for: test, body, step. Each begins by entering a row, the test's or, without a test, the body's; the
@@ -200,10 +200,10 @@ module _ (C : Context) where
   abbrev pub rounds : Part → Part → Computation Signal → Computation Signal
   rounds (present test) action body = loop do
     v ← evaluate C test
-    after_test (do signal ← enter body; afterBody (do value_of C action; ret again) signal) v
+    after_test (do signal ← enter body; after_body (do value_of C action; ret again) signal) v
   rounds absent action body = loop do
     signal ← body
-    afterBody (do value_of C action; ret again) signal
+    after_body (do value_of C action; ret again) signal
 
   unfoldable mutual
     -- A statement, after the entry of its row.
@@ -217,18 +217,18 @@ module _ (C : Context) where
     -- [70, 71]
     perform (block is) = items is next
     -- [73 to 76]
-    perform (ifThen e onTrue) = do
+    perform (if_then e on_true) = do
       test ← value C e
-      ifTrue test (enter (perform onTrue)) (ret next)
-    perform (ifElse e onTrue onFalse) = do
+      if_true test (enter (perform on_true)) (ret next)
+    perform (if_else e on_true on_false) = do
       test ← value C e
-      ifTrue test (enter (perform onTrue)) (enter (perform onFalse))
+      if_true test (enter (perform on_true)) (enter (perform on_false))
     -- [86, 89] "A loop's own row is entered once, its test, body and step rows on each round."
     perform (while e body) = rounds (present e) absent (perform body)
     -- [88, 90] "Continue in while and do goes to the test."
-    perform (doWhile body e) = loop do
+    perform (do_while body e) = loop do
       signal ← perform body
-      afterBody (do v ← value C e; after_test (ret again) v) signal
+      after_body (do v ← value C e; after_test (ret again) v) signal
     -- [87, 91]
     perform (for first test action body) = do
       value_of C first
@@ -237,16 +237,16 @@ module _ (C : Context) where
     perform (switch e is) = do
       v ← value C e
       signal ← items is (target v is)
-      ret (afterSwitch signal)
+      ret (after_switch signal)
     perform break = ret breaking
     perform continue = ret continuing
     -- "Goto: the run goes on at its label, in the first list outward that has it; items between are passed over."
     perform (goto l) = ret (seeking (label l))
     -- "Arms are entered from the first until a guard is true; its block runs."
-    perform (guardedIf arms) = do
+    perform (guarded_if arms) = do
       choice ← choose arms
-      afterChoice choice
-    perform (guardedDo arms) = choiceRounds arms
+      after_choice choice
+    perform (guarded_do arms) = choice_rounds arms
     -- "As does the kernel's new kind 57 (abort, no fields)."
     perform abort = fail Guard
     -- Kind 58: "b initial expression". Its value goes to the new object's word; no row stands for that word, so the store is no step.
@@ -255,30 +255,30 @@ module _ (C : Context) where
       save word v
       ret next
     -- "Kind 60 returns a, or 0 where a is 0".
-    perform (giveBack part) = do
+    perform (give_back part) = do
       v ← value_of C part
       ret (returning v)
 
     -- The arms from one on. The guards behind a true one are not worked out; what false guards stored stays.
     pub choose : Arms → Computation Choice
-    choose no_arm = ret noneTrue
-    choose (arm guard body arms) = enter (tryArm (value C guard) (enter (perform body)) (choose arms))
+    choose no_arm = ret none_true
+    choose (arm guard body arms) = enter (try_arm (value C guard) (enter (perform body)) (choose arms))
 
     -- The rounds of a guarded do: its own row is entered once. A round begins by entering the first arm's row; the loop counts that step.
-    pub choiceRounds : Arms → Computation Signal
-    choiceRounds no_arm = ret next
-    choiceRounds (arm guard body arms) = loop do
-      choice ← tryArm (value C guard) (enter (perform body)) (choose arms)
-      ret (afterArms choice)
+    pub choice_rounds : Arms → Computation Signal
+    choice_rounds no_arm = ret next
+    choice_rounds (arm guard body arms) = loop do
+      choice ← try_arm (value C guard) (enter (perform body)) (choose arms)
+      ret (after_arms choice)
 
     -- The rest of a list, after an item that ended with this signal. "Its search and rows passed over count nothing."
     pub items : Items → Signal → Computation Signal
     items none signal = ret signal
     items (s then is) signal = do
-      after ← pick (entersStatement signal) (enter (perform s)) (ret signal)
+      after ← pick (enters_statement signal) (enter (perform s)) (ret signal)
       items is after
     items (m here is) signal = do
-      after ← pick (entersMark signal m) (enter (ret next)) (ret signal)
+      after ← pick (enters_mark signal m) (enter (ret next)) (ret signal)
       items is after
     -- "The run passes over them uncounted".
     items (define f words body is) signal = items is signal

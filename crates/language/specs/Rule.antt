@@ -7,7 +7,7 @@ pub record Rule : Type 0 where
   pub rows : List ℤ
   pub store : List ℤ
   pub budget : ℕ
-  pub comes-to : Finished
+  pub comes_to : Finished
 
 -- A row of numbers; the row of a constant; the row of a case and the item behind it.
 abbrev pub row : ℕ → ℕ → ℕ → ℕ → ℕ → ℕ → List ℤ

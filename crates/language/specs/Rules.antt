@@ -3,177 +3,177 @@
 -- and so are those with declarations, in DeclarationRules, where names stand as store words.
 use Rattle.std.specs.Prelude.{List, [], ◌∷◌, ◌++◌}
 use Rattle.language.specs.Rule.{Rule}
-use Rattle.language.specs.StarredRules.{or-is-truth, and-stops, right-first, compound-reads-last, division, remainder, largest-sum, sum-overflows, index-last, index-beyond, index-negative, fall-through, default-falls, case-over-default, continue-in-do, worked-spent, worked-ends}
-use Rattle.language.specs.SurprisingOrders.{value-before-index, store-needs-its-bounds, own-increment-lost, discarded-fault, index-before-operation, value-fault-first, case-past-others, before-first-mark, continue-to-step, break-leaves-switch, least_by_minus_one, remainder-by-minus-one, remainder-of-least-but-one, remainder-of-least-by-one, remainder-assigned-by-minus-one, element-remainder-by-minus-one, earlier-stores-stay}
-use Rattle.language.specs.ArithmeticRules.{minus-value, minus-of-negative, minus-overflows, not-gives-bits, least-sum, sum-below-least, difference, difference-overflows, product, least-product, product-overflows, divisions, remainders, zero_by_zero, remainder-by-zero}
-use Rattle.language.specs.ComparisonRules.{less, greater, less-or-equal, greater-or-equal, equal, not_equal, both_negative}
-use Rattle.language.specs.ExpressionRules.{and-is-truth, and-right-false, or-stops, or-both-false, conditional-true, conditional-false, comma-left-first, assign-gives-value, second-array, second-array-length, index-assigns, compound-gives-new-value, compound-operators, compound-value-first, compound-reads-after-index, compound-overflows, prefix-gives-new-value, prefix-index-once, prefix-overflows, postfix-gives-old-value, postfix-index-once, postfix-overflows}
-use Rattle.language.specs.StatementRules.{no_items, empty-and-blocks, if-true, if-false, if-else-true, if-else-false, switch-without-match, switch-ends-by-itself, switch-without-items, switch-without-marks, break-passes-marks, default-last, negative-case, selector-once, marks-of-inner-switch, break-leaves-inner-switch, break-in-block}
-use Rattle.language.specs.LoopRules.{while-never, while-rounds, continue-in-while, break-in-while, break-leaves-inner-loop, do-once, do-rounds, break-in-do, continue-stays-in-inner-loop, continue-leaves-switch, for-without-parts, for-without-test, for-without-step, for-never, break-passes-step, continue-without-test, while-spent, for-spent}
-use Rattle.language.specs.GuardedRules.{first-true-guard, second-guard-true, false-guard-stores, no-guard-true, guarded-if-without-arms, guarded-do-without-arms, guarded-do-never, greatest-common-divisor, guarded-do-from-its-first-arm, break-through-guarded-if, break-through-guarded-do, continue-through-guarded-if, continue-through-guarded-do, break-leaves-switch-around-guards, guard-faults, guard-faults-in-a-later-round, guarded-if-fails-in-guarded-do, guarded-do-spent}
+use Rattle.language.specs.StarredRules.{or_is_truth, and_stops, right_first, compound_reads_last, division, remainder, largest_sum, sum_overflows, index_last, index_beyond, index_negative, fall_through, default_falls, case_over_default, continue_in_do, worked_spent, worked_ends}
+use Rattle.language.specs.SurprisingOrders.{value_before_index, store_needs_its_bounds, own_increment_lost, discarded_fault, index_before_operation, value_fault_first, case_past_others, before_first_mark, continue_to_step, break_leaves_switch, least_by_minus_one, remainder_by_minus_one, remainder_of_least_but_one, remainder_of_least_by_one, remainder_assigned_by_minus_one, element_remainder_by_minus_one, earlier_stores_stay}
+use Rattle.language.specs.ArithmeticRules.{minus_value, minus_of_negative, minus_overflows, not_gives_bits, least_sum, sum_below_least, difference, difference_overflows, product, least_product, product_overflows, divisions, remainders, zero_by_zero, remainder_by_zero}
+use Rattle.language.specs.ComparisonRules.{less, greater, less_or_equal, greater_or_equal, equal, not_equal, both_negative}
+use Rattle.language.specs.ExpressionRules.{and_is_truth, and_right_false, or_stops, or_both_false, conditional_true, conditional_false, comma_left_first, assign_gives_value, second_array, second_array_length, index_assigns, compound_gives_new_value, compound_operators, compound_value_first, compound_reads_after_index, compound_overflows, prefix_gives_new_value, prefix_index_once, prefix_overflows, postfix_gives_old_value, postfix_index_once, postfix_overflows}
+use Rattle.language.specs.StatementRules.{no_items, empty_and_blocks, if-true, if_false, if_else_true, if_else_false, switch_without_match, switch_ends_by_itself, switch_without_items, switch_without_marks, break_passes_marks, default_last, negative_case, selector_once, marks_of_inner_switch, break_leaves_inner_switch, break_in_block}
+use Rattle.language.specs.LoopRules.{while_never, while_rounds, continue_in_while, break_in_while, break_leaves_inner_loop, do_once, do_rounds, break_in_do, continue_stays_in_inner_loop, continue_leaves_switch, for_without_parts, for_without_test, for_without_step, for_never, break_passes_step, continue_without_test, while_spent, for_spent}
+use Rattle.language.specs.GuardedRules.{first_true_guard, second_guard_true, false_guard_stores, no_guard_true, guarded_if_without_arms, guarded_do_without_arms, guarded_do_never, greatest_common_divisor, guarded_do_from_its_first_arm, break_through_guarded_if, break_through_guarded_do, continue_through_guarded_if, continue_through_guarded_do, break_leaves_switch_around_guards, guard_faults, guard_faults_in_a_later_round, guarded_if_fails_in_guarded_do, guarded_do_spent}
 
-abbrev pub starredRules : List Rule
-starredRules =
-    or-is-truth ∷
-    and-stops ∷
-    right-first ∷
-    compound-reads-last ∷
+abbrev pub starred_rules : List Rule
+starred_rules =
+    or_is_truth ∷
+    and_stops ∷
+    right_first ∷
+    compound_reads_last ∷
     division ∷
     remainder ∷
-    largest-sum ∷
-    sum-overflows ∷
-    index-last ∷
-    index-beyond ∷
-    index-negative ∷
-    fall-through ∷
-    default-falls ∷
-    case-over-default ∷
-    continue-in-do ∷
-    worked-spent ∷
-    worked-ends ∷
+    largest_sum ∷
+    sum_overflows ∷
+    index_last ∷
+    index_beyond ∷
+    index_negative ∷
+    fall_through ∷
+    default_falls ∷
+    case_over_default ∷
+    continue_in_do ∷
+    worked_spent ∷
+    worked_ends ∷
     []
 
-abbrev pub surprisingOrders : List Rule
-surprisingOrders =
-    value-before-index ∷
-    store-needs-its-bounds ∷
-    own-increment-lost ∷
-    discarded-fault ∷
-    index-before-operation ∷
-    value-fault-first ∷
-    case-past-others ∷
-    before-first-mark ∷
-    continue-to-step ∷
-    break-leaves-switch ∷
+abbrev pub surprising_orders : List Rule
+surprising_orders =
+    value_before_index ∷
+    store_needs_its_bounds ∷
+    own_increment_lost ∷
+    discarded_fault ∷
+    index_before_operation ∷
+    value_fault_first ∷
+    case_past_others ∷
+    before_first_mark ∷
+    continue_to_step ∷
+    break_leaves_switch ∷
     least_by_minus_one ∷
-    remainder-by-minus-one ∷
-    remainder-of-least-but-one ∷
-    remainder-of-least-by-one ∷
-    remainder-assigned-by-minus-one ∷
-    element-remainder-by-minus-one ∷
-    earlier-stores-stay ∷
+    remainder_by_minus_one ∷
+    remainder_of_least_but_one ∷
+    remainder_of_least_by_one ∷
+    remainder_assigned_by_minus_one ∷
+    element_remainder_by_minus_one ∷
+    earlier_stores_stay ∷
     []
 
-abbrev pub arithmeticRules : List Rule
-arithmeticRules =
-    minus-value ∷
-    minus-of-negative ∷
-    minus-overflows ∷
-    not-gives-bits ∷
-    least-sum ∷
-    sum-below-least ∷
+abbrev pub arithmetic_rules : List Rule
+arithmetic_rules =
+    minus_value ∷
+    minus_of_negative ∷
+    minus_overflows ∷
+    not_gives_bits ∷
+    least_sum ∷
+    sum_below_least ∷
     difference ∷
-    difference-overflows ∷
+    difference_overflows ∷
     product ∷
-    least-product ∷
-    product-overflows ∷
+    least_product ∷
+    product_overflows ∷
     divisions ∷
     remainders ∷
     zero_by_zero ∷
-    remainder-by-zero ∷
+    remainder_by_zero ∷
     []
 
-abbrev pub comparisonRules : List Rule
-comparisonRules =
+abbrev pub comparison_rules : List Rule
+comparison_rules =
     less ∷
     greater ∷
-    less-or-equal ∷
-    greater-or-equal ∷
+    less_or_equal ∷
+    greater_or_equal ∷
     equal ∷
     not_equal ∷
     both_negative ∷
     []
 
-abbrev pub expressionRules : List Rule
-expressionRules =
-    and-is-truth ∷
-    and-right-false ∷
-    or-stops ∷
-    or-both-false ∷
-    conditional-true ∷
-    conditional-false ∷
-    comma-left-first ∷
-    assign-gives-value ∷
-    second-array ∷
-    second-array-length ∷
-    index-assigns ∷
-    compound-gives-new-value ∷
-    compound-operators ∷
-    compound-value-first ∷
-    compound-reads-after-index ∷
-    compound-overflows ∷
-    prefix-gives-new-value ∷
-    prefix-index-once ∷
-    prefix-overflows ∷
-    postfix-gives-old-value ∷
-    postfix-index-once ∷
-    postfix-overflows ∷
+abbrev pub expression_rules : List Rule
+expression_rules =
+    and_is_truth ∷
+    and_right_false ∷
+    or_stops ∷
+    or_both_false ∷
+    conditional_true ∷
+    conditional_false ∷
+    comma_left_first ∷
+    assign_gives_value ∷
+    second_array ∷
+    second_array_length ∷
+    index_assigns ∷
+    compound_gives_new_value ∷
+    compound_operators ∷
+    compound_value_first ∷
+    compound_reads_after_index ∷
+    compound_overflows ∷
+    prefix_gives_new_value ∷
+    prefix_index_once ∷
+    prefix_overflows ∷
+    postfix_gives_old_value ∷
+    postfix_index_once ∷
+    postfix_overflows ∷
     []
 
-abbrev pub statementRules : List Rule
-statementRules =
+abbrev pub statement_rules : List Rule
+statement_rules =
     no_items ∷
-    empty-and-blocks ∷
+    empty_and_blocks ∷
     if-true ∷
-    if-false ∷
-    if-else-true ∷
-    if-else-false ∷
-    switch-without-match ∷
-    switch-ends-by-itself ∷
-    switch-without-items ∷
-    switch-without-marks ∷
-    break-passes-marks ∷
-    default-last ∷
-    negative-case ∷
-    selector-once ∷
-    marks-of-inner-switch ∷
-    break-leaves-inner-switch ∷
-    break-in-block ∷
+    if_false ∷
+    if_else_true ∷
+    if_else_false ∷
+    switch_without_match ∷
+    switch_ends_by_itself ∷
+    switch_without_items ∷
+    switch_without_marks ∷
+    break_passes_marks ∷
+    default_last ∷
+    negative_case ∷
+    selector_once ∷
+    marks_of_inner_switch ∷
+    break_leaves_inner_switch ∷
+    break_in_block ∷
     []
 
-abbrev pub loopRules : List Rule
-loopRules =
-    while-never ∷
-    while-rounds ∷
-    continue-in-while ∷
-    break-in-while ∷
-    break-leaves-inner-loop ∷
-    do-once ∷
-    do-rounds ∷
-    break-in-do ∷
-    continue-stays-in-inner-loop ∷
-    continue-leaves-switch ∷
-    for-without-parts ∷
-    for-without-test ∷
-    for-without-step ∷
-    for-never ∷
-    break-passes-step ∷
-    continue-without-test ∷
-    while-spent ∷
-    for-spent ∷
+abbrev pub loop_rules : List Rule
+loop_rules =
+    while_never ∷
+    while_rounds ∷
+    continue_in_while ∷
+    break_in_while ∷
+    break_leaves_inner_loop ∷
+    do_once ∷
+    do_rounds ∷
+    break_in_do ∷
+    continue_stays_in_inner_loop ∷
+    continue_leaves_switch ∷
+    for_without_parts ∷
+    for_without_test ∷
+    for_without_step ∷
+    for_never ∷
+    break_passes_step ∷
+    continue_without_test ∷
+    while_spent ∷
+    for_spent ∷
     []
 
-abbrev pub guardedRules : List Rule
-guardedRules =
-    first-true-guard ∷
-    second-guard-true ∷
-    false-guard-stores ∷
-    no-guard-true ∷
-    guarded-if-without-arms ∷
-    guarded-do-without-arms ∷
-    guarded-do-never ∷
-    greatest-common-divisor ∷
-    guarded-do-from-its-first-arm ∷
-    break-through-guarded-if ∷
-    break-through-guarded-do ∷
-    continue-through-guarded-if ∷
-    continue-through-guarded-do ∷
-    break-leaves-switch-around-guards ∷
-    guard-faults ∷
-    guard-faults-in-a-later-round ∷
-    guarded-if-fails-in-guarded-do ∷
-    guarded-do-spent ∷
+abbrev pub guarded_rules : List Rule
+guarded_rules =
+    first_true_guard ∷
+    second_guard_true ∷
+    false_guard_stores ∷
+    no_guard_true ∷
+    guarded_if_without_arms ∷
+    guarded_do_without_arms ∷
+    guarded_do_never ∷
+    greatest_common_divisor ∷
+    guarded_do_from_its_first_arm ∷
+    break_through_guarded_if ∷
+    break_through_guarded_do ∷
+    continue_through_guarded_if ∷
+    continue_through_guarded_do ∷
+    break_leaves_switch_around_guards ∷
+    guard_faults ∷
+    guard_faults_in_a_later_round ∷
+    guarded_if_fails_in_guarded_do ∷
+    guarded_do_spent ∷
     []
 
 abbrev pub table : List Rule
-table = starredRules ++ (surprisingOrders ++ (arithmeticRules ++ (comparisonRules ++ (expressionRules ++ (statementRules ++ (loopRules ++ guardedRules))))))
+table = starred_rules ++ (surprising_orders ++ (arithmetic_rules ++ (comparison_rules ++ (expression_rules ++ (statement_rules ++ (loop_rules ++ guarded_rules))))))

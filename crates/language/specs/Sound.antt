@@ -2,27 +2,27 @@
 -- store: each field holds what the row's role says. Both checks give it. What a run asks of functions and calls is said apart, by the crates
 -- that run and translate them.
 use Rattle.std.specs.Prelude.{◌≡◌, true, List, ℕ, ◌<◌, ◌≤◌, ℤ, length}
-use Rattle.words.specs.Table.{rowCount, Whole, number_at}
-use Rattle.words.specs.Kinds.{kind_at, unused, variable, array, declaredNumber, place, optionalArm, isLink, isRequired, isPlaceKind}
-use Rattle.words.specs.Layout.{Layout, storeSize}
+use Rattle.words.specs.Table.{row_count, Whole, number_at}
+use Rattle.words.specs.Kinds.{kind_at, unused, variable, array, declared_number, place, optional_arm, is_link, is_required, is_place_kind}
+use Rattle.words.specs.Layout.{Layout, store_size}
 use Rattle.words.specs.declared.Kind.TheVariants.{OfStatement, OfMember, Other}
 use Rattle.words.specs.declared.StatementKind.TheVariants.{Block}
 use Rattle.words.specs.declared.MemberKind.TheVariants.{Arm}
-use Rattle.words_roles.specs.Roles.{roleSort}
+use Rattle.words_roles.specs.Roles.{role_sort}
 
 -- `rows` is the table, L the layout, `words` the number of words in the store.
 module _ (rows : List ℤ) (L : Layout) (words : ℕ) where
   -- The field of the row links a later row of the table.
   pub record Link (row field : ℕ) : Type 0 where
     pub later : row < number_at rows row field
-    pub inside : number_at rows row field < rowCount rows
+    pub inside : number_at rows row field < row_count rows
 
   -- The same, or the field is 0.
   abbrev pub OptionalLink : ℕ → ℕ → Type 0
   OptionalLink row field = 0 < number_at rows row field → Link row field
 
   abbrev pub PlaceLink : ℕ → ℕ → Type 0
-  PlaceLink row field = Link row field × (isPlaceKind (kind_at rows (number_at rows row field)) ≡ true)
+  PlaceLink row field = Link row field × (is_place_kind (kind_at rows (number_at rows row field)) ≡ true)
 
   -- The field links an arm, or is 0.
   abbrev pub ArmLink : ℕ → ℕ → Type 0
@@ -30,19 +30,19 @@ module _ (rows : List ℤ) (L : Layout) (words : ℕ) where
 
   -- What a field holds, by its sort.
   pub record SoundField (row field sort : ℕ) : Type 0 where
-    pub unused-zero : sort ≡ unused → number_at rows row field ≡ 0
+    pub unused_zero : sort ≡ unused → number_at rows row field ≡ 0
     pub names-word : sort ≡ variable → number_at rows row field < words
-    pub declares-word : sort ≡ declaredNumber → number_at rows row field < words
+    pub declares-word : sort ≡ declared_number → number_at rows row field < words
     pub names-array : sort ≡ array → number_at rows row field < length L.lengths
-    pub present : isRequired sort ≡ true → 0 < number_at rows row field
-    pub forward : isLink sort ≡ true → OptionalLink row field
-    pub at_place : sort ≡ place → isPlaceKind (kind_at rows (number_at rows row field)) ≡ true
-    pub at-arm : sort ≡ optionalArm → 0 < number_at rows row field → kind_at rows (number_at rows row field) ≡ OfMember Arm
+    pub present : is_required sort ≡ true → 0 < number_at rows row field
+    pub forward : is_link sort ≡ true → OptionalLink row field
+    pub at_place : sort ≡ place → is_place_kind (kind_at rows (number_at rows row field)) ≡ true
+    pub at-arm : sort ≡ optional_arm → 0 < number_at rows row field → kind_at rows (number_at rows row field) ≡ OfMember Arm
 
   pub record Sound : Type 0 where
     pub whole : Whole rows
-    pub some-rows : 0 < rowCount rows
+    pub some_rows : 0 < row_count rows
     pub root : kind_at rows 0 ≡ OfStatement Block
-    pub known : (row : ℕ) → row < rowCount rows → kind_at rows row ≡ Other → ⊥
-    pub fields : (row : ℕ) → row < rowCount rows → (field : ℕ) → 1 ≤ field → field < 6 → SoundField row field (roleSort rows row field)
-    pub store-fits : storeSize L ≤ words
+    pub known : (row : ℕ) → row < row_count rows → kind_at rows row ≡ Other → ⊥
+    pub fields : (row : ℕ) → row < row_count rows → (field : ℕ) → 1 ≤ field → field < 6 → SoundField row field (role_sort rows row field)
+    pub store_fits : store_size L ≤ words

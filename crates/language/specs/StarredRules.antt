@@ -5,8 +5,8 @@ use Rattle.words.specs.declared.Ending.TheVariants.{Plain, Spent, Fault}
 use Rattle.language.specs.Rule.{Rule, row, constant}
 
 -- v0 = 0 || 7;
-abbrev pub or-is-truth : Rule
-or-is-truth = record {
+abbrev pub or_is_truth : Rule
+or_is_truth = record {
   header = pos 1 ∷ [];
   rows = row 42 1 0 0 0 0
       ++ row 41 2 0 0 0 0
@@ -17,12 +17,12 @@ or-is-truth = record {
       ++ constant (pos 7);
   store = pos 0 ∷ [];
   budget = 100;
-  comes-to = record { ending = Plain; count = 7; store = pos 1 ∷ [] };
+  comes_to = record { ending = Plain; count = 7; store = pos 1 ∷ [] };
 }
 
 -- v1 = 0 && (v0 = 1);
-abbrev pub and-stops : Rule
-and-stops = record {
+abbrev pub and_stops : Rule
+and_stops = record {
   header = pos 2 ∷ [];
   rows = row 42 1 0 0 0 0
       ++ row 41 2 0 0 0 0
@@ -35,12 +35,12 @@ and-stops = record {
       ++ constant (pos 1);
   store = pos 5 ∷ pos 8 ∷ [];
   budget = 100;
-  comes-to = record { ending = Plain; count = 6; store = pos 5 ∷ pos 0 ∷ [] };
+  comes_to = record { ending = Plain; count = 6; store = pos 5 ∷ pos 0 ∷ [] };
 }
 
 -- v1 = (v0 = 5) + v0;
-abbrev pub right-first : Rule
-right-first = record {
+abbrev pub right_first : Rule
+right_first = record {
   header = pos 2 ∷ [];
   rows = row 42 1 0 0 0 0
       ++ row 41 2 0 0 0 0
@@ -53,12 +53,12 @@ right-first = record {
       ++ row 2 0 0 0 0 0;
   store = pos 4 ∷ pos 0 ∷ [];
   budget = 100;
-  comes-to = record { ending = Plain; count = 9; store = pos 5 ∷ pos 9 ∷ [] };
+  comes_to = record { ending = Plain; count = 9; store = pos 5 ∷ pos 9 ∷ [] };
 }
 
 -- v0 += (v0 = 3);
-abbrev pub compound-reads-last : Rule
-compound-reads-last = record {
+abbrev pub compound_reads_last : Rule
+compound_reads_last = record {
   header = pos 1 ∷ [];
   rows = row 42 1 0 0 0 0
       ++ row 41 2 0 0 0 0
@@ -69,7 +69,7 @@ compound-reads-last = record {
       ++ constant (pos 3);
   store = pos 1 ∷ [];
   budget = 100;
-  comes-to = record { ending = Plain; count = 7; store = pos 6 ∷ [] };
+  comes_to = record { ending = Plain; count = 7; store = pos 6 ∷ [] };
 }
 
 -- v0 = -7 / 2;
@@ -85,7 +85,7 @@ division = record {
       ++ constant (pos 2);
   store = pos 0 ∷ [];
   budget = 100;
-  comes-to = record { ending = Plain; count = 7; store = negsuc 2 ∷ [] };
+  comes_to = record { ending = Plain; count = 7; store = negsuc 2 ∷ [] };
 }
 
 -- v0 = -7 % 2;
@@ -101,12 +101,12 @@ remainder = record {
       ++ constant (pos 2);
   store = pos 0 ∷ [];
   budget = 100;
-  comes-to = record { ending = Plain; count = 7; store = negsuc 0 ∷ [] };
+  comes_to = record { ending = Plain; count = 7; store = negsuc 0 ∷ [] };
 }
 
 -- v0 = 2147483646 + 1;
-abbrev pub largest-sum : Rule
-largest-sum = record {
+abbrev pub largest_sum : Rule
+largest_sum = record {
   header = pos 1 ∷ [];
   rows = row 42 1 0 0 0 0
       ++ row 41 2 0 0 0 0
@@ -117,12 +117,12 @@ largest-sum = record {
       ++ constant (pos 1);
   store = pos 0 ∷ [];
   budget = 100;
-  comes-to = record { ending = Plain; count = 7; store = pos 2147483647 ∷ [] };
+  comes_to = record { ending = Plain; count = 7; store = pos 2147483647 ∷ [] };
 }
 
 -- v0 = 2147483647 + 1;
-abbrev pub sum-overflows : Rule
-sum-overflows = record {
+abbrev pub sum_overflows : Rule
+sum_overflows = record {
   header = pos 1 ∷ [];
   rows = row 42 1 0 0 0 0
       ++ row 41 2 0 0 0 0
@@ -133,12 +133,12 @@ sum-overflows = record {
       ++ constant (pos 1);
   store = pos 5 ∷ [];
   budget = 100;
-  comes-to = record { ending = Fault Overflow; count = 6; store = pos 5 ∷ [] };
+  comes_to = record { ending = Fault Overflow; count = 6; store = pos 5 ∷ [] };
 }
 
 -- v0 = a[2];
-abbrev pub index-last : Rule
-index-last = record {
+abbrev pub index_last : Rule
+index_last = record {
   header = pos 1 ∷ pos 3 ∷ [];
   rows = row 42 1 0 0 0 0
       ++ row 41 2 0 0 0 0
@@ -148,12 +148,12 @@ index-last = record {
       ++ constant (pos 2);
   store = pos 0 ∷ pos 7 ∷ pos 8 ∷ pos 9 ∷ [];
   budget = 100;
-  comes-to = record { ending = Plain; count = 6; store = pos 9 ∷ pos 7 ∷ pos 8 ∷ pos 9 ∷ [] };
+  comes_to = record { ending = Plain; count = 6; store = pos 9 ∷ pos 7 ∷ pos 8 ∷ pos 9 ∷ [] };
 }
 
 -- v0 = a[3];
-abbrev pub index-beyond : Rule
-index-beyond = record {
+abbrev pub index_beyond : Rule
+index_beyond = record {
   header = pos 1 ∷ pos 3 ∷ [];
   rows = row 42 1 0 0 0 0
       ++ row 41 2 0 0 0 0
@@ -163,12 +163,12 @@ index-beyond = record {
       ++ constant (pos 3);
   store = pos 0 ∷ pos 7 ∷ pos 8 ∷ pos 9 ∷ [];
   budget = 100;
-  comes-to = record { ending = Fault Index; count = 5; store = pos 0 ∷ pos 7 ∷ pos 8 ∷ pos 9 ∷ [] };
+  comes_to = record { ending = Fault Index; count = 5; store = pos 0 ∷ pos 7 ∷ pos 8 ∷ pos 9 ∷ [] };
 }
 
 -- v0 = a[-1];
-abbrev pub index-negative : Rule
-index-negative = record {
+abbrev pub index_negative : Rule
+index_negative = record {
   header = pos 1 ∷ pos 3 ∷ [];
   rows = row 42 1 0 0 0 0
       ++ row 41 2 0 0 0 0
@@ -178,12 +178,12 @@ index-negative = record {
       ++ constant (negsuc 0);
   store = pos 0 ∷ pos 7 ∷ pos 8 ∷ pos 9 ∷ [];
   budget = 100;
-  comes-to = record { ending = Fault Index; count = 5; store = pos 0 ∷ pos 7 ∷ pos 8 ∷ pos 9 ∷ [] };
+  comes_to = record { ending = Fault Index; count = 5; store = pos 0 ∷ pos 7 ∷ pos 8 ∷ pos 9 ∷ [] };
 }
 
 -- switch (1) { case 1: v0 = 1; case 2: v1 = 1; default: v2 = 1; }
-abbrev pub fall-through : Rule
-fall-through = record {
+abbrev pub fall_through : Rule
+fall_through = record {
   header = pos 3 ∷ [];
   rows = row 42 1 0 0 0 0
       ++ row 47 2 3 0 0 0
@@ -205,12 +205,12 @@ fall-through = record {
       ++ constant (pos 1);
   store = pos 0 ∷ pos 0 ∷ pos 0 ∷ [];
   budget = 100;
-  comes-to = record { ending = Plain; count = 18; store = pos 1 ∷ pos 1 ∷ pos 1 ∷ [] };
+  comes_to = record { ending = Plain; count = 18; store = pos 1 ∷ pos 1 ∷ pos 1 ∷ [] };
 }
 
 -- switch (9) { default: v0 = 1; case 2: v1 = 1; }
-abbrev pub default-falls : Rule
-default-falls = record {
+abbrev pub default_falls : Rule
+default_falls = record {
   header = pos 2 ∷ [];
   rows = row 42 1 0 0 0 0
       ++ row 47 2 3 0 0 0
@@ -227,12 +227,12 @@ default-falls = record {
       ++ constant (pos 1);
   store = pos 0 ∷ pos 0 ∷ [];
   budget = 100;
-  comes-to = record { ending = Plain; count = 13; store = pos 1 ∷ pos 1 ∷ [] };
+  comes_to = record { ending = Plain; count = 13; store = pos 1 ∷ pos 1 ∷ [] };
 }
 
 -- switch (2) { default: v0 = 1; case 2: v1 = 1; }
-abbrev pub case-over-default : Rule
-case-over-default = record {
+abbrev pub case_over_default : Rule
+case_over_default = record {
   header = pos 2 ∷ [];
   rows = row 42 1 0 0 0 0
       ++ row 47 2 3 0 0 0
@@ -249,12 +249,12 @@ case-over-default = record {
       ++ constant (pos 1);
   store = pos 0 ∷ pos 0 ∷ [];
   budget = 100;
-  comes-to = record { ending = Plain; count = 8; store = pos 0 ∷ pos 1 ∷ [] };
+  comes_to = record { ending = Plain; count = 8; store = pos 0 ∷ pos 1 ∷ [] };
 }
 
 -- do { v0++; continue; } while (v0 < 3);
-abbrev pub continue-in-do : Rule
-continue-in-do = record {
+abbrev pub continue_in_do : Rule
+continue_in_do = record {
   header = pos 1 ∷ [];
   rows = row 42 1 0 0 0 0
       ++ row 45 2 7 0 0 0
@@ -268,13 +268,13 @@ continue-in-do = record {
       ++ constant (pos 3);
   store = pos 0 ∷ [];
   budget = 100;
-  comes-to = record { ending = Plain; count = 26; store = pos 3 ∷ [] };
+  comes_to = record { ending = Plain; count = 26; store = pos 3 ∷ [] };
 }
 
 -- Document 01's worked example with budget 12, one step too few.
 -- v0 = 2; a[v0 -= 1] = v0++;
-abbrev pub worked-spent : Rule
-worked-spent = record {
+abbrev pub worked_spent : Rule
+worked_spent = record {
   header = pos 1 ∷ pos 3 ∷ [];
   rows = row 42 1 0 0 0 0
       ++ row 41 2 0 0 0 5
@@ -291,13 +291,13 @@ worked-spent = record {
       ++ row 2 0 0 0 0 0;
   store = pos 0 ∷ pos 0 ∷ pos 0 ∷ pos 0 ∷ [];
   budget = 12;
-  comes-to = record { ending = Spent; count = 12; store = pos 3 ∷ pos 0 ∷ pos 0 ∷ pos 0 ∷ [] };
+  comes_to = record { ending = Spent; count = 12; store = pos 3 ∷ pos 0 ∷ pos 0 ∷ pos 0 ∷ [] };
 }
 
 -- The same with budget 13.
 -- v0 = 2; a[v0 -= 1] = v0++;
-abbrev pub worked-ends : Rule
-worked-ends = record {
+abbrev pub worked_ends : Rule
+worked_ends = record {
   header = pos 1 ∷ pos 3 ∷ [];
   rows = row 42 1 0 0 0 0
       ++ row 41 2 0 0 0 5
@@ -314,5 +314,5 @@ worked-ends = record {
       ++ row 2 0 0 0 0 0;
   store = pos 0 ∷ pos 0 ∷ pos 0 ∷ pos 0 ∷ [];
   budget = 13;
-  comes-to = record { ending = Plain; count = 13; store = pos 2 ∷ pos 0 ∷ pos 0 ∷ pos 2 ∷ [] };
+  comes_to = record { ending = Plain; count = 13; store = pos 2 ∷ pos 0 ∷ pos 0 ∷ pos 2 ∷ [] };
 }

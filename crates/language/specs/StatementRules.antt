@@ -10,12 +10,12 @@ no_items = record {
   rows = row 42 0 0 0 0 0;
   store = [];
   budget = 100;
-  comes-to = record { ending = Plain; count = 1; store = [] };
+  comes_to = record { ending = Plain; count = 1; store = [] };
 }
 
 -- ; {} { v0 = 1; }
-abbrev pub empty-and-blocks : Rule
-empty-and-blocks = record {
+abbrev pub empty_and_blocks : Rule
+empty_and_blocks = record {
   header = pos 1 ∷ [];
   rows = row 42 1 0 0 0 0
       ++ row 40 0 0 0 0 2
@@ -27,7 +27,7 @@ empty-and-blocks = record {
       ++ constant (pos 1);
   store = pos 0 ∷ [];
   budget = 100;
-  comes-to = record { ending = Plain; count = 8; store = pos 1 ∷ [] };
+  comes_to = record { ending = Plain; count = 8; store = pos 1 ∷ [] };
 }
 
 -- if (v0) v1 = 1; v2 = 1; with v0 = -2
@@ -47,12 +47,12 @@ if-true = record {
       ++ constant (pos 1);
   store = negsuc 1 ∷ pos 0 ∷ pos 0 ∷ [];
   budget = 100;
-  comes-to = record { ending = Plain; count = 11; store = negsuc 1 ∷ pos 1 ∷ pos 1 ∷ [] };
+  comes_to = record { ending = Plain; count = 11; store = negsuc 1 ∷ pos 1 ∷ pos 1 ∷ [] };
 }
 
 -- if (v0) v1 = 1; v2 = 1; with v0 = 0
-abbrev pub if-false : Rule
-if-false = record {
+abbrev pub if_false : Rule
+if_false = record {
   header = pos 3 ∷ [];
   rows = row 42 1 0 0 0 0
       ++ row 43 2 3 0 0 7
@@ -67,12 +67,12 @@ if-false = record {
       ++ constant (pos 1);
   store = pos 0 ∷ pos 0 ∷ pos 0 ∷ [];
   budget = 100;
-  comes-to = record { ending = Plain; count = 7; store = pos 0 ∷ pos 0 ∷ pos 1 ∷ [] };
+  comes_to = record { ending = Plain; count = 7; store = pos 0 ∷ pos 0 ∷ pos 1 ∷ [] };
 }
 
 -- if (v0) v1 = 1; else v2 = 1; with v0 = 2
-abbrev pub if-else-true : Rule
-if-else-true = record {
+abbrev pub if_else_true : Rule
+if_else_true = record {
   header = pos 3 ∷ [];
   rows = row 42 1 0 0 0 0
       ++ row 43 2 3 7 0 0
@@ -87,12 +87,12 @@ if-else-true = record {
       ++ constant (pos 1);
   store = pos 2 ∷ pos 0 ∷ pos 0 ∷ [];
   budget = 100;
-  comes-to = record { ending = Plain; count = 7; store = pos 2 ∷ pos 1 ∷ pos 0 ∷ [] };
+  comes_to = record { ending = Plain; count = 7; store = pos 2 ∷ pos 1 ∷ pos 0 ∷ [] };
 }
 
 -- if (v0) v1 = 1; else v2 = 1; with v0 = 0
-abbrev pub if-else-false : Rule
-if-else-false = record {
+abbrev pub if_else_false : Rule
+if_else_false = record {
   header = pos 3 ∷ [];
   rows = row 42 1 0 0 0 0
       ++ row 43 2 3 7 0 0
@@ -107,12 +107,12 @@ if-else-false = record {
       ++ constant (pos 1);
   store = pos 0 ∷ pos 0 ∷ pos 0 ∷ [];
   budget = 100;
-  comes-to = record { ending = Plain; count = 7; store = pos 0 ∷ pos 0 ∷ pos 1 ∷ [] };
+  comes_to = record { ending = Plain; count = 7; store = pos 0 ∷ pos 0 ∷ pos 1 ∷ [] };
 }
 
 -- switch (5) { case 1: v0 = 1; } v1 = 1;
-abbrev pub switch-without-match : Rule
-switch-without-match = record {
+abbrev pub switch_without_match : Rule
+switch_without_match = record {
   header = pos 2 ∷ [];
   rows = row 42 1 0 0 0 0
       ++ row 47 2 3 0 0 8
@@ -128,12 +128,12 @@ switch-without-match = record {
       ++ constant (pos 1);
   store = pos 0 ∷ pos 0 ∷ [];
   budget = 100;
-  comes-to = record { ending = Plain; count = 7; store = pos 0 ∷ pos 1 ∷ [] };
+  comes_to = record { ending = Plain; count = 7; store = pos 0 ∷ pos 1 ∷ [] };
 }
 
 -- switch (1) { case 1: v0 = 1; } v1 = 1;
-abbrev pub switch-ends-by-itself : Rule
-switch-ends-by-itself = record {
+abbrev pub switch_ends_by_itself : Rule
+switch_ends_by_itself = record {
   header = pos 2 ∷ [];
   rows = row 42 1 0 0 0 0
       ++ row 47 2 3 0 0 8
@@ -149,12 +149,12 @@ switch-ends-by-itself = record {
       ++ constant (pos 1);
   store = pos 0 ∷ pos 0 ∷ [];
   budget = 100;
-  comes-to = record { ending = Plain; count = 12; store = pos 1 ∷ pos 1 ∷ [] };
+  comes_to = record { ending = Plain; count = 12; store = pos 1 ∷ pos 1 ∷ [] };
 }
 
 -- switch (v0++) {}
-abbrev pub switch-without-items : Rule
-switch-without-items = record {
+abbrev pub switch_without_items : Rule
+switch_without_items = record {
   header = pos 1 ∷ [];
   rows = row 42 1 0 0 0 0
       ++ row 47 2 0 0 0 0
@@ -162,12 +162,12 @@ switch-without-items = record {
       ++ row 2 0 0 0 0 0;
   store = pos 0 ∷ [];
   budget = 100;
-  comes-to = record { ending = Plain; count = 4; store = pos 1 ∷ [] };
+  comes_to = record { ending = Plain; count = 4; store = pos 1 ∷ [] };
 }
 
 -- switch (1) { v0 = 1; }
-abbrev pub switch-without-marks : Rule
-switch-without-marks = record {
+abbrev pub switch_without_marks : Rule
+switch_without_marks = record {
   header = pos 1 ∷ [];
   rows = row 42 1 0 0 0 0
       ++ row 47 2 3 0 0 0
@@ -178,12 +178,12 @@ switch-without-marks = record {
       ++ constant (pos 1);
   store = pos 0 ∷ [];
   budget = 100;
-  comes-to = record { ending = Plain; count = 3; store = pos 0 ∷ [] };
+  comes_to = record { ending = Plain; count = 3; store = pos 0 ∷ [] };
 }
 
 -- switch (1) { case 1: v0 = 1; break; case 2: v1 = 1; default: v2 = 1; }
-abbrev pub break-passes-marks : Rule
-break-passes-marks = record {
+abbrev pub break_passes_marks : Rule
+break_passes_marks = record {
   header = pos 3 ∷ [];
   rows = row 42 1 0 0 0 0
       ++ row 47 2 3 0 0 0
@@ -206,12 +206,12 @@ break-passes-marks = record {
       ++ constant (pos 1);
   store = pos 0 ∷ pos 0 ∷ pos 0 ∷ [];
   budget = 100;
-  comes-to = record { ending = Plain; count = 9; store = pos 1 ∷ pos 0 ∷ pos 0 ∷ [] };
+  comes_to = record { ending = Plain; count = 9; store = pos 1 ∷ pos 0 ∷ pos 0 ∷ [] };
 }
 
 -- switch (9) { case 1: v0 = 1; default: v1 = 1; }
-abbrev pub default-last : Rule
-default-last = record {
+abbrev pub default_last : Rule
+default_last = record {
   header = pos 2 ∷ [];
   rows = row 42 1 0 0 0 0
       ++ row 47 2 3 0 0 0
@@ -228,12 +228,12 @@ default-last = record {
       ++ constant (pos 1);
   store = pos 0 ∷ pos 0 ∷ [];
   budget = 100;
-  comes-to = record { ending = Plain; count = 8; store = pos 0 ∷ pos 1 ∷ [] };
+  comes_to = record { ending = Plain; count = 8; store = pos 0 ∷ pos 1 ∷ [] };
 }
 
 -- switch (-1) { case 1: v0 = 1; break; case -1: v1 = 1; }
-abbrev pub negative-case : Rule
-negative-case = record {
+abbrev pub negative_case : Rule
+negative_case = record {
   header = pos 2 ∷ [];
   rows = row 42 1 0 0 0 0
       ++ row 47 2 3 0 0 0
@@ -251,12 +251,12 @@ negative-case = record {
       ++ constant (pos 1);
   store = pos 0 ∷ pos 0 ∷ [];
   budget = 100;
-  comes-to = record { ending = Plain; count = 8; store = pos 0 ∷ pos 1 ∷ [] };
+  comes_to = record { ending = Plain; count = 8; store = pos 0 ∷ pos 1 ∷ [] };
 }
 
 -- switch (v0++) { case 0: v1 = 1; case 1: v2 = 1; }
-abbrev pub selector-once : Rule
-selector-once = record {
+abbrev pub selector_once : Rule
+selector_once = record {
   header = pos 3 ∷ [];
   rows = row 42 1 0 0 0 0
       ++ row 47 2 4 0 0 0
@@ -274,12 +274,12 @@ selector-once = record {
       ++ constant (pos 1);
   store = pos 0 ∷ pos 0 ∷ pos 0 ∷ [];
   budget = 100;
-  comes-to = record { ending = Plain; count = 14; store = pos 1 ∷ pos 1 ∷ pos 1 ∷ [] };
+  comes_to = record { ending = Plain; count = 14; store = pos 1 ∷ pos 1 ∷ pos 1 ∷ [] };
 }
 
 -- switch (2) { case 1: switch (0) { case 2: v0 = 1; } default: v1 = 1; }
-abbrev pub marks-of-inner-switch : Rule
-marks-of-inner-switch = record {
+abbrev pub marks_of_inner_switch : Rule
+marks_of_inner_switch = record {
   header = pos 2 ∷ [];
   rows = row 42 1 0 0 0 0
       ++ row 47 2 3 0 0 0
@@ -299,12 +299,12 @@ marks-of-inner-switch = record {
       ++ constant (pos 1);
   store = pos 0 ∷ pos 0 ∷ [];
   budget = 100;
-  comes-to = record { ending = Plain; count = 8; store = pos 0 ∷ pos 1 ∷ [] };
+  comes_to = record { ending = Plain; count = 8; store = pos 0 ∷ pos 1 ∷ [] };
 }
 
 -- switch (1) { case 1: switch (2) { case 2: break; } v0 = 1; }
-abbrev pub break-leaves-inner-switch : Rule
-break-leaves-inner-switch = record {
+abbrev pub break_leaves_inner_switch : Rule
+break_leaves_inner_switch = record {
   header = pos 1 ∷ [];
   rows = row 42 1 0 0 0 0
       ++ row 47 2 3 0 0 0
@@ -320,12 +320,12 @@ break-leaves-inner-switch = record {
       ++ constant (pos 1);
   store = pos 0 ∷ [];
   budget = 100;
-  comes-to = record { ending = Plain; count = 12; store = pos 1 ∷ [] };
+  comes_to = record { ending = Plain; count = 12; store = pos 1 ∷ [] };
 }
 
 -- switch (1) { case 1: { break; } v0 = 1; }
-abbrev pub break-in-block : Rule
-break-in-block = record {
+abbrev pub break_in_block : Rule
+break_in_block = record {
   header = pos 1 ∷ [];
   rows = row 42 1 0 0 0 0
       ++ row 47 2 3 0 0 0
@@ -339,5 +339,5 @@ break-in-block = record {
       ++ constant (pos 1);
   store = pos 0 ∷ [];
   budget = 100;
-  comes-to = record { ending = Plain; count = 6; store = pos 0 ∷ [] };
+  comes_to = record { ending = Plain; count = 6; store = pos 0 ∷ [] };
 }

@@ -5,8 +5,8 @@ use Rattle.words.specs.declared.Ending.TheVariants.{Plain, Fault}
 use Rattle.language.specs.Rule.{Rule, row, constant}
 
 -- a[v0 = 1] = v0;
-abbrev pub value-before-index : Rule
-value-before-index = record {
+abbrev pub value_before_index : Rule
+value_before_index = record {
   header = pos 1 ∷ pos 3 ∷ [];
   rows = row 42 1 0 0 0 0
       ++ row 41 2 0 0 0 0
@@ -18,12 +18,12 @@ value-before-index = record {
       ++ row 2 0 0 0 0 0;
   store = pos 7 ∷ pos 0 ∷ pos 0 ∷ pos 0 ∷ [];
   budget = 100;
-  comes-to = record { ending = Plain; count = 8; store = pos 1 ∷ pos 0 ∷ pos 7 ∷ pos 0 ∷ [] };
+  comes_to = record { ending = Plain; count = 8; store = pos 1 ∷ pos 0 ∷ pos 7 ∷ pos 0 ∷ [] };
 }
 
 -- a[3] = 5; with a second array behind the first
-abbrev pub store-needs-its-bounds : Rule
-store-needs-its-bounds = record {
+abbrev pub store_needs_its_bounds : Rule
+store_needs_its_bounds = record {
   header = pos 1 ∷ pos 3 ∷ pos 1 ∷ [];
   rows = row 42 1 0 0 0 0
       ++ row 41 2 0 0 0 0
@@ -33,12 +33,12 @@ store-needs-its-bounds = record {
       ++ constant (pos 5);
   store = pos 0 ∷ pos 7 ∷ pos 8 ∷ pos 9 ∷ pos 4 ∷ [];
   budget = 100;
-  comes-to = record { ending = Fault Index; count = 6; store = pos 0 ∷ pos 7 ∷ pos 8 ∷ pos 9 ∷ pos 4 ∷ [] };
+  comes_to = record { ending = Fault Index; count = 6; store = pos 0 ∷ pos 7 ∷ pos 8 ∷ pos 9 ∷ pos 4 ∷ [] };
 }
 
 -- v0 = v0++;
-abbrev pub own-increment-lost : Rule
-own-increment-lost = record {
+abbrev pub own_increment_lost : Rule
+own_increment_lost = record {
   header = pos 1 ∷ [];
   rows = row 42 1 0 0 0 0
       ++ row 41 2 0 0 0 0
@@ -48,12 +48,12 @@ own-increment-lost = record {
       ++ row 2 0 0 0 0 0;
   store = pos 5 ∷ [];
   budget = 100;
-  comes-to = record { ending = Plain; count = 6; store = pos 5 ∷ [] };
+  comes_to = record { ending = Plain; count = 6; store = pos 5 ∷ [] };
 }
 
 -- 1 / 0; v0 = 1;
-abbrev pub discarded-fault : Rule
-discarded-fault = record {
+abbrev pub discarded_fault : Rule
+discarded_fault = record {
   header = pos 1 ∷ [];
   rows = row 42 1 0 0 0 0
       ++ row 41 2 0 0 0 5
@@ -66,12 +66,12 @@ discarded-fault = record {
       ++ constant (pos 1);
   store = pos 0 ∷ [];
   budget = 100;
-  comes-to = record { ending = Fault ZeroDivisor; count = 5; store = pos 0 ∷ [] };
+  comes_to = record { ending = Fault ZeroDivisor; count = 5; store = pos 0 ∷ [] };
 }
 
 -- a[9] /= 0;
-abbrev pub index-before-operation : Rule
-index-before-operation = record {
+abbrev pub index_before_operation : Rule
+index_before_operation = record {
   header = pos 1 ∷ pos 3 ∷ [];
   rows = row 42 1 0 0 0 0
       ++ row 41 2 0 0 0 0
@@ -81,12 +81,12 @@ index-before-operation = record {
       ++ constant (pos 0);
   store = pos 0 ∷ pos 0 ∷ pos 0 ∷ pos 0 ∷ [];
   budget = 100;
-  comes-to = record { ending = Fault Index; count = 6; store = pos 0 ∷ pos 0 ∷ pos 0 ∷ pos 0 ∷ [] };
+  comes_to = record { ending = Fault Index; count = 6; store = pos 0 ∷ pos 0 ∷ pos 0 ∷ pos 0 ∷ [] };
 }
 
 -- a[9] = 1 / 0;
-abbrev pub value-fault-first : Rule
-value-fault-first = record {
+abbrev pub value_fault_first : Rule
+value_fault_first = record {
   header = pos 1 ∷ pos 3 ∷ [];
   rows = row 42 1 0 0 0 0
       ++ row 41 2 0 0 0 0
@@ -98,12 +98,12 @@ value-fault-first = record {
       ++ constant (pos 0);
   store = pos 0 ∷ pos 0 ∷ pos 0 ∷ pos 0 ∷ [];
   budget = 100;
-  comes-to = record { ending = Fault ZeroDivisor; count = 6; store = pos 0 ∷ pos 0 ∷ pos 0 ∷ pos 0 ∷ [] };
+  comes_to = record { ending = Fault ZeroDivisor; count = 6; store = pos 0 ∷ pos 0 ∷ pos 0 ∷ pos 0 ∷ [] };
 }
 
 -- switch (2) { default: v0 = 1; case 1: v1 = 1; case 2: v2 = 1; }
-abbrev pub case-past-others : Rule
-case-past-others = record {
+abbrev pub case_past_others : Rule
+case_past_others = record {
   header = pos 3 ∷ [];
   rows = row 42 1 0 0 0 0
       ++ row 47 2 3 0 0 0
@@ -125,12 +125,12 @@ case-past-others = record {
       ++ constant (pos 1);
   store = pos 0 ∷ pos 0 ∷ pos 0 ∷ [];
   budget = 100;
-  comes-to = record { ending = Plain; count = 8; store = pos 0 ∷ pos 0 ∷ pos 1 ∷ [] };
+  comes_to = record { ending = Plain; count = 8; store = pos 0 ∷ pos 0 ∷ pos 1 ∷ [] };
 }
 
 -- switch (1) { v0 = 1; case 1: v1 = 1; }
-abbrev pub before-first-mark : Rule
-before-first-mark = record {
+abbrev pub before_first_mark : Rule
+before_first_mark = record {
   header = pos 2 ∷ [];
   rows = row 42 1 0 0 0 0
       ++ row 47 2 3 0 0 0
@@ -146,12 +146,12 @@ before-first-mark = record {
       ++ constant (pos 1);
   store = pos 0 ∷ pos 0 ∷ [];
   budget = 100;
-  comes-to = record { ending = Plain; count = 8; store = pos 0 ∷ pos 1 ∷ [] };
+  comes_to = record { ending = Plain; count = 8; store = pos 0 ∷ pos 1 ∷ [] };
 }
 
 -- for (v0 = 0; v0 < 3; v0++) { continue; v1 = 1; }
-abbrev pub continue-to-step : Rule
-continue-to-step = record {
+abbrev pub continue_to_step : Rule
+continue_to_step = record {
   header = pos 2 ∷ [];
   rows = row 42 1 0 0 0 0
       ++ row 46 2 5 8 10 0
@@ -171,12 +171,12 @@ continue-to-step = record {
       ++ constant (pos 1);
   store = pos 9 ∷ pos 0 ∷ [];
   budget = 200;
-  comes-to = record { ending = Plain; count = 29; store = pos 3 ∷ pos 0 ∷ [] };
+  comes_to = record { ending = Plain; count = 29; store = pos 3 ∷ pos 0 ∷ [] };
 }
 
 -- while (v0 < 3) { ++v0; switch (1) { case 1: break; } ++v1; }
-abbrev pub break-leaves-switch : Rule
-break-leaves-switch = record {
+abbrev pub break_leaves_switch : Rule
+break_leaves_switch = record {
   header = pos 2 ∷ [];
   rows = row 42 1 0 0 0 0
       ++ row 44 2 5 0 0 0
@@ -196,7 +196,7 @@ break-leaves-switch = record {
       ++ row 2 1 0 0 0 0;
   store = pos 0 ∷ pos 0 ∷ [];
   budget = 200;
-  comes-to = record { ending = Plain; count = 47; store = pos 3 ∷ pos 3 ∷ [] };
+  comes_to = record { ending = Plain; count = 47; store = pos 3 ∷ pos 3 ∷ [] };
 }
 
 -- v0 = -2147483648 / -1;
@@ -212,12 +212,12 @@ least_by_minus_one = record {
       ++ constant (negsuc 0);
   store = pos 4 ∷ [];
   budget = 100;
-  comes-to = record { ending = Fault Overflow; count = 6; store = pos 4 ∷ [] };
+  comes_to = record { ending = Fault Overflow; count = 6; store = pos 4 ∷ [] };
 }
 
 -- v0 = -2147483648 % -1;
-abbrev pub remainder-by-minus-one : Rule
-remainder-by-minus-one = record {
+abbrev pub remainder_by_minus_one : Rule
+remainder_by_minus_one = record {
   header = pos 1 ∷ [];
   rows = row 42 1 0 0 0 0
       ++ row 41 2 0 0 0 0
@@ -228,12 +228,12 @@ remainder-by-minus-one = record {
       ++ constant (negsuc 0);
   store = pos 4 ∷ [];
   budget = 100;
-  comes-to = record { ending = Fault Overflow; count = 6; store = pos 4 ∷ [] };
+  comes_to = record { ending = Fault Overflow; count = 6; store = pos 4 ∷ [] };
 }
 
 -- v0 = -2147483647 % -1;
-abbrev pub remainder-of-least-but-one : Rule
-remainder-of-least-but-one = record {
+abbrev pub remainder_of_least_but_one : Rule
+remainder_of_least_but_one = record {
   header = pos 1 ∷ [];
   rows = row 42 1 0 0 0 0
       ++ row 41 2 0 0 0 0
@@ -244,12 +244,12 @@ remainder-of-least-but-one = record {
       ++ constant (negsuc 0);
   store = pos 4 ∷ [];
   budget = 100;
-  comes-to = record { ending = Plain; count = 7; store = pos 0 ∷ [] };
+  comes_to = record { ending = Plain; count = 7; store = pos 0 ∷ [] };
 }
 
 -- v0 = -2147483648 % 1;
-abbrev pub remainder-of-least-by-one : Rule
-remainder-of-least-by-one = record {
+abbrev pub remainder_of_least_by_one : Rule
+remainder_of_least_by_one = record {
   header = pos 1 ∷ [];
   rows = row 42 1 0 0 0 0
       ++ row 41 2 0 0 0 0
@@ -260,12 +260,12 @@ remainder-of-least-by-one = record {
       ++ constant (pos 1);
   store = pos 4 ∷ [];
   budget = 100;
-  comes-to = record { ending = Plain; count = 7; store = pos 0 ∷ [] };
+  comes_to = record { ending = Plain; count = 7; store = pos 0 ∷ [] };
 }
 
 -- v0 = -2147483648: v0 %= -1;
-abbrev pub remainder-assigned-by-minus-one : Rule
-remainder-assigned-by-minus-one = record {
+abbrev pub remainder_assigned_by_minus_one : Rule
+remainder_assigned_by_minus_one = record {
   header = pos 1 ∷ [];
   rows = row 42 1 0 0 0 0
       ++ row 41 2 0 0 0 0
@@ -274,12 +274,12 @@ remainder-assigned-by-minus-one = record {
       ++ constant (negsuc 0);
   store = negsuc 2147483647 ∷ [];
   budget = 100;
-  comes-to = record { ending = Fault Overflow; count = 5; store = negsuc 2147483647 ∷ [] };
+  comes_to = record { ending = Fault Overflow; count = 5; store = negsuc 2147483647 ∷ [] };
 }
 
 -- a[0] = -2147483648: a[v0++] %= -1;
-abbrev pub element-remainder-by-minus-one : Rule
-element-remainder-by-minus-one = record {
+abbrev pub element_remainder_by_minus_one : Rule
+element_remainder_by_minus_one = record {
   header = pos 1 ∷ pos 2 ∷ [];
   rows = row 42 1 0 0 0 0
       ++ row 41 2 0 0 0 0
@@ -290,12 +290,12 @@ element-remainder-by-minus-one = record {
       ++ constant (negsuc 0);
   store = pos 0 ∷ negsuc 2147483647 ∷ pos 5 ∷ [];
   budget = 100;
-  comes-to = record { ending = Fault Overflow; count = 7; store = pos 1 ∷ negsuc 2147483647 ∷ pos 5 ∷ [] };
+  comes_to = record { ending = Fault Overflow; count = 7; store = pos 1 ∷ negsuc 2147483647 ∷ pos 5 ∷ [] };
 }
 
 -- v0 = 1; v1 = v0++ / 0;
-abbrev pub earlier-stores-stay : Rule
-earlier-stores-stay = record {
+abbrev pub earlier_stores_stay : Rule
+earlier_stores_stay = record {
   header = pos 2 ∷ [];
   rows = row 42 1 0 0 0 0
       ++ row 41 2 0 0 0 5
@@ -311,5 +311,5 @@ earlier-stores-stay = record {
       ++ constant (pos 0);
   store = pos 0 ∷ pos 5 ∷ [];
   budget = 100;
-  comes-to = record { ending = Fault ZeroDivisor; count = 11; store = pos 2 ∷ pos 5 ∷ [] };
+  comes_to = record { ending = Fault ZeroDivisor; count = 11; store = pos 2 ∷ pos 5 ∷ [] };
 }

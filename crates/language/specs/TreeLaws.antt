@@ -2,8 +2,8 @@
 use Rattle.std.specs.Prelude.{◌≡◌, refl, Bool, true, false, ◌||◌, ℕ, ◌<◌}
 use Rattle.std.proofs.Common.{ap, arith}
 use Rattle.words.specs.Laws.{or_right}
-use Rattle.language.specs.Trees.{Mark, sameMark, has, Statement, empty, express, block, ifThen, ifElse, while, doWhile, for, switch, break, continue, goto, guardedIf, guardedDo, abort, declare, giveBack, Items, none, ◌then◌, ◌here◌, define, ◌⧺◌}
-use Rattle.language.specs.Sizes.{statementRows}
+use Rattle.language.specs.Trees.{Mark, same_mark, has, Statement, empty, express, block, if_then, if_else, while, do_while, for, switch, break, continue, goto, guarded_if, guarded_do, abort, declare, give_back, Items, none, ◌then◌, ◌here◌, define, ◌⧺◌}
+use Rattle.language.specs.Sizes.{statement_rows}
 
 -- ---- one list behind another
 
@@ -25,7 +25,7 @@ append-append (define f words body xs) ys zs = ap (define f words body) (append-
 
 pub has-next : (m n : Mark) (xs : Items) → has m xs ≡ true → has m (n here xs) ≡ true
 unfolding has
-has-next m n xs e = or_right (sameMark m n) (has m xs) e
+has-next m n xs e = or_right (same_mark m n) (has m xs) e
 
 -- What the first of two lists has, and what the second has, they have one behind the other.
 pub has_left : (m : Mark) (xs ys : Items) → has m xs ≡ true → has m (xs ⧺ ys) ≡ true
@@ -33,7 +33,7 @@ unfolding has ◌⧺◌
 has_left m none ys e = absurd (let z : ◌≡◌ {A = ℕ} 0 1 = cc in omega arith)
 has_left m (s then xs) ys e = has_left m xs ys e
 has_left m (define f words body xs) ys e = has_left m xs ys e
-has_left m (n here xs) ys e = go (sameMark m n) e (has_left m xs ys)
+has_left m (n here xs) ys e = go (same_mark m n) e (has_left m xs ys)
   where
     go : (b : Bool) → (b || has m xs) ≡ true → (has m xs ≡ true → has m (xs ⧺ ys) ≡ true) → (b || has m (xs ⧺ ys)) ≡ true
     go true e r = refl
@@ -49,22 +49,22 @@ has_right m (define f words body xs) ys e = has_right m xs ys e
 -- ---- rows
 
 -- Every statement has a row.
-pub statement-some : (s : Statement) → 0 < statementRows s
-unfolding statementRows
+pub statement-some : (s : Statement) → 0 < statement_rows s
+unfolding statement_rows
 statement-some empty = omega arith
 statement-some (express e) = omega arith
 statement-some (block is) = omega arith
-statement-some (ifThen e onTrue) = omega arith
-statement-some (ifElse e onTrue onFalse) = omega arith
+statement-some (if_then e on_true) = omega arith
+statement-some (if_else e on_true on_false) = omega arith
 statement-some (while e body) = omega arith
-statement-some (doWhile body e) = omega arith
+statement-some (do_while body e) = omega arith
 statement-some (for first test action body) = omega arith
 statement-some (switch e is) = omega arith
 statement-some break = omega arith
 statement-some continue = omega arith
 statement-some (goto l) = omega arith
-statement-some (guardedIf arms) = omega arith
-statement-some (guardedDo arms) = omega arith
+statement-some (guarded_if arms) = omega arith
+statement-some (guarded_do arms) = omega arith
 statement-some abort = omega arith
 statement-some (declare word e) = omega arith
-statement-some (giveBack value) = omega arith
+statement-some (give_back value) = omega arith

@@ -1,7 +1,7 @@
 -- Trees: expressions, places, arguments, statements, arms, items. One language of trees for source and kernel, as document 01 has one table of
 -- kinds and one section on how a run goes. Kinds that differ in an operator are one constructor.
 use Rattle.std.specs.Prelude.{Bool, true, false, ◌||◌, List, ℕ, eqb, ℤ}
-use Rattle.words.specs.Word.{sameWord}
+use Rattle.words.specs.Word.{same_word}
 use Rattle.words.specs.declared.Operator.{Operator}
 
 mutual
@@ -45,18 +45,18 @@ mutual
     empty : Statement
     express : Expression → Statement
     block : Items → Statement
-    ifThen : Expression → Statement → Statement
-    ifElse : Expression → Statement → Statement → Statement
+    if_then : Expression → Statement → Statement
+    if_else : Expression → Statement → Statement → Statement
     while : Expression → Statement → Statement
-    doWhile : Statement → Expression → Statement
+    do_while : Statement → Expression → Statement
     for : Part → Part → Part → Statement → Statement
     switch : Expression → Items → Statement
     break continue : Statement
     goto : ℕ → Statement
-    guardedIf guardedDo : Arms → Statement
+    guarded_if guarded_do : Arms → Statement
     abort : Statement
     declare : ℕ → Expression → Statement
-    giveBack : Part → Statement
+    give_back : Part → Statement
 
   -- Kind 56, and "next the next arm": a guard and a block each.
   pub data Arms : Type 0 where
@@ -79,20 +79,20 @@ none ⧺ ys = ys
 (m here xs) ⧺ ys = m here (xs ⧺ ys)
 define f words body xs ⧺ ys = define f words body (xs ⧺ ys)
 
-unfoldable pub sameMark : Mark → Mark → Bool
-sameMark (case v) (case w) = sameWord v w
-sameMark (case v) default = false
-sameMark (case v) (label l) = false
-sameMark default (case w) = false
-sameMark default default = true
-sameMark default (label l) = false
-sameMark (label l) (case w) = false
-sameMark (label l) default = false
-sameMark (label l) (label k) = eqb l k
+unfoldable pub same_mark : Mark → Mark → Bool
+same_mark (case v) (case w) = same_word v w
+same_mark (case v) default = false
+same_mark (case v) (label l) = false
+same_mark default (case w) = false
+same_mark default default = true
+same_mark default (label l) = false
+same_mark (label l) (case w) = false
+same_mark (label l) default = false
+same_mark (label l) (label k) = eqb l k
 
 -- Whether a list has a mark among its own items.
 unfoldable pub has : Mark → Items → Bool
 has m none = false
 has m (s then is) = has m is
-has m (n here is) = sameMark m n || has m is
+has m (n here is) = same_mark m n || has m is
 has m (define f words body is) = has m is

@@ -1,8 +1,8 @@
 -- Well-formed trees: numbers in range; break, continue, case, default and return in place; calls in order. What the check gives of an accepted program, and
 -- what the translation asks.
 use Rattle.std.specs.Prelude.{◌≡◌, Bool, true, false, List, [], ◌∷◌, ◌⊎◌, ℕ, ◌<◌, ◌≤◌, length}
-use Rattle.words.specs.Layout.{Layout, storeSize}
-use Rattle.language.specs.Trees.{Expression, constant, read, minus, not, binary, and, or, comma, conditional, assign, compound, prefix, postfix, call, Place, variable, element, Arguments, no_more, ◌also◌, Part, absent, present, Mark, case, default, label, Statement, empty, express, block, ifThen, ifElse, while, doWhile, for, switch, break, continue, goto, guardedIf, guardedDo, abort, declare, giveBack, Arms, no_arm, arm, Items, none, ◌then◌, ◌here◌, define}
+use Rattle.words.specs.Layout.{Layout, store_size}
+use Rattle.language.specs.Trees.{Expression, constant, read, minus, not, binary, and, or, comma, conditional, assign, compound, prefix, postfix, call, Place, variable, element, Arguments, no_more, ◌also◌, Part, absent, present, Mark, case, default, label, Statement, empty, express, block, if_then, if_else, while, do_while, for, switch, break, continue, goto, guarded_if, guarded_do, abort, declare, give_back, Arms, no_arm, arm, Items, none, ◌then◌, ◌here◌, define}
 use Rattle.language.specs.Calls.{CallsInOrder}
 
 -- Every variable that a tree names satisfies Names, and every array is below `arrays`.
@@ -46,20 +46,20 @@ module _ (Names : ℕ → Type 0) (arrays : ℕ) where
     NamedStatement empty = Unit {0}
     NamedStatement (express e) = NamedExpression e
     NamedStatement (block is) = NamedItems is
-    NamedStatement (ifThen e onTrue) = NamedExpression e × NamedStatement onTrue
-    NamedStatement (ifElse e onTrue onFalse) = NamedExpression e × NamedStatement onTrue × NamedStatement onFalse
+    NamedStatement (if_then e on_true) = NamedExpression e × NamedStatement on_true
+    NamedStatement (if_else e on_true on_false) = NamedExpression e × NamedStatement on_true × NamedStatement on_false
     NamedStatement (while e body) = NamedExpression e × NamedStatement body
-    NamedStatement (doWhile body e) = NamedStatement body × NamedExpression e
+    NamedStatement (do_while body e) = NamedStatement body × NamedExpression e
     NamedStatement (for first test action body) = NamedPart first × NamedPart test × NamedPart action × NamedStatement body
     NamedStatement (switch e is) = NamedExpression e × NamedItems is
     NamedStatement break = Unit {0}
     NamedStatement continue = Unit {0}
     NamedStatement (goto l) = Unit {0}
-    NamedStatement (guardedIf arms) = NamedArms arms
-    NamedStatement (guardedDo arms) = NamedArms arms
+    NamedStatement (guarded_if arms) = NamedArms arms
+    NamedStatement (guarded_do arms) = NamedArms arms
     NamedStatement abort = Unit {0}
     NamedStatement (declare word e) = Names word × NamedExpression e
-    NamedStatement (giveBack value) = NamedPart value
+    NamedStatement (give_back value) = NamedPart value
 
     pub NamedArms : Arms → Type 0
     NamedArms no_arm = Unit {0}
@@ -72,10 +72,10 @@ module _ (Names : ℕ → Type 0) (arrays : ℕ) where
     NamedItems (define f words body is) = NamedWords words × NamedItems body × NamedItems is
 
 -- Whether a case or default may stand in a list. A label may not stand in a source program.
-abbrev pub markAllowed : Bool → Mark → Bool
-markAllowed inSwitch (case v) = inSwitch
-markAllowed inSwitch default = inSwitch
-markAllowed inSwitch (label l) = false
+abbrev pub mark_allowed : Bool → Mark → Bool
+mark_allowed inSwitch (case v) = inSwitch
+mark_allowed inSwitch default = inSwitch
+mark_allowed inSwitch (label l) = false
 
 -- "A case or default is an item of a switch's own list. Break stands inside a loop or switch, continue inside a loop." A return stands inside a
 -- function. No goto and no abort: the source has none. `mayReturn`, `mayBreak` and `mayContinue` say what stands around the tree. Definitions
@@ -86,20 +86,20 @@ module _ (mayReturn : Bool) where
     Placed mayBreak mayContinue empty = Unit {0}
     Placed mayBreak mayContinue (express e) = Unit {0}
     Placed mayBreak mayContinue (block is) = PlacedItems false mayBreak mayContinue is
-    Placed mayBreak mayContinue (ifThen e onTrue) = Placed mayBreak mayContinue onTrue
-    Placed mayBreak mayContinue (ifElse e onTrue onFalse) = Placed mayBreak mayContinue onTrue × Placed mayBreak mayContinue onFalse
+    Placed mayBreak mayContinue (if_then e on_true) = Placed mayBreak mayContinue on_true
+    Placed mayBreak mayContinue (if_else e on_true on_false) = Placed mayBreak mayContinue on_true × Placed mayBreak mayContinue on_false
     Placed mayBreak mayContinue (while e body) = Placed true true body
-    Placed mayBreak mayContinue (doWhile body e) = Placed true true body
+    Placed mayBreak mayContinue (do_while body e) = Placed true true body
     Placed mayBreak mayContinue (for first test action body) = Placed true true body
     Placed mayBreak mayContinue (switch e is) = PlacedItems true true mayContinue is
     Placed mayBreak mayContinue break = mayBreak ≡ true
     Placed mayBreak mayContinue continue = mayContinue ≡ true
     Placed mayBreak mayContinue (goto l) = ⊥
-    Placed mayBreak mayContinue (guardedIf arms) = PlacedArms mayBreak mayContinue arms
-    Placed mayBreak mayContinue (guardedDo arms) = PlacedArms mayBreak mayContinue arms
+    Placed mayBreak mayContinue (guarded_if arms) = PlacedArms mayBreak mayContinue arms
+    Placed mayBreak mayContinue (guarded_do arms) = PlacedArms mayBreak mayContinue arms
     Placed mayBreak mayContinue abort = ⊥
     Placed mayBreak mayContinue (declare word e) = Unit {0}
-    Placed mayBreak mayContinue (giveBack value) = mayReturn ≡ true
+    Placed mayBreak mayContinue (give_back value) = mayReturn ≡ true
 
     -- "Neither form counts as a loop for break and continue."
     pub PlacedArms : Bool → Bool → Arms → Type 0
@@ -110,7 +110,7 @@ module _ (mayReturn : Bool) where
     pub PlacedItems : Bool → Bool → Bool → Items → Type 0
     PlacedItems inSwitch mayBreak mayContinue none = Unit {0}
     PlacedItems inSwitch mayBreak mayContinue (s then is) = Placed mayBreak mayContinue s × PlacedItems inSwitch mayBreak mayContinue is
-    PlacedItems inSwitch mayBreak mayContinue (m here is) = (markAllowed inSwitch m ≡ true) × PlacedItems inSwitch mayBreak mayContinue is
+    PlacedItems inSwitch mayBreak mayContinue (m here is) = (mark_allowed inSwitch m ≡ true) × PlacedItems inSwitch mayBreak mayContinue is
     PlacedItems inSwitch mayBreak mayContinue (define f words body is) = ⊥
 
 -- "Definitions come first in row 0's list": the items of a program, those of each function's block apart.
@@ -123,7 +123,7 @@ PlacedProgram (define f words body is) = PlacedItems true false false false body
 -- The word that a source program names: a variable's or a declaration's, none of an array. `first` is where the temporaries begin.
 pub record SourceName (L : Layout) (first i : ℕ) : Type 0 where
   pub inside : i < first
-  pub apart : (i < L.variables) ⊎ (storeSize L ≤ i)
+  pub apart : (i < L.variables) ⊎ (store_size L ≤ i)
 
 -- The items of a source program: their numbers in range, their jumps in place, their calls in order.
 pub record SourceTree (L : Layout) (first : ℕ) (program : Items) : Type 0 where

@@ -8,43 +8,43 @@ use Rattle.language.specs.Trees.{Expression, constant, read, minus, not, binary,
 
 -- Kinds 21 to 30, each with its place.
 pub data Stores (p : Place) : Expression → Type 0 where
-  by-assign : {e : Expression} → Stores p (assign p e)
-  by-compound : {operator : Operator} {e : Expression} → Stores p (compound operator p e)
-  by-prefix : {operator : Operator} → Stores p (prefix operator p)
-  by-postfix : {operator : Operator} → Stores p (postfix operator p)
+  by_assign : {e : Expression} → Stores p (assign p e)
+  by_compound : {operator : Operator} {e : Expression} → Stores p (compound operator p e)
+  by_prefix : {operator : Operator} → Stores p (prefix operator p)
+  by_postfix : {operator : Operator} → Stores p (postfix operator p)
 
 -- The index of a place.
 pub data Index (d : Expression) : Place → Type 0 where
-  of-element : {array : ℕ} → Index d (element array d)
+  of_element : {array : ℕ} → Index d (element array d)
 
 -- One of the arguments of a call.
 pub data Argument (d : Expression) : Arguments → Type 0 where
-  first-argument : {arguments : Arguments} → Argument d (d also arguments)
-  later-argument : {e : Expression} {arguments : Arguments} → Argument d arguments → Argument d (e also arguments)
+  first_argument : {arguments : Arguments} → Argument d (d also arguments)
+  later_argument : {e : Expression} {arguments : Arguments} → Argument d arguments → Argument d (e also arguments)
 
 -- The expressions that hang at an expression's links, or at those of its place or of its arguments.
 pub data Operand (d : Expression) : Expression → Type 0 where
-  of-read : {p : Place} → Index d p → Operand d (read p)
-  of-minus : Operand d (minus d)
-  of-not : Operand d (not d)
-  left-of-binary : {operator : Operator} {b : Expression} → Operand d (binary operator d b)
-  right-of-binary : {operator : Operator} {a : Expression} → Operand d (binary operator a d)
-  left-of-and : {b : Expression} → Operand d (and d b)
-  right-of-and : {a : Expression} → Operand d (and a d)
-  left-of-or : {b : Expression} → Operand d (or d b)
-  right-of-or : {a : Expression} → Operand d (or a d)
-  left-of-comma : {b : Expression} → Operand d (comma d b)
-  right-of-comma : {a : Expression} → Operand d (comma a d)
-  test-of-conditional : {a b : Expression} → Operand d (conditional d a b)
-  yes-of-conditional : {c b : Expression} → Operand d (conditional c d b)
-  no-of-conditional : {c a : Expression} → Operand d (conditional c a d)
-  index-of-assign : {p : Place} {e : Expression} → Index d p → Operand d (assign p e)
-  value-of-assign : {p : Place} → Operand d (assign p d)
-  index-of-compound : {operator : Operator} {p : Place} {e : Expression} → Index d p → Operand d (compound operator p e)
-  value-of-compound : {operator : Operator} {p : Place} → Operand d (compound operator p d)
-  index-of-prefix : {operator : Operator} {p : Place} → Index d p → Operand d (prefix operator p)
-  index-of-postfix : {operator : Operator} {p : Place} → Index d p → Operand d (postfix operator p)
-  argument-of-call : {f : ℕ} {arguments : Arguments} → Argument d arguments → Operand d (call f arguments)
+  of_read : {p : Place} → Index d p → Operand d (read p)
+  of_minus : Operand d (minus d)
+  of_not : Operand d (not d)
+  left_of_binary : {operator : Operator} {b : Expression} → Operand d (binary operator d b)
+  right_of_binary : {operator : Operator} {a : Expression} → Operand d (binary operator a d)
+  left_of_and : {b : Expression} → Operand d (and d b)
+  right_of_and : {a : Expression} → Operand d (and a d)
+  left_of_or : {b : Expression} → Operand d (or d b)
+  right_of_or : {a : Expression} → Operand d (or a d)
+  left_of_comma : {b : Expression} → Operand d (comma d b)
+  right_of_comma : {a : Expression} → Operand d (comma a d)
+  test_of_conditional : {a b : Expression} → Operand d (conditional d a b)
+  yes_of_conditional : {c b : Expression} → Operand d (conditional c d b)
+  no_of_conditional : {c a : Expression} → Operand d (conditional c a d)
+  index_of_assign : {p : Place} {e : Expression} → Index d p → Operand d (assign p e)
+  value_of_assign : {p : Place} → Operand d (assign p d)
+  index_of_compound : {operator : Operator} {p : Place} {e : Expression} → Index d p → Operand d (compound operator p e)
+  value_of_compound : {operator : Operator} {p : Place} → Operand d (compound operator p d)
+  index_of_prefix : {operator : Operator} {p : Place} → Index d p → Operand d (prefix operator p)
+  index_of_postfix : {operator : Operator} {p : Place} → Index d p → Operand d (postfix operator p)
+  argument_of_call : {f : ℕ} {arguments : Arguments} → Argument d arguments → Operand d (call f arguments)
 
 -- "Has it as the place of a kind 21 to 30": in its own row, or in a row below it; or the row calls a function that can write it: "a call can
 -- write what its function can".
@@ -56,9 +56,9 @@ pub data HasAsPlace (Called : ℕ → Type 0) (i : ℕ) : Expression → Type 0 
 -- ---- as a test
 
 -- Whether a place is the variable i.
-abbrev pub isVariable : Place → ℕ → Bool
-isVariable (variable j) i = eqb j i
-isVariable (element array e) i = false
+abbrev pub is_variable : Place → ℕ → Bool
+is_variable (variable j) i = eqb j i
+is_variable (element array e) i = false
 
 -- `called f i`: whether function f can write the variable i.
 module _ (called : ℕ → ℕ → Bool) where
@@ -66,7 +66,7 @@ module _ (called : ℕ → ℕ → Bool) where
     -- Whether an expression can write the variable i.
     pub writes : Expression → ℕ → Bool
     writes (constant v) i = false
-    writes (read p) i = indexWrites p i
+    writes (read p) i = index_writes p i
     writes (minus e) i = writes e i
     writes (not e) i = writes e i
     writes (binary operator a b) i = writes a i || writes b i
@@ -74,22 +74,22 @@ module _ (called : ℕ → ℕ → Bool) where
     writes (or a b) i = writes a i || writes b i
     writes (comma a b) i = writes a i || writes b i
     writes (conditional c a b) i = writes c i || (writes a i || writes b i)
-    writes (assign p e) i = isVariable p i || (indexWrites p i || writes e i)
-    writes (compound operator p e) i = isVariable p i || (indexWrites p i || writes e i)
-    writes (prefix operator p) i = isVariable p i || indexWrites p i
-    writes (postfix operator p) i = isVariable p i || indexWrites p i
-    writes (call f arguments) i = called f i || argumentsWrite arguments i
+    writes (assign p e) i = is_variable p i || (index_writes p i || writes e i)
+    writes (compound operator p e) i = is_variable p i || (index_writes p i || writes e i)
+    writes (prefix operator p) i = is_variable p i || index_writes p i
+    writes (postfix operator p) i = is_variable p i || index_writes p i
+    writes (call f arguments) i = called f i || arguments_write arguments i
 
     -- Whether the index of a place can.
-    pub indexWrites : Place → ℕ → Bool
-    indexWrites (variable j) i = false
-    indexWrites (element array e) i = writes e i
+    pub index_writes : Place → ℕ → Bool
+    index_writes (variable j) i = false
+    index_writes (element array e) i = writes e i
 
     -- Whether one of the arguments can.
-    pub argumentsWrite : Arguments → ℕ → Bool
-    argumentsWrite no_more i = false
-    argumentsWrite (e also arguments) i = writes e i || argumentsWrite arguments i
+    pub arguments_write : Arguments → ℕ → Bool
+    arguments_write no_more i = false
+    arguments_write (e also arguments) i = writes e i || arguments_write arguments i
 
 -- Of a program without functions.
-abbrev pub noFunction : ℕ → ℕ → Bool
-noFunction f i = false
+abbrev pub no_function : ℕ → ℕ → Bool
+no_function f i = false

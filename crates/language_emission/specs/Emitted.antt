@@ -4,11 +4,11 @@ use Rattle.std.specs.Prelude.{◌≡◌, refl, false, List, [], ◌∷◌, ◌++
 use Rattle.std.proofs.Common.{ap, ◌∙◌, zero-add, arith, length-append, get_or-append-add}
 use Rattle.std.proofs.Math.ListN.{get_or-append}
 use Rattle.words.specs.Word.{natural}
-use Rattle.words.specs.Table.{rowCount, word_at, number_at}
+use Rattle.words.specs.Table.{row_count, word_at, number_at}
 use Rattle.words.specs.declared.Operator.{Operator}
-use Rattle.language.specs.Trees.{Expression, constant, read, minus, binary, assign, call, Place, variable, element, Arguments, no_more, ◌also◌, present, label, Statement, empty, express, block, ifElse, while, goto, abort, giveBack, Items, none, ◌then◌, ◌here◌, define}
-use Rattle.language.specs.Sizes.{expressionRows, placeRows, statementRows, itemsRows}
-use Rattle.language_emission.specs.Emission.{row_of, operatorNumber, argumentsLink, emitExpression, emitPlace, emitArguments, listLink, parametersLink, emitParameters, emitStatement, emitItems, emit}
+use Rattle.language.specs.Trees.{Expression, constant, read, minus, binary, assign, call, Place, variable, element, Arguments, no_more, ◌also◌, present, label, Statement, empty, express, block, if_else, while, goto, abort, give_back, Items, none, ◌then◌, ◌here◌, define}
+use Rattle.language.specs.Sizes.{expression_rows, place_rows, statement_rows, items_rows}
+use Rattle.language_emission.specs.Emission.{row_of, operator_number, arguments_link, emit_expression, emit_place, emit_arguments, list_link, parameters_link, emit_parameters, emit_statement, emit_items, emit}
 use Rattle.language_emission.specs.EmissionLaws.{length-expression, length-place, length-parameters, length-statement, length-items}
 use Rattle.language_emission.specs.KernelKinds.{ExpressionInKernel, a-constant, a_read, a-minus, a-binary, an-assign, a_call, PlaceInKernel, a-variable, an-element, ArgumentsInKernel, no_arguments, an-argument, StatementInKernel, an-empty, an-express, a_block, an-if, a-while, a-goto, an-abort, a-return, ItemsInKernel, no_items, a-statement, a-label, a-definition}
 
@@ -16,13 +16,13 @@ use Rattle.language_emission.specs.KernelKinds.{ExpressionInKernel, a-constant, 
 
 -- A row of the table, by the numbers of its fields.
 pub record Row (rows : List ℤ) (row kind a b c d next : ℕ) : Type 0 where
-  pub inside : row < rowCount rows
-  pub kind-is : number_at rows row 0 ≡ kind
-  pub a-is : number_at rows row 1 ≡ a
-  pub b-is : number_at rows row 2 ≡ b
-  pub c-is : number_at rows row 3 ≡ c
-  pub d-is : number_at rows row 4 ≡ d
-  pub next-is : number_at rows row 5 ≡ next
+  pub inside : row < row_count rows
+  pub kind_is : number_at rows row 0 ≡ kind
+  pub a_is : number_at rows row 1 ≡ a
+  pub b_is : number_at rows row 2 ≡ b
+  pub c_is : number_at rows row 3 ≡ c
+  pub d_is : number_at rows row 4 ≡ d
+  pub next_is : number_at rows row 5 ≡ next
 
 mutual
   -- The rows of an expression stand from the row `base` on.
@@ -30,11 +30,11 @@ mutual
     constant-at : {v : ℤ} {base : ℕ} → Row rows base 1 (natural v) 0 0 0 0 → word_at rows base 1 ≡ v → EmittedExpression rows (constant v) base
     read_at : {p : Place} {base : ℕ} → EmittedPlace rows p base → EmittedExpression rows (read p) base
     minus-at : {e : Expression} {base : ℕ} → Row rows base 4 (base + 1) 0 0 0 0 → EmittedExpression rows e (base + 1) → EmittedExpression rows (minus e) base
-    binary-at : {o : Operator} {a b : Expression} {base : ℕ} → Row rows base (6 + operatorNumber o) (base + 1) (base + 1 + expressionRows a) 0 0 0
-        → EmittedExpression rows a (base + 1) → EmittedExpression rows b (base + 1 + expressionRows a) → EmittedExpression rows (binary o a b) base
-    assign-at : {p : Place} {e : Expression} {base : ℕ} → Row rows base 21 (base + 1) (base + 1 + placeRows p) 0 0 0
-        → EmittedPlace rows p (base + 1) → EmittedExpression rows e (base + 1 + placeRows p) → EmittedExpression rows (assign p e) base
-    call_at : {f : ℕ} {arguments : Arguments} {base : ℕ} → Row rows base 31 f (argumentsLink arguments (base + 1)) 0 0 0 → EmittedArguments rows arguments (base + 1)
+    binary-at : {o : Operator} {a b : Expression} {base : ℕ} → Row rows base (6 + operator_number o) (base + 1) (base + 1 + expression_rows a) 0 0 0
+        → EmittedExpression rows a (base + 1) → EmittedExpression rows b (base + 1 + expression_rows a) → EmittedExpression rows (binary o a b) base
+    assign-at : {p : Place} {e : Expression} {base : ℕ} → Row rows base 21 (base + 1) (base + 1 + place_rows p) 0 0 0
+        → EmittedPlace rows p (base + 1) → EmittedExpression rows e (base + 1 + place_rows p) → EmittedExpression rows (assign p e) base
+    call_at : {f : ℕ} {arguments : Arguments} {base : ℕ} → Row rows base 31 f (arguments_link arguments (base + 1)) 0 0 0 → EmittedArguments rows arguments (base + 1)
         → EmittedExpression rows (call f arguments) base
 
   pub data EmittedPlace (rows : List ℤ) : Place → ℕ → Type 0 where
@@ -43,13 +43,13 @@ mutual
 
   pub data EmittedArguments (rows : List ℤ) : Arguments → ℕ → Type 0 where
     no-more-at : {base : ℕ} → EmittedArguments rows no_more base
-    argument-at : {e : Expression} {arguments : Arguments} {base : ℕ} → Row rows base 32 (base + 1) 0 0 0 (argumentsLink arguments (base + 1 + expressionRows e))
-        → EmittedExpression rows e (base + 1) → EmittedArguments rows arguments (base + 1 + expressionRows e) → EmittedArguments rows (e also arguments) base
+    argument-at : {e : Expression} {arguments : Arguments} {base : ℕ} → Row rows base 32 (base + 1) 0 0 0 (arguments_link arguments (base + 1 + expression_rows e))
+        → EmittedExpression rows e (base + 1) → EmittedArguments rows arguments (base + 1 + expression_rows e) → EmittedArguments rows (e also arguments) base
 
 -- The rows of parameters.
 pub data EmittedParameters (rows : List ℤ) : List ℕ → ℕ → Type 0 where
-  no-parameter-at : {base : ℕ} → EmittedParameters rows [] base
-  parameter-at : {word : ℕ} {words : List ℕ} {base : ℕ} → Row rows base 58 word 0 0 0 (parametersLink words (base + 1)) → EmittedParameters rows words (base + 1)
+  no_parameter_at : {base : ℕ} → EmittedParameters rows [] base
+  parameter-at : {word : ℕ} {words : List ℕ} {base : ℕ} → Row rows base 58 word 0 0 0 (parameters_link words (base + 1)) → EmittedParameters rows words (base + 1)
       → EmittedParameters rows (word ∷ words) base
 
 mutual
@@ -57,26 +57,26 @@ mutual
   pub data EmittedStatement (rows : List ℤ) : Statement → ℕ → ℕ → Type 0 where
     empty-at : {base next : ℕ} → Row rows base 40 0 0 0 0 next → EmittedStatement rows empty base next
     express-at : {e : Expression} {base next : ℕ} → Row rows base 41 (base + 1) 0 0 0 next → EmittedExpression rows e (base + 1) → EmittedStatement rows (express e) base next
-    block_at : {is : Items} {base next : ℕ} → Row rows base 42 (listLink false is (base + 1)) 0 0 0 next → EmittedItems rows is (base + 1) → EmittedStatement rows (block is) base next
-    if-at : {e : Expression} {onTrue onFalse : Statement} {base next : ℕ}
-        → Row rows base 43 (base + 1) (base + 1 + expressionRows e) (base + 1 + expressionRows e + statementRows onTrue) 0 next → EmittedExpression rows e (base + 1)
-        → EmittedStatement rows onTrue (base + 1 + expressionRows e) 0 → EmittedStatement rows onFalse (base + 1 + expressionRows e + statementRows onTrue) 0
-        → EmittedStatement rows (ifElse e onTrue onFalse) base next
-    while-at : {e : Expression} {body : Statement} {base next : ℕ} → Row rows base 44 (base + 1) (base + 1 + expressionRows e) 0 0 next
-        → EmittedExpression rows e (base + 1) → EmittedStatement rows body (base + 1 + expressionRows e) 0 → EmittedStatement rows (while e body) base next
+    block_at : {is : Items} {base next : ℕ} → Row rows base 42 (list_link false is (base + 1)) 0 0 0 next → EmittedItems rows is (base + 1) → EmittedStatement rows (block is) base next
+    if-at : {e : Expression} {on_true on_false : Statement} {base next : ℕ}
+        → Row rows base 43 (base + 1) (base + 1 + expression_rows e) (base + 1 + expression_rows e + statement_rows on_true) 0 next → EmittedExpression rows e (base + 1)
+        → EmittedStatement rows on_true (base + 1 + expression_rows e) 0 → EmittedStatement rows on_false (base + 1 + expression_rows e + statement_rows on_true) 0
+        → EmittedStatement rows (if_else e on_true on_false) base next
+    while-at : {e : Expression} {body : Statement} {base next : ℕ} → Row rows base 44 (base + 1) (base + 1 + expression_rows e) 0 0 next
+        → EmittedExpression rows e (base + 1) → EmittedStatement rows body (base + 1 + expression_rows e) 0 → EmittedStatement rows (while e body) base next
     goto-at : {l base next : ℕ} → Row rows base 52 l 0 0 0 next → EmittedStatement rows (goto l) base next
     abort-at : {base next : ℕ} → Row rows base 57 0 0 0 0 next → EmittedStatement rows abort base next
-    return-at : {e : Expression} {base next : ℕ} → Row rows base 60 (base + 1) 0 0 0 next → EmittedExpression rows e (base + 1) → EmittedStatement rows (giveBack (present e)) base next
+    return-at : {e : Expression} {base next : ℕ} → Row rows base 60 (base + 1) 0 0 0 next → EmittedExpression rows e (base + 1) → EmittedStatement rows (give_back (present e)) base next
 
   -- The rows of a list.
   pub data EmittedItems (rows : List ℤ) : Items → ℕ → Type 0 where
     none-at : {base : ℕ} → EmittedItems rows none base
-    then_at : {s : Statement} {is : Items} {base : ℕ} → EmittedStatement rows s base (listLink false is (base + statementRows s)) → EmittedItems rows is (base + statementRows s)
+    then_at : {s : Statement} {is : Items} {base : ℕ} → EmittedStatement rows s base (list_link false is (base + statement_rows s)) → EmittedItems rows is (base + statement_rows s)
         → EmittedItems rows (s then is) base
-    label_at : {l : ℕ} {is : Items} {base : ℕ} → Row rows base 53 l 0 0 0 (listLink false is (base + 1)) → EmittedItems rows is (base + 1) → EmittedItems rows (label l here is) base
+    label_at : {l : ℕ} {is : Items} {base : ℕ} → Row rows base 53 l 0 0 0 (list_link false is (base + 1)) → EmittedItems rows is (base + 1) → EmittedItems rows (label l here is) base
     define-at : {f : ℕ} {words : List ℕ} {body is : Items} {base : ℕ}
-        → Row rows base 59 f (parametersLink words (base + 1)) (base + 1 + length words) 0 (listLink false is (base + 1 + length words + 1 + itemsRows body))
-        → EmittedParameters rows words (base + 1) → EmittedStatement rows (block body) (base + 1 + length words) 0 → EmittedItems rows is (base + 1 + length words + 1 + itemsRows body)
+        → Row rows base 59 f (parameters_link words (base + 1)) (base + 1 + length words) 0 (list_link false is (base + 1 + length words + 1 + items_rows body))
+        → EmittedParameters rows words (base + 1) → EmittedStatement rows (block body) (base + 1 + length words) 0 → EmittedItems rows is (base + 1 + length words + 1 + items_rows body)
         → EmittedItems rows (define f words body is) base
 
 -- ---- from the words to the relations
@@ -111,12 +111,12 @@ module _ {rows : List ℤ} {base : ℕ} (kind : ℕ) (a : ℤ) (b c d next : ℕ
   row_first =
       record {
         inside = omega (arith, g.inside);
-        kind-is = rw (g.same 0 (omega arith));
-        a-is = rw (g.same 1 (omega arith));
-        b-is = rw (g.same 2 (omega arith));
-        c-is = rw (g.same 3 (omega arith));
-        d-is = rw (g.same 4 (omega arith));
-        next-is = rw (g.same 5 (omega arith));
+        kind_is = rw (g.same 0 (omega arith));
+        a_is = rw (g.same 1 (omega arith));
+        b_is = rw (g.same 2 (omega arith));
+        c_is = rw (g.same 3 (omega arith));
+        d_is = rw (g.same 4 (omega arith));
+        next_is = rw (g.same 5 (omega arith));
       }
 
   row-value : word_at rows base 1 ≡ a
@@ -127,122 +127,122 @@ module _ {rows : List ℤ} {base : ℕ} (kind : ℕ) (a : ℤ) (b c d next : ℕ
   row-rest = segment-right 1 (row_of kind a b c d next) rest refl g
 
 mutual
-  unfolding emitExpression natural
+  unfolding emit_expression natural
 
-  emitted-expression : {rows : List ℤ} {e : Expression} (base : ℕ) → ExpressionInKernel e → Segment rows base (emitExpression e base) → EmittedExpression rows e base
+  emitted-expression : {rows : List ℤ} {e : Expression} (base : ℕ) → ExpressionInKernel e → Segment rows base (emit_expression e base) → EmittedExpression rows e base
   emitted-expression base (a-constant {v}) g = constant-at (row_first 1 v 0 0 0 0 [] g) (row-value 1 v 0 0 0 0 [] g)
   emitted-expression base (a_read k) g = read_at (emitted-place base k g)
   emitted-expression base (a-minus {e} k) g =
-      let rest = row-rest 4 (pos (base + 1)) 0 0 0 0 (emitExpression e (base + 1)) g in
-      minus-at (row_first 4 (pos (base + 1)) 0 0 0 0 (emitExpression e (base + 1)) g) (emitted-expression (base + 1) k rest)
+      let rest = row-rest 4 (pos (base + 1)) 0 0 0 0 (emit_expression e (base + 1)) g in
+      minus-at (row_first 4 (pos (base + 1)) 0 0 0 0 (emit_expression e (base + 1)) g) (emitted-expression (base + 1) k rest)
   emitted-expression base (a-binary {o} {a} {b} k j) g =
-      let m = base + 1 + expressionRows a in
-      let u = emitExpression a (base + 1) in
-      let v = emitExpression b m in
-      let rest = row-rest (6 + operatorNumber o) (pos (base + 1)) m 0 0 0 (u ++ v) g in
-      binary-at (row_first (6 + operatorNumber o) (pos (base + 1)) m 0 0 0 (u ++ v) g)
-      (emitted-expression (base + 1) k (segment-left u v rest)) (emitted-expression m j (segment-right (expressionRows a) u v (length-expression a (base + 1)) rest))
+      let m = base + 1 + expression_rows a in
+      let u = emit_expression a (base + 1) in
+      let v = emit_expression b m in
+      let rest = row-rest (6 + operator_number o) (pos (base + 1)) m 0 0 0 (u ++ v) g in
+      binary-at (row_first (6 + operator_number o) (pos (base + 1)) m 0 0 0 (u ++ v) g)
+      (emitted-expression (base + 1) k (segment-left u v rest)) (emitted-expression m j (segment-right (expression_rows a) u v (length-expression a (base + 1)) rest))
   emitted-expression base (an-assign {p} {e} k j) g =
-      let m = base + 1 + placeRows p in
-      let u = emitPlace p (base + 1) in
-      let v = emitExpression e m in
+      let m = base + 1 + place_rows p in
+      let u = emit_place p (base + 1) in
+      let v = emit_expression e m in
       let rest = row-rest 21 (pos (base + 1)) m 0 0 0 (u ++ v) g in
       assign-at (row_first 21 (pos (base + 1)) m 0 0 0 (u ++ v) g)
-      (emitted-place (base + 1) k (segment-left u v rest)) (emitted-expression m j (segment-right (placeRows p) u v (length-place p (base + 1)) rest))
+      (emitted-place (base + 1) k (segment-left u v rest)) (emitted-expression m j (segment-right (place_rows p) u v (length-place p (base + 1)) rest))
   emitted-expression base (a_call {f} {arguments} k) g =
-      let first = argumentsLink arguments (base + 1) in
-      let rest = row-rest 31 (pos f) first 0 0 0 (emitArguments arguments (base + 1)) g in
-      call_at (row_first 31 (pos f) first 0 0 0 (emitArguments arguments (base + 1)) g) (emitted-arguments (base + 1) k rest)
+      let first = arguments_link arguments (base + 1) in
+      let rest = row-rest 31 (pos f) first 0 0 0 (emit_arguments arguments (base + 1)) g in
+      call_at (row_first 31 (pos f) first 0 0 0 (emit_arguments arguments (base + 1)) g) (emitted-arguments (base + 1) k rest)
 
-  emitted-place : {rows : List ℤ} {p : Place} (base : ℕ) → PlaceInKernel p → Segment rows base (emitPlace p base) → EmittedPlace rows p base
+  emitted-place : {rows : List ℤ} {p : Place} (base : ℕ) → PlaceInKernel p → Segment rows base (emit_place p base) → EmittedPlace rows p base
   emitted-place base (a-variable {i}) g = variable-at (row_first 2 (pos i) 0 0 0 0 [] g)
   emitted-place base (an-element {array} {e} k) g =
-      let rest = row-rest 3 (pos array) (base + 1) 0 0 0 (emitExpression e (base + 1)) g in
-      element-at (row_first 3 (pos array) (base + 1) 0 0 0 (emitExpression e (base + 1)) g) (emitted-expression (base + 1) k rest)
+      let rest = row-rest 3 (pos array) (base + 1) 0 0 0 (emit_expression e (base + 1)) g in
+      element-at (row_first 3 (pos array) (base + 1) 0 0 0 (emit_expression e (base + 1)) g) (emitted-expression (base + 1) k rest)
 
-  emitted-arguments : {rows : List ℤ} {arguments : Arguments} (base : ℕ) → ArgumentsInKernel arguments → Segment rows base (emitArguments arguments base) → EmittedArguments rows arguments base
+  emitted-arguments : {rows : List ℤ} {arguments : Arguments} (base : ℕ) → ArgumentsInKernel arguments → Segment rows base (emit_arguments arguments base) → EmittedArguments rows arguments base
   emitted-arguments base no_arguments g = no-more-at
   emitted-arguments base (an-argument {e} {arguments} k j) g =
-      let m = base + 1 + expressionRows e in
-      let u = emitExpression e (base + 1) in
-      let v = emitArguments arguments m in
-      let rest = row-rest 32 (pos (base + 1)) 0 0 0 (argumentsLink arguments m) (u ++ v) g in
-      argument-at (row_first 32 (pos (base + 1)) 0 0 0 (argumentsLink arguments m) (u ++ v) g)
-      (emitted-expression (base + 1) k (segment-left u v rest)) (emitted-arguments m j (segment-right (expressionRows e) u v (length-expression e (base + 1)) rest))
+      let m = base + 1 + expression_rows e in
+      let u = emit_expression e (base + 1) in
+      let v = emit_arguments arguments m in
+      let rest = row-rest 32 (pos (base + 1)) 0 0 0 (arguments_link arguments m) (u ++ v) g in
+      argument-at (row_first 32 (pos (base + 1)) 0 0 0 (arguments_link arguments m) (u ++ v) g)
+      (emitted-expression (base + 1) k (segment-left u v rest)) (emitted-arguments m j (segment-right (expression_rows e) u v (length-expression e (base + 1)) rest))
 
-emitted-parameters : {rows : List ℤ} (words : List ℕ) (base : ℕ) → Segment rows base (emitParameters words base) → EmittedParameters rows words base
-unfolding emitParameters natural
-emitted-parameters [] base g = no-parameter-at
+emitted-parameters : {rows : List ℤ} (words : List ℕ) (base : ℕ) → Segment rows base (emit_parameters words base) → EmittedParameters rows words base
+unfolding emit_parameters natural
+emitted-parameters [] base g = no_parameter_at
 emitted-parameters (word ∷ words) base g =
-    let next = parametersLink words (base + 1) in
-    let rest = emitParameters words (base + 1) in
+    let next = parameters_link words (base + 1) in
+    let rest = emit_parameters words (base + 1) in
     parameter-at (row_first 58 (pos word) 0 0 0 next rest g) (emitted-parameters words (base + 1) (row-rest 58 (pos word) 0 0 0 next rest g))
 
 mutual
-  unfolding emitStatement natural
+  unfolding emit_statement natural
 
-  emitted-statement : {rows : List ℤ} {s : Statement} (base next : ℕ) → StatementInKernel s → Segment rows base (emitStatement s base next) → EmittedStatement rows s base next
+  emitted-statement : {rows : List ℤ} {s : Statement} (base next : ℕ) → StatementInKernel s → Segment rows base (emit_statement s base next) → EmittedStatement rows s base next
   emitted-statement base next an-empty g = empty-at (row_first 40 (pos 0) 0 0 0 next [] g)
   emitted-statement base next (an-express {e} k) g =
-      let rest = row-rest 41 (pos (base + 1)) 0 0 0 next (emitExpression e (base + 1)) g in
-      express-at (row_first 41 (pos (base + 1)) 0 0 0 next (emitExpression e (base + 1)) g) (emitted-expression (base + 1) k rest)
+      let rest = row-rest 41 (pos (base + 1)) 0 0 0 next (emit_expression e (base + 1)) g in
+      express-at (row_first 41 (pos (base + 1)) 0 0 0 next (emit_expression e (base + 1)) g) (emitted-expression (base + 1) k rest)
   emitted-statement base next (a_block {is} k) g =
-      let first = listLink false is (base + 1) in
-      let rest = row-rest 42 (pos first) 0 0 0 next (emitItems false is (base + 1)) g in
-      block_at (row_first 42 (pos first) 0 0 0 next (emitItems false is (base + 1)) g) (emitted-items (base + 1) k rest)
-  emitted-statement base next (an-if {e} {onTrue} {onFalse} k j i) g =
-      let m = base + 1 + expressionRows e in
-      let n = m + statementRows onTrue in
-      let u = emitExpression e (base + 1) in
-      let v = emitStatement onTrue m 0 in
-      let w = emitStatement onFalse n 0 in
-      let size : length (u ++ v) ≡ 6 * (expressionRows e + statementRows onTrue) =
-      omega (arith, length-append u v, length-expression e (base + 1), length-statement onTrue m 0) in
+      let first = list_link false is (base + 1) in
+      let rest = row-rest 42 (pos first) 0 0 0 next (emit_items false is (base + 1)) g in
+      block_at (row_first 42 (pos first) 0 0 0 next (emit_items false is (base + 1)) g) (emitted-items (base + 1) k rest)
+  emitted-statement base next (an-if {e} {on_true} {on_false} k j i) g =
+      let m = base + 1 + expression_rows e in
+      let n = m + statement_rows on_true in
+      let u = emit_expression e (base + 1) in
+      let v = emit_statement on_true m 0 in
+      let w = emit_statement on_false n 0 in
+      let size : length (u ++ v) ≡ 6 * (expression_rows e + statement_rows on_true) =
+      omega (arith, length-append u v, length-expression e (base + 1), length-statement on_true m 0) in
       let rest = row-rest 43 (pos (base + 1)) m n 0 next ((u ++ v) ++ w) g in
       let front = segment-left (u ++ v) w rest in
-      let back = segment-right (expressionRows e + statementRows onTrue) (u ++ v) w size rest in
-      let end : base + 1 + (expressionRows e + statementRows onTrue) ≡ n = omega arith in
+      let back = segment-right (expression_rows e + statement_rows on_true) (u ++ v) w size rest in
+      let end : base + 1 + (expression_rows e + statement_rows on_true) ≡ n = omega arith in
       if-at (row_first 43 (pos (base + 1)) m n 0 next ((u ++ v) ++ w) g)
-      (emitted-expression (base + 1) k (segment-left u v front)) (emitted-statement m 0 j (segment-right (expressionRows e) u v (length-expression e (base + 1)) front))
+      (emitted-expression (base + 1) k (segment-left u v front)) (emitted-statement m 0 j (segment-right (expression_rows e) u v (length-expression e (base + 1)) front))
       (emitted-statement n 0 i (rw end at back))
   emitted-statement base next (a-while {e} {body} k j) g =
-      let m = base + 1 + expressionRows e in
-      let u = emitExpression e (base + 1) in
-      let v = emitStatement body m 0 in
+      let m = base + 1 + expression_rows e in
+      let u = emit_expression e (base + 1) in
+      let v = emit_statement body m 0 in
       let rest = row-rest 44 (pos (base + 1)) m 0 0 next (u ++ v) g in
       while-at (row_first 44 (pos (base + 1)) m 0 0 next (u ++ v) g)
-      (emitted-expression (base + 1) k (segment-left u v rest)) (emitted-statement m 0 j (segment-right (expressionRows e) u v (length-expression e (base + 1)) rest))
+      (emitted-expression (base + 1) k (segment-left u v rest)) (emitted-statement m 0 j (segment-right (expression_rows e) u v (length-expression e (base + 1)) rest))
   emitted-statement base next (a-goto {l}) g = goto-at (row_first 52 (pos l) 0 0 0 next [] g)
   emitted-statement base next an-abort g = abort-at (row_first 57 (pos 0) 0 0 0 next [] g)
   emitted-statement base next (a-return {e} k) g =
-      let rest = row-rest 60 (pos (base + 1)) 0 0 0 next (emitExpression e (base + 1)) g in
-      return-at (row_first 60 (pos (base + 1)) 0 0 0 next (emitExpression e (base + 1)) g) (emitted-expression (base + 1) k rest)
+      let rest = row-rest 60 (pos (base + 1)) 0 0 0 next (emit_expression e (base + 1)) g in
+      return-at (row_first 60 (pos (base + 1)) 0 0 0 next (emit_expression e (base + 1)) g) (emitted-expression (base + 1) k rest)
 
-  emitted-items : {rows : List ℤ} {is : Items} (base : ℕ) → ItemsInKernel is → Segment rows base (emitItems false is base) → EmittedItems rows is base
+  emitted-items : {rows : List ℤ} {is : Items} (base : ℕ) → ItemsInKernel is → Segment rows base (emit_items false is base) → EmittedItems rows is base
   emitted-items base no_items g = none-at
   emitted-items base (a-statement {s} {is} k j) g =
-      let m = base + statementRows s in
-      let u = emitStatement s base (listLink false is m) in
-      let v = emitItems false is m in
-      then_at (emitted-statement base (listLink false is m) k (segment-left u v g)) (emitted-items m j (segment-right (statementRows s) u v (length-statement s base (listLink false is m)) g))
+      let m = base + statement_rows s in
+      let u = emit_statement s base (list_link false is m) in
+      let v = emit_items false is m in
+      then_at (emitted-statement base (list_link false is m) k (segment-left u v g)) (emitted-items m j (segment-right (statement_rows s) u v (length-statement s base (list_link false is m)) g))
   emitted-items base (a-label {l} {is} k) g =
-      let rest = emitItems false is (base + 1) in
-      label_at (row_first 53 (pos l) 0 0 0 (listLink false is (base + 1)) rest g) (emitted-items (base + 1) k (row-rest 53 (pos l) 0 0 0 (listLink false is (base + 1)) rest g))
+      let rest = emit_items false is (base + 1) in
+      label_at (row_first 53 (pos l) 0 0 0 (list_link false is (base + 1)) rest g) (emitted-items (base + 1) k (row-rest 53 (pos l) 0 0 0 (list_link false is (base + 1)) rest g))
   emitted-items base (a-definition {f} {words} {body} {is} k j) g =
       let own = base + 1 + length words in
-      let behind = own + 1 + itemsRows body in
-      let first = listLink false body (own + 1) in
-      let inner = emitItems false body (own + 1) in
-      let p = emitParameters words (base + 1) in
+      let behind = own + 1 + items_rows body in
+      let first = list_link false body (own + 1) in
+      let inner = emit_items false body (own + 1) in
+      let p = emit_parameters words (base + 1) in
       let b = row_of 42 (pos first) 0 0 0 0 ++ inner in
-      let w = emitItems false is behind in
-      let size : length (p ++ b) ≡ 6 * (length words + 1 + itemsRows body) = omega (arith, length-append p b, length-parameters words (base + 1), length-items false body (own + 1)) in
-      let rest = row-rest 59 (pos f) (parametersLink words (base + 1)) own 0 (listLink false is behind) ((p ++ b) ++ w) g in
+      let w = emit_items false is behind in
+      let size : length (p ++ b) ≡ 6 * (length words + 1 + items_rows body) = omega (arith, length-append p b, length-parameters words (base + 1), length-items false body (own + 1)) in
+      let rest = row-rest 59 (pos f) (parameters_link words (base + 1)) own 0 (list_link false is behind) ((p ++ b) ++ w) g in
       let front = segment-left (p ++ b) w rest in
-      let back = segment-right (length words + 1 + itemsRows body) (p ++ b) w size rest in
+      let back = segment-right (length words + 1 + items_rows body) (p ++ b) w size rest in
       let its-block = segment-right (length words) p b (length-parameters words (base + 1)) front in
-      let end : base + 1 + (length words + 1 + itemsRows body) ≡ behind = omega arith in
-      define-at (row_first 59 (pos f) (parametersLink words (base + 1)) own 0 (listLink false is behind) ((p ++ b) ++ w) g)
+      let end : base + 1 + (length words + 1 + items_rows body) ≡ behind = omega arith in
+      define-at (row_first 59 (pos f) (parameters_link words (base + 1)) own 0 (list_link false is behind) ((p ++ b) ++ w) g)
       (emitted-parameters words (base + 1) (segment-left p b front))
       (block_at (row_first 42 (pos first) 0 0 0 0 inner its-block) (emitted-items (own + 1) k (row-rest 42 (pos first) 0 0 0 0 inner its-block)))
       (emitted-items behind j (rw end at back))

@@ -2,7 +2,7 @@
 -- both branches, while, goto, abort, return of a value; label the only mark; definitions.
 use Rattle.std.specs.Prelude.{List, ℕ, ℤ}
 use Rattle.words.specs.declared.Operator.{Operator}
-use Rattle.language.specs.Trees.{Expression, constant, read, minus, binary, assign, call, Place, variable, element, Arguments, no_more, ◌also◌, present, label, Statement, empty, express, block, ifElse, while, goto, abort, giveBack, Items, none, ◌then◌, ◌here◌, define}
+use Rattle.language.specs.Trees.{Expression, constant, read, minus, binary, assign, call, Place, variable, element, Arguments, no_more, ◌also◌, present, label, Statement, empty, express, block, if_else, while, goto, abort, give_back, Items, none, ◌then◌, ◌here◌, define}
 
 mutual
   pub data ExpressionInKernel : Expression → Type 0 where
@@ -26,11 +26,11 @@ mutual
     an-empty : StatementInKernel empty
     an-express : {e : Expression} → ExpressionInKernel e → StatementInKernel (express e)
     a_block : {is : Items} → ItemsInKernel is → StatementInKernel (block is)
-    an-if : {e : Expression} {onTrue onFalse : Statement} → ExpressionInKernel e → StatementInKernel onTrue → StatementInKernel onFalse → StatementInKernel (ifElse e onTrue onFalse)
+    an-if : {e : Expression} {on_true on_false : Statement} → ExpressionInKernel e → StatementInKernel on_true → StatementInKernel on_false → StatementInKernel (if_else e on_true on_false)
     a-while : {e : Expression} {body : Statement} → ExpressionInKernel e → StatementInKernel body → StatementInKernel (while e body)
     a-goto : {l : ℕ} → StatementInKernel (goto l)
     an-abort : StatementInKernel abort
-    a-return : {e : Expression} → ExpressionInKernel e → StatementInKernel (giveBack (present e))
+    a-return : {e : Expression} → ExpressionInKernel e → StatementInKernel (give_back (present e))
 
   pub data ItemsInKernel : Items → Type 0 where
     no_items : ItemsInKernel none

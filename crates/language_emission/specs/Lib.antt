@@ -10,5 +10,3 @@ pub mod Emitted
 -- ---- laws
 -- Laws of emission: lengths, and one part behind another.
 pub mod EmissionLaws
--- Read-back: decode gives the tree from which a table was emitted.
-pub mod ReadBack

@@ -1,8 +1,8 @@
 -- Scope: every name in a tree is known where it stands. A declaration makes its word known to the rest of its list.
 use Rattle.std.proofs.Math.Option.{Option, none as nothing, some}
 use Rattle.std.specs.Prelude.{ℕ}
-use Rattle.computation.specs.Agreement.{Words}
-use Rattle.language.specs.Trees.{Statement, empty, express, block, ifThen, ifElse, while, doWhile, for, switch, break, continue, goto, guardedIf, guardedDo, abort, declare, giveBack, Arms, no_arm, arm, Items, none, ◌then◌, ◌here◌, define}
+use Rattle.computation.proofs.Agreement.{Words}
+use Rattle.language.specs.Trees.{Statement, empty, express, block, if_then, if_else, while, do_while, for, switch, break, continue, goto, guarded_if, guarded_do, abort, declare, give_back, Arms, no_arm, arm, Items, none, ◌then◌, ◌here◌, define}
 use Rattle.language.specs.WellFormed.{NamedExpression, NamedPart}
 use Rattle.language_renaming.specs.Twin.{◌with◌}
 
@@ -11,20 +11,20 @@ unfoldable pub declared : Statement → Option ℕ
 declared empty = nothing
 declared (express e) = nothing
 declared (block is) = nothing
-declared (ifThen e onTrue) = nothing
-declared (ifElse e onTrue onFalse) = nothing
+declared (if_then e on_true) = nothing
+declared (if_else e on_true on_false) = nothing
 declared (while e body) = nothing
-declared (doWhile body e) = nothing
+declared (do_while body e) = nothing
 declared (for first test action body) = nothing
 declared (switch e is) = nothing
 declared break = nothing
 declared continue = nothing
 declared (goto l) = nothing
-declared (guardedIf arms) = nothing
-declared (guardedDo arms) = nothing
+declared (guarded_if arms) = nothing
+declared (guarded_do arms) = nothing
 declared abort = nothing
 declared (declare word e) = some word
-declared (giveBack value) = nothing
+declared (give_back value) = nothing
 
 -- "From its next item to the block's end": what is known behind a statement.
 unfoldable pub behind : Words → Option ℕ → Words
@@ -49,20 +49,20 @@ module _ (All : Words) (arrays : ℕ) where
     Scoped P empty = Unit {0}
     Scoped P (express e) = NamedExpression P arrays e
     Scoped P (block is) = ScopedItems P is
-    Scoped P (ifThen e onTrue) = NamedExpression P arrays e × Scoped P onTrue
-    Scoped P (ifElse e onTrue onFalse) = NamedExpression P arrays e × Scoped P onTrue × Scoped P onFalse
+    Scoped P (if_then e on_true) = NamedExpression P arrays e × Scoped P on_true
+    Scoped P (if_else e on_true on_false) = NamedExpression P arrays e × Scoped P on_true × Scoped P on_false
     Scoped P (while e body) = NamedExpression P arrays e × Scoped P body
-    Scoped P (doWhile body e) = Scoped P body × NamedExpression P arrays e
+    Scoped P (do_while body e) = Scoped P body × NamedExpression P arrays e
     Scoped P (for first test action body) = NamedPart P arrays first × NamedPart P arrays test × NamedPart P arrays action × Scoped P body
     Scoped P (switch e is) = NamedExpression P arrays e × ScopedItems P is
     Scoped P break = Unit {0}
     Scoped P continue = Unit {0}
     Scoped P (goto l) = Unit {0}
-    Scoped P (guardedIf arms) = ScopedArms P arms
-    Scoped P (guardedDo arms) = ScopedArms P arms
+    Scoped P (guarded_if arms) = ScopedArms P arms
+    Scoped P (guarded_do arms) = ScopedArms P arms
     Scoped P abort = Unit {0}
     Scoped P (declare word e) = All word × NamedExpression P arrays e
-    Scoped P (giveBack value) = NamedPart P arrays value
+    Scoped P (give_back value) = NamedPart P arrays value
 
     pub ScopedArms : Words → Arms → Type 0
     ScopedArms P no_arm = Unit {0}

@@ -1,9 +1,9 @@
 -- Twins: two states, two results and two computations that are the same but for where the words stand.
 use Rattle.std.specs.Prelude.{◌≡◌, ◌⊎◌, List, map, ℕ, ◌+◌, ◌<◌, ◌≤◌, ℤ, pos, length, get_or}
-use Rattle.words.specs.Layout.{Layout, arrayBase, arrayLength}
+use Rattle.words.specs.Layout.{Layout, array_base, array_length}
 use Rattle.computation.specs.Computation.{Turn, again, leave, Computation}
 use Rattle.computation.specs.Run.{Write, State, Stop, Result, ok, stopped, Limit, run}
-use Rattle.computation.specs.Agreement.{Words, ◌within◌}
+use Rattle.computation.proofs.Agreement.{Words, ◌within◌}
 
 -- A write to the word that stands for the one written.
 abbrev pub moved : (ℕ → ℕ) → Write → Write
@@ -56,7 +56,7 @@ pub record Renames (L : Layout) (arrays : ℕ) (All : Words) (π : ℕ → ℕ) 
   pub apart : (i j : ℕ) → All i → All j → π i ≡ π j → i ≡ j
   pub known : P within All
   pub visible : Visible within P
-  pub elements : (array : ℕ) → array < arrays → (i : ℕ) → arrayBase L array ≤ i → i < arrayBase L array + arrayLength L array → P i × (i ≡ π i)
+  pub elements : (array : ℕ) → array < arrays → (i : ℕ) → array_base L array ≤ i → i < array_base L array + array_length L array → P i × (i ≡ π i)
 
 -- ---- calls
 

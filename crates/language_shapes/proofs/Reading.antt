@@ -4,7 +4,7 @@ use mathlib.Core.List.{List}
 use Prim.Native.Nat.{ℕ, ◌<◌}
 use native.Mathlib.Omega.{arith}
 use lib.IntN.{ℤ}
-use Rattle.words.specs.Table.{rowCount, word_at, number_at}
+use Rattle.words.specs.Table.{row_count, word_at, number_at}
 use Rattle.words.specs.Kinds.{kind_at}
 use Rattle.words.specs.declared.Kind.{Kind}
 use Rattle.words.specs.declared.Kind.TheVariants.{OfExpression, OfStatement}
@@ -14,7 +14,7 @@ use Rattle.words.specs.declared.StatementKind.{StatementKind}
 use Rattle.words.specs.declared.StatementKind.TheVariants.{Declare}
 use Rattle.words.specs.declared.MarkKind.{MarkKind}
 use Rattle.words.specs.declared.MemberKind.{MemberKind}
-use Rattle.language_shapes.specs.Shapes.{expressionShape, statementShape, markShape, memberShape, expressionAs, statementAs, markAs, memberAs, shapeAs, shape_at, expressionIn, place_in, statementIn, itemIn, armIn, argumentIn, ItemAt, ArmAt, ArgumentAt}
+use Rattle.language_shapes.specs.Shapes.{expression_shape, statement_shape, mark_shape, member_shape, expression_as, statement_as, mark_as, member_as, shape_as, shape_at, expression_in, place_in, statement_in, item_in, arm_in, argument_in, ItemAt, ArmAt, ArgumentAt}
 use Rattle.language_shapes.specs.Source.{Source, Name, PlaceAt, ExpressionAt, StatementAt}
 use Rattle.language_shapes.specs.ShapeLaws.{expression-found, statement-found, item-found, arm-found, argument-found, place-in}
 use Rattle.language_shapes.specs.declared.PlaceShape.{PlaceShape}
@@ -29,45 +29,45 @@ use Rattle.language_shapes.specs.declared.ArgumentShape.{ArgumentShape}
 
 module _ (rows : List ℤ) (row : ℕ) where
   pub expression-arm : {kind k : ExpressionKind} (v : ℤ) (a b c : ℕ) → kind ≡ k → v ≡ word_at rows row 1 → a ≡ number_at rows row 1 → b ≡ number_at rows row 2 → c ≡ number_at rows row 3
-      → expressionShape k v a b c ≡ expressionAs rows row kind
-  expression-arm v a b c e ev ea eb ec = rw (ev, ea, eb, ec) (ap (λ (x : ExpressionKind). expressionAs rows row x) (sym e))
+      → expression_shape k v a b c ≡ expression_as rows row kind
+  expression-arm v a b c e ev ea eb ec = rw (ev, ea, eb, ec) (ap (λ (x : ExpressionKind). expression_as rows row x) (sym e))
 
   pub statement-arm : {kind k : StatementKind} (a b c d : ℕ) → kind ≡ k → a ≡ number_at rows row 1 → b ≡ number_at rows row 2 → c ≡ number_at rows row 3 → d ≡ number_at rows row 4
-      → statementShape k a b c d ≡ statementAs rows row kind
-  statement-arm a b c d e ea eb ec ed = rw (ea, eb, ec, ed) (ap (λ (x : StatementKind). statementAs rows row x) (sym e))
+      → statement_shape k a b c d ≡ statement_as rows row kind
+  statement-arm a b c d e ea eb ec ed = rw (ea, eb, ec, ed) (ap (λ (x : StatementKind). statement_as rows row x) (sym e))
 
-  pub mark-arm : {kind k : MarkKind} (v : ℤ) (a : ℕ) → kind ≡ k → v ≡ word_at rows row 1 → a ≡ number_at rows row 1 → markShape k v a ≡ markAs rows row kind
-  mark-arm v a e ev ea = rw (ev, ea) (ap (λ (x : MarkKind). markAs rows row x) (sym e))
+  pub mark-arm : {kind k : MarkKind} (v : ℤ) (a : ℕ) → kind ≡ k → v ≡ word_at rows row 1 → a ≡ number_at rows row 1 → mark_shape k v a ≡ mark_as rows row kind
+  mark-arm v a e ev ea = rw (ev, ea) (ap (λ (x : MarkKind). mark_as rows row x) (sym e))
 
-  pub member-arm : {kind k : MemberKind} (a b : ℕ) → kind ≡ k → a ≡ number_at rows row 1 → b ≡ number_at rows row 2 → memberShape k a b ≡ memberAs rows row kind
-  unfolding memberAs
-  member-arm a b e ea eb = rw (ea, eb) (ap (λ (x : MemberKind). memberAs rows row x) (sym e))
+  pub member-arm : {kind k : MemberKind} (a b : ℕ) → kind ≡ k → a ≡ number_at rows row 1 → b ≡ number_at rows row 2 → member_shape k a b ≡ member_as rows row kind
+  unfolding member_as
+  member-arm a b e ea eb = rw (ea, eb) (ap (λ (x : MemberKind). member_as rows row x) (sym e))
 
-  pub shape-arm : {kind k : Kind} → kind ≡ kind_at rows row → kind ≡ k → shapeAs rows row k ≡ shape_at rows row
+  pub shape-arm : {kind k : Kind} → kind ≡ kind_at rows row → kind ≡ k → shape_as rows row k ≡ shape_at rows row
   unfolding shape_at
-  shape-arm e g = ap (λ (x : Kind). shapeAs rows row x) (sym g ∙ e)
+  shape-arm e g = ap (λ (x : Kind). shape_as rows row x) (sym g ∙ e)
 
-module _ {rows : List ℤ} {row : ℕ} (source : Source rows) (inside : row < rowCount rows) where
+module _ {rows : List ℤ} {row : ℕ} (source : Source rows) (inside : row < row_count rows) where
   variable-named : kind_at rows row ≡ OfExpression Variable → Name rows (number_at rows row 1)
   variable-named k = record { low = omega (arith, source.names.small, (source.names.variables row inside k).within); named = λ S n. n.variables row inside k }
 
   declared-named : kind_at rows row ≡ OfStatement Declare → Name rows (number_at rows row 1)
   declared-named k = record { low = omega (arith, source.names.small, (source.names.declared row inside k).within); named = λ S n. n.declared row inside k }
 
-  pub expression-read : {shape : Shape} {e : ExpressionShape} → shape ≡ shape_at rows row → e ≡ expressionIn shape → ExpressionAt rows row e
-  expression-read {shape} {e} h g = subst (λ (x : ExpressionShape). ExpressionAt rows row x) (sym (g ∙ ap expressionIn h)) (expression-found source.sound inside (Name rows) variable-named source.few-arrays)
+  pub expression-read : {shape : Shape} {e : ExpressionShape} → shape ≡ shape_at rows row → e ≡ expression_in shape → ExpressionAt rows row e
+  expression-read {shape} {e} h g = subst (λ (x : ExpressionShape). ExpressionAt rows row x) (sym (g ∙ ap expression_in h)) (expression-found source.sound inside (Name rows) variable-named source.few_arrays)
 
-  pub statement-read : {shape : Shape} {s : StatementShape} → shape ≡ shape_at rows row → s ≡ statementIn shape → StatementAt rows row s
-  statement-read {shape} {s} h g = subst (λ (x : StatementShape). StatementAt rows row x) (sym (g ∙ ap statementIn h)) (statement-found source.sound inside (Name rows) declared-named)
+  pub statement-read : {shape : Shape} {s : StatementShape} → shape ≡ shape_at rows row → s ≡ statement_in shape → StatementAt rows row s
+  statement-read {shape} {s} h g = subst (λ (x : StatementShape). StatementAt rows row x) (sym (g ∙ ap statement_in h)) (statement-found source.sound inside (Name rows) declared-named)
 
-  pub item-read : {shape : Shape} {i : Item} → shape ≡ shape_at rows row → i ≡ itemIn shape → ItemAt rows row (number_at rows row 5) i
-  item-read {shape} {i} h g = subst (λ (x : Item). ItemAt rows row (number_at rows row 5) x) (sym (g ∙ ap itemIn h)) (item-found source.sound inside)
+  pub item-read : {shape : Shape} {i : Item} → shape ≡ shape_at rows row → i ≡ item_in shape → ItemAt rows row (number_at rows row 5) i
+  item-read {shape} {i} h g = subst (λ (x : Item). ItemAt rows row (number_at rows row 5) x) (sym (g ∙ ap item_in h)) (item-found source.sound inside)
 
-  pub arm_read : {shape : Shape} {i : ArmShape} → shape ≡ shape_at rows row → i ≡ armIn shape → ArmAt rows row (number_at rows row 5) i
-  arm_read {shape} {i} h g = subst (λ (x : ArmShape). ArmAt rows row (number_at rows row 5) x) (sym (g ∙ ap armIn h)) (arm-found source.sound inside)
+  pub arm_read : {shape : Shape} {i : ArmShape} → shape ≡ shape_at rows row → i ≡ arm_in shape → ArmAt rows row (number_at rows row 5) i
+  arm_read {shape} {i} h g = subst (λ (x : ArmShape). ArmAt rows row (number_at rows row 5) x) (sym (g ∙ ap arm_in h)) (arm-found source.sound inside)
 
-  pub argument-read : {shape : Shape} {i : ArgumentShape} → shape ≡ shape_at rows row → i ≡ argumentIn shape → ArgumentAt rows row (number_at rows row 5) i
-  argument-read {shape} {i} h g = subst (λ (x : ArgumentShape). ArgumentAt rows row (number_at rows row 5) x) (sym (g ∙ ap argumentIn h)) (argument-found source.sound inside)
+  pub argument-read : {shape : Shape} {i : ArgumentShape} → shape ≡ shape_at rows row → i ≡ argument_in shape → ArgumentAt rows row (number_at rows row 5) i
+  argument-read {shape} {i} h g = subst (λ (x : ArgumentShape). ArgumentAt rows row (number_at rows row 5) x) (sym (g ∙ ap argument_in h)) (argument-found source.sound inside)
 
 -- what a row counts as that is no place
 first-name : {rows : List ℤ} → Name rows 0

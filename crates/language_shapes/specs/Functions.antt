@@ -1,14 +1,14 @@
 -- Functions: what the translator asks of the functions of a table and of its calls, which the check gives.
 use Rattle.std.specs.Prelude.{◌≡◌, Bool, true, false, List, ℕ, ◌<◌, ◌≤◌, ℤ}
-use Rattle.words.specs.Table.{rowCount, number_at}
+use Rattle.words.specs.Table.{row_count, number_at}
 use Rattle.words.specs.Kinds.{kind_at}
 use Rattle.words.specs.declared.Kind.TheVariants.{OfExpression, OfStatement, Definition}
 use Rattle.words.specs.declared.ExpressionKind.TheVariants.{Call}
 use Rattle.words.specs.declared.StatementKind.TheVariants.{Block}
 use Rattle.language.specs.Trees.{Expression, constant, read, minus, not, binary, and, or, comma, conditional, assign, compound, prefix, postfix, call}
-use Rattle.language.specs.Decode.{argumentListAt}
-use Rattle.language.specs.Functions.{functionCount}
-use Rattle.language.specs.Calls.{argumentCount, DefinitionsFirst, CallsInOrder}
+use Rattle.language.specs.Decode.{argument_list_at}
+use Rattle.language.specs.Functions.{function_count}
+use Rattle.language.specs.Calls.{argument_count, DefinitionsFirst, CallsInOrder}
 use Rattle.language.specs.Program.{contents}
 
 -- Whether an expression is a call.
@@ -35,8 +35,8 @@ is_call (call f arguments) = true
 pub record SoundFunctions (rows : List ℤ) : Type 0 where
   pub root : kind_at rows 0 ≡ OfStatement Block
   pub order : CallsInOrder (contents rows)
-  pub in-front : DefinitionsFirst (contents rows)
-  pub body-block : (row : ℕ) → row < rowCount rows → kind_at rows row ≡ Definition → kind_at rows (number_at rows row 3) ≡ OfStatement Block
-  pub defined : (row : ℕ) → row < rowCount rows → kind_at rows row ≡ OfExpression Call → number_at rows row 1 < functionCount (contents rows)
-  pub behind : (row : ℕ) → row < rowCount rows → kind_at rows row ≡ OfExpression Call → number_at rows row 1 < row
-  pub few-arguments : (row : ℕ) → row < rowCount rows → kind_at rows row ≡ OfExpression Call → argumentCount (argumentListAt rows (number_at rows row 2)) ≤ 64
+  pub in_front : DefinitionsFirst (contents rows)
+  pub body-block : (row : ℕ) → row < row_count rows → kind_at rows row ≡ Definition → kind_at rows (number_at rows row 3) ≡ OfStatement Block
+  pub defined : (row : ℕ) → row < row_count rows → kind_at rows row ≡ OfExpression Call → number_at rows row 1 < function_count (contents rows)
+  pub behind : (row : ℕ) → row < row_count rows → kind_at rows row ≡ OfExpression Call → number_at rows row 1 < row
+  pub few_arguments : (row : ℕ) → row < row_count rows → kind_at rows row ≡ OfExpression Call → argument_count (argument_list_at rows (number_at rows row 2)) ≤ 64

@@ -1,7 +1,7 @@
 -- Shapes: what stands at a row, with its links. First the shape of a row of each kind, then the trees that shapes stand for, which are
 -- those of decode, and that the links of a shape lead on.
 use Rattle.std.specs.Prelude.{◌≡◌, List, ℕ, ◌<◌, ℤ, pos}
-use Rattle.words.specs.Table.{rowCount, word_at, number_at}
+use Rattle.words.specs.Table.{row_count, word_at, number_at}
 use Rattle.words.specs.Kinds.{kind_at}
 use Rattle.words.specs.declared.Kind.{Kind}
 use Rattle.words.specs.declared.Kind.TheVariants as group
@@ -13,8 +13,8 @@ use Rattle.words.specs.declared.MarkKind.{MarkKind}
 use Rattle.words.specs.declared.MarkKind.TheVariants as mark
 use Rattle.words.specs.declared.MemberKind.{MemberKind}
 use Rattle.words.specs.declared.MemberKind.TheVariants as member
-use Rattle.language.specs.Trees.{Expression, constant, read, minus, not, binary, and, or, comma, conditional, assign, compound, prefix, postfix, call, Place, variable, element, Arguments, no_more, ◌also◌, Mark as MarkTree, case, default, label, Statement, empty, express, block, while, doWhile, for, switch, break, continue, goto, guardedIf, guardedDo, abort, declare, giveBack, Arms, no_arm, arm, Items, ◌then◌, ◌here◌, define}
-use Rattle.language.specs.Decode.{place_of, expressionAt, argumentsAt, ifOf, blockItems, statementAt, itemsAt, armsAt, listAt, armListAt, part_at, argumentListAt, parameterListAt}
+use Rattle.language.specs.Trees.{Expression, constant, read, minus, not, binary, and, or, comma, conditional, assign, compound, prefix, postfix, call, Place, variable, element, Arguments, no_more, ◌also◌, Mark as MarkTree, case, default, label, Statement, empty, express, block, while, do_while, for, switch, break, continue, goto, guarded_if, guarded_do, abort, declare, give_back, Arms, no_arm, arm, Items, ◌then◌, ◌here◌, define}
+use Rattle.language.specs.Decode.{place_of, expression_at, arguments_at, if_of, block_items, statement_at, items_at, arms_at, list_at, arm_list_at, part_at, argument_list_at, parameter_list_at}
 use Rattle.language_shapes.specs.declared.PlaceShape.{PlaceShape}
 use Rattle.language_shapes.specs.declared.PlaceShape.TheVariants.{Variable, Element}
 use Rattle.language_shapes.specs.declared.OperationShape.{OperationShape}
@@ -38,88 +38,88 @@ use Rattle.language_shapes.specs.declared.ArgumentShape.TheVariants.{Argument, N
 
 -- ---- the shape of a row of a kind; v, a, b, c, d are its fields, v the word of a
 
-abbrev pub expressionShape : ExpressionKind → ℤ → ℕ → ℕ → ℕ → ExpressionShape
-expressionShape expression.Constant v a b c = Number v
-expressionShape expression.Variable v a b c = Read (Variable a)
-expressionShape expression.Element v a b c = Read (Element a b)
-expressionShape expression.Minus v a b c = Operation (Minus a)
-expressionShape expression.Not v a b c = Operation (Not a)
-expressionShape (expression.Binary operator) v a b c = Operation (Binary operator a b)
-expressionShape expression.And v a b c = Choice (And a b)
-expressionShape expression.Or v a b c = Choice (Or a b)
-expressionShape expression.Conditional v a b c = Choice (Conditional a b c)
-expressionShape expression.Comma v a b c = Operation (Comma a b)
-expressionShape expression.Assign v a b c = Operation (Assign a b)
-expressionShape (expression.Compound operator) v a b c = Operation (Compound operator a b)
-expressionShape (expression.Prefix operator) v a b c = Operation (Prefix operator a)
-expressionShape (expression.Postfix operator) v a b c = Operation (Postfix operator a)
-expressionShape expression.Call v a b c = Call a b
+abbrev pub expression_shape : ExpressionKind → ℤ → ℕ → ℕ → ℕ → ExpressionShape
+expression_shape expression.Constant v a b c = Number v
+expression_shape expression.Variable v a b c = Read (Variable a)
+expression_shape expression.Element v a b c = Read (Element a b)
+expression_shape expression.Minus v a b c = Operation (Minus a)
+expression_shape expression.Not v a b c = Operation (Not a)
+expression_shape (expression.Binary operator) v a b c = Operation (Binary operator a b)
+expression_shape expression.And v a b c = Choice (And a b)
+expression_shape expression.Or v a b c = Choice (Or a b)
+expression_shape expression.Conditional v a b c = Choice (Conditional a b c)
+expression_shape expression.Comma v a b c = Operation (Comma a b)
+expression_shape expression.Assign v a b c = Operation (Assign a b)
+expression_shape (expression.Compound operator) v a b c = Operation (Compound operator a b)
+expression_shape (expression.Prefix operator) v a b c = Operation (Prefix operator a)
+expression_shape (expression.Postfix operator) v a b c = Operation (Postfix operator a)
+expression_shape expression.Call v a b c = Call a b
 
-abbrev pub statementShape : StatementKind → ℕ → ℕ → ℕ → ℕ → StatementShape
-statementShape statement.Empty a b c d = Empty
-statementShape statement.Express a b c d = Express a
-statementShape statement.Block a b c d = Block a
-statementShape statement.If a b c d = If a b c
-statementShape statement.While a b c d = While a b
-statementShape statement.Do a b c d = Do a b
-statementShape statement.For a b c d = For a b c d
-statementShape statement.Switch a b c d = Switch a b
-statementShape statement.Break a b c d = Break
-statementShape statement.Continue a b c d = Continue
-statementShape statement.Goto a b c d = Goto a
-statementShape statement.GuardedIf a b c d = GuardedIf a
-statementShape statement.GuardedDo a b c d = GuardedDo a
-statementShape statement.Abort a b c d = Abort
-statementShape statement.Declare a b c d = Declare a b
-statementShape statement.Return a b c d = Return a
+abbrev pub statement_shape : StatementKind → ℕ → ℕ → ℕ → ℕ → StatementShape
+statement_shape statement.Empty a b c d = Empty
+statement_shape statement.Express a b c d = Express a
+statement_shape statement.Block a b c d = Block a
+statement_shape statement.If a b c d = If a b c
+statement_shape statement.While a b c d = While a b
+statement_shape statement.Do a b c d = Do a b
+statement_shape statement.For a b c d = For a b c d
+statement_shape statement.Switch a b c d = Switch a b
+statement_shape statement.Break a b c d = Break
+statement_shape statement.Continue a b c d = Continue
+statement_shape statement.Goto a b c d = Goto a
+statement_shape statement.GuardedIf a b c d = GuardedIf a
+statement_shape statement.GuardedDo a b c d = GuardedDo a
+statement_shape statement.Abort a b c d = Abort
+statement_shape statement.Declare a b c d = Declare a b
+statement_shape statement.Return a b c d = Return a
 
-abbrev pub markShape : MarkKind → ℤ → ℕ → MarkShape
-markShape mark.Case v a = Case v
-markShape mark.Default v a = Default
-markShape mark.Label v a = Label a
+abbrev pub mark_shape : MarkKind → ℤ → ℕ → MarkShape
+mark_shape mark.Case v a = Case v
+mark_shape mark.Default v a = Default
+mark_shape mark.Label v a = Label a
 
-abbrev pub memberShape : MemberKind → ℕ → ℕ → Shape
-memberShape member.Arm a b = OfArm a b
-memberShape member.Argument a b = OfArgument a
+abbrev pub member_shape : MemberKind → ℕ → ℕ → Shape
+member_shape member.Arm a b = OfArm a b
+member_shape member.Argument a b = OfArgument a
 
 -- The same at a row of a table.
 module _ (rows : List ℤ) (row : ℕ) where
-  abbrev pub expressionAs : ExpressionKind → ExpressionShape
-  expressionAs kind = expressionShape kind (word_at rows row 1) (number_at rows row 1) (number_at rows row 2) (number_at rows row 3)
+  abbrev pub expression_as : ExpressionKind → ExpressionShape
+  expression_as kind = expression_shape kind (word_at rows row 1) (number_at rows row 1) (number_at rows row 2) (number_at rows row 3)
 
-  abbrev pub statementAs : StatementKind → StatementShape
-  statementAs kind = statementShape kind (number_at rows row 1) (number_at rows row 2) (number_at rows row 3) (number_at rows row 4)
+  abbrev pub statement_as : StatementKind → StatementShape
+  statement_as kind = statement_shape kind (number_at rows row 1) (number_at rows row 2) (number_at rows row 3) (number_at rows row 4)
 
-  abbrev pub markAs : MarkKind → MarkShape
-  markAs kind = markShape kind (word_at rows row 1) (number_at rows row 1)
+  abbrev pub mark_as : MarkKind → MarkShape
+  mark_as kind = mark_shape kind (word_at rows row 1) (number_at rows row 1)
 
-  unfoldable pub memberAs : MemberKind → Shape
-  memberAs kind = memberShape kind (number_at rows row 1) (number_at rows row 2)
+  unfoldable pub member_as : MemberKind → Shape
+  member_as kind = member_shape kind (number_at rows row 1) (number_at rows row 2)
 
-  unfoldable pub definitionAs : Shape
-  definitionAs = OfDefinition (number_at rows row 1) (number_at rows row 2) (number_at rows row 3)
+  unfoldable pub definition_as : Shape
+  definition_as = OfDefinition (number_at rows row 1) (number_at rows row 2) (number_at rows row 3)
 
-  abbrev pub shapeAs : Kind → Shape
-  shapeAs (group.OfExpression kind) = OfExpression (expressionAs kind)
-  shapeAs (group.OfStatement kind) = OfStatement (statementAs kind)
-  shapeAs (group.OfMark kind) = OfMark (markAs kind)
-  shapeAs (group.OfMember kind) = memberAs kind
-  shapeAs group.Definition = definitionAs
-  shapeAs group.Other = Other
+  abbrev pub shape_as : Kind → Shape
+  shape_as (group.OfExpression kind) = OfExpression (expression_as kind)
+  shape_as (group.OfStatement kind) = OfStatement (statement_as kind)
+  shape_as (group.OfMark kind) = OfMark (mark_as kind)
+  shape_as (group.OfMember kind) = member_as kind
+  shape_as group.Definition = definition_as
+  shape_as group.Other = Other
 
   unfoldable pub shape_at : Shape
-  shape_at = shapeAs (kind_at rows row)
+  shape_at = shape_as (kind_at rows row)
 
 -- ---- what a shape is as an expression, a place, a statement, an item, an arm, an argument
 
-abbrev pub expressionIn : Shape → ExpressionShape
-expressionIn (OfExpression e) = e
-expressionIn (OfStatement s) = Number (pos 0)
-expressionIn (OfMark m) = Number (pos 0)
-expressionIn (OfArm guard body) = Number (pos 0)
-expressionIn (OfArgument e) = Number (pos 0)
-expressionIn (OfDefinition f words body) = Number (pos 0)
-expressionIn Other = Number (pos 0)
+abbrev pub expression_in : Shape → ExpressionShape
+expression_in (OfExpression e) = e
+expression_in (OfStatement s) = Number (pos 0)
+expression_in (OfMark m) = Number (pos 0)
+expression_in (OfArm guard body) = Number (pos 0)
+expression_in (OfArgument e) = Number (pos 0)
+expression_in (OfDefinition f words body) = Number (pos 0)
+expression_in Other = Number (pos 0)
 
 abbrev pub place_in : ExpressionShape → PlaceShape
 place_in (Number v) = Variable 0
@@ -128,48 +128,48 @@ place_in (Operation o) = Variable 0
 place_in (Choice c) = Variable 0
 place_in (Call f arguments) = Variable 0
 
-abbrev pub statementIn : Shape → StatementShape
-statementIn (OfExpression e) = Empty
-statementIn (OfStatement s) = s
-statementIn (OfMark m) = Empty
-statementIn (OfArm guard body) = Empty
-statementIn (OfArgument e) = Empty
-statementIn (OfDefinition f words body) = Empty
-statementIn Other = Empty
+abbrev pub statement_in : Shape → StatementShape
+statement_in (OfExpression e) = Empty
+statement_in (OfStatement s) = s
+statement_in (OfMark m) = Empty
+statement_in (OfArm guard body) = Empty
+statement_in (OfArgument e) = Empty
+statement_in (OfDefinition f words body) = Empty
+statement_in Other = Empty
 
-abbrev pub itemIn : Shape → Item
-itemIn (OfExpression e) = StatementItem
-itemIn (OfStatement s) = StatementItem
-itemIn (OfMark m) = Mark m
-itemIn (OfArm guard body) = StatementItem
-itemIn (OfArgument e) = StatementItem
-itemIn (OfDefinition f words body) = Definition f words body
-itemIn Other = StatementItem
+abbrev pub item_in : Shape → Item
+item_in (OfExpression e) = StatementItem
+item_in (OfStatement s) = StatementItem
+item_in (OfMark m) = Mark m
+item_in (OfArm guard body) = StatementItem
+item_in (OfArgument e) = StatementItem
+item_in (OfDefinition f words body) = Definition f words body
+item_in Other = StatementItem
 
-abbrev pub armIn : Shape → ArmShape
-armIn (OfExpression e) = NoArm
-armIn (OfStatement s) = NoArm
-armIn (OfMark m) = NoArm
-armIn (OfArm guard body) = Arm guard body
-armIn (OfArgument e) = NoArm
-armIn (OfDefinition f words body) = NoArm
-armIn Other = NoArm
+abbrev pub arm_in : Shape → ArmShape
+arm_in (OfExpression e) = NoArm
+arm_in (OfStatement s) = NoArm
+arm_in (OfMark m) = NoArm
+arm_in (OfArm guard body) = Arm guard body
+arm_in (OfArgument e) = NoArm
+arm_in (OfDefinition f words body) = NoArm
+arm_in Other = NoArm
 
-abbrev pub argumentIn : Shape → ArgumentShape
-argumentIn (OfExpression e) = NoArgument
-argumentIn (OfStatement s) = NoArgument
-argumentIn (OfMark m) = NoArgument
-argumentIn (OfArm guard body) = NoArgument
-argumentIn (OfArgument e) = Argument e
-argumentIn (OfDefinition f words body) = NoArgument
-argumentIn Other = NoArgument
+abbrev pub argument_in : Shape → ArgumentShape
+argument_in (OfExpression e) = NoArgument
+argument_in (OfStatement s) = NoArgument
+argument_in (OfMark m) = NoArgument
+argument_in (OfArm guard body) = NoArgument
+argument_in (OfArgument e) = Argument e
+argument_in (OfDefinition f words body) = NoArgument
+argument_in Other = NoArgument
 
 -- ---- links
 
 -- A row of the table behind this row.
 pub record Onward (rows : List ℤ) (row link : ℕ) : Type 0 where
   pub later : row < link
-  pub inside : link < rowCount rows
+  pub inside : link < row_count rows
 
 -- The same, or absent.
 abbrev pub OptionalOnward : List ℤ → ℕ → ℕ → Type 0
@@ -178,76 +178,76 @@ OptionalOnward rows row link = 0 < link → Onward rows row link
 -- The expression of a row of kind 58: a declaration has one, at a later row; a parameter has none, which counts as row 0, that of the constant 0.
 pub record Initial (rows : List ℤ) (row link : ℕ) : Type 0 where
   pub onward : OptionalOnward rows row link
-  pub inside : link < rowCount rows
-  pub absent : link ≡ 0 → expressionAt rows link ≡ constant (pos 0)
+  pub inside : link < row_count rows
+  pub absent : link ≡ 0 → expression_at rows link ≡ constant (pos 0)
 
 module _ (rows : List ℤ) where
   -- ---- the trees
 
-  abbrev pub placeTree : PlaceShape → Place
-  placeTree (Variable i) = variable i
-  placeTree (Element array index) = element array (expressionAt rows index)
+  abbrev pub place_tree : PlaceShape → Place
+  place_tree (Variable i) = variable i
+  place_tree (Element array index) = element array (expression_at rows index)
 
-  abbrev pub operationTree : OperationShape → Expression
-  operationTree (Minus a) = minus (expressionAt rows a)
-  operationTree (Not a) = not (expressionAt rows a)
-  operationTree (Binary operator a b) = binary operator (expressionAt rows a) (expressionAt rows b)
-  operationTree (Comma a b) = comma (expressionAt rows a) (expressionAt rows b)
-  operationTree (Assign p e) = assign (place_of (expressionAt rows p)) (expressionAt rows e)
-  operationTree (Compound operator p e) = compound operator (place_of (expressionAt rows p)) (expressionAt rows e)
-  operationTree (Prefix operator p) = prefix operator (place_of (expressionAt rows p))
-  operationTree (Postfix operator p) = postfix operator (place_of (expressionAt rows p))
+  abbrev pub operation_tree : OperationShape → Expression
+  operation_tree (Minus a) = minus (expression_at rows a)
+  operation_tree (Not a) = not (expression_at rows a)
+  operation_tree (Binary operator a b) = binary operator (expression_at rows a) (expression_at rows b)
+  operation_tree (Comma a b) = comma (expression_at rows a) (expression_at rows b)
+  operation_tree (Assign p e) = assign (place_of (expression_at rows p)) (expression_at rows e)
+  operation_tree (Compound operator p e) = compound operator (place_of (expression_at rows p)) (expression_at rows e)
+  operation_tree (Prefix operator p) = prefix operator (place_of (expression_at rows p))
+  operation_tree (Postfix operator p) = postfix operator (place_of (expression_at rows p))
 
-  abbrev pub choiceTree : ChoiceShape → Expression
-  choiceTree (And a b) = and (expressionAt rows a) (expressionAt rows b)
-  choiceTree (Or a b) = or (expressionAt rows a) (expressionAt rows b)
-  choiceTree (Conditional c a b) = conditional (expressionAt rows c) (expressionAt rows a) (expressionAt rows b)
+  abbrev pub choice_tree : ChoiceShape → Expression
+  choice_tree (And a b) = and (expression_at rows a) (expression_at rows b)
+  choice_tree (Or a b) = or (expression_at rows a) (expression_at rows b)
+  choice_tree (Conditional c a b) = conditional (expression_at rows c) (expression_at rows a) (expression_at rows b)
 
-  abbrev pub expressionTree : ExpressionShape → Expression
-  expressionTree (Number v) = constant v
-  expressionTree (Read p) = read (placeTree p)
-  expressionTree (Operation o) = operationTree o
-  expressionTree (Choice c) = choiceTree c
-  expressionTree (Call f arguments) = call f (argumentListAt rows arguments)
+  abbrev pub expression_tree : ExpressionShape → Expression
+  expression_tree (Number v) = constant v
+  expression_tree (Read p) = read (place_tree p)
+  expression_tree (Operation o) = operation_tree o
+  expression_tree (Choice c) = choice_tree c
+  expression_tree (Call f arguments) = call f (argument_list_at rows arguments)
 
-  abbrev pub statementTree : StatementShape → Statement
-  statementTree Empty = empty
-  statementTree (Express e) = express (expressionAt rows e)
-  statementTree (Block list) = block (listAt rows list)
-  statementTree (If e onTrue onFalse) = ifOf onFalse (expressionAt rows e) (statementAt rows onTrue) (statementAt rows onFalse)
-  statementTree (While e body) = while (expressionAt rows e) (statementAt rows body)
-  statementTree (Do body e) = doWhile (statementAt rows body) (expressionAt rows e)
-  statementTree (For first test action body) = for (part_at rows first) (part_at rows test) (part_at rows action) (statementAt rows body)
-  statementTree (Switch e list) = switch (expressionAt rows e) (listAt rows list)
-  statementTree Break = break
-  statementTree Continue = continue
-  statementTree (Goto l) = goto l
-  statementTree (GuardedIf arms) = guardedIf (armListAt rows arms)
-  statementTree (GuardedDo arms) = guardedDo (armListAt rows arms)
-  statementTree Abort = abort
-  statementTree (Declare i e) = declare i (expressionAt rows e)
-  statementTree (Return value) = giveBack (part_at rows value)
+  abbrev pub statement_tree : StatementShape → Statement
+  statement_tree Empty = empty
+  statement_tree (Express e) = express (expression_at rows e)
+  statement_tree (Block list) = block (list_at rows list)
+  statement_tree (If e on_true on_false) = if_of on_false (expression_at rows e) (statement_at rows on_true) (statement_at rows on_false)
+  statement_tree (While e body) = while (expression_at rows e) (statement_at rows body)
+  statement_tree (Do body e) = do_while (statement_at rows body) (expression_at rows e)
+  statement_tree (For first test action body) = for (part_at rows first) (part_at rows test) (part_at rows action) (statement_at rows body)
+  statement_tree (Switch e list) = switch (expression_at rows e) (list_at rows list)
+  statement_tree Break = break
+  statement_tree Continue = continue
+  statement_tree (Goto l) = goto l
+  statement_tree (GuardedIf arms) = guarded_if (arm_list_at rows arms)
+  statement_tree (GuardedDo arms) = guarded_do (arm_list_at rows arms)
+  statement_tree Abort = abort
+  statement_tree (Declare i e) = declare i (expression_at rows e)
+  statement_tree (Return value) = give_back (part_at rows value)
 
-  abbrev pub markTree : MarkShape → MarkTree
-  markTree (Case v) = case v
-  markTree Default = default
-  markTree (Label l) = label l
+  abbrev pub mark_tree : MarkShape → MarkTree
+  mark_tree (Case v) = case v
+  mark_tree Default = default
+  mark_tree (Label l) = label l
 
   -- The list from an item on: the item, where `own` is its statement, and the list behind it.
-  abbrev pub itemTree : Item → Statement → Items → Items
-  itemTree StatementItem own behind = own then behind
-  itemTree (Mark m) own behind = markTree m here behind
-  itemTree (Definition f words body) own behind = define f (parameterListAt rows words) (blockItems (statementAt rows body)) behind
+  abbrev pub item_tree : Item → Statement → Items → Items
+  item_tree StatementItem own behind = own then behind
+  item_tree (Mark m) own behind = mark_tree m here behind
+  item_tree (Definition f words body) own behind = define f (parameter_list_at rows words) (block_items (statement_at rows body)) behind
 
   -- The arms from an arm on, with the arms behind it.
-  abbrev pub armTree : ArmShape → Arms → Arms
-  armTree (Arm guard body) behind = arm (expressionAt rows guard) (statementAt rows body) behind
-  armTree NoArm behind = no_arm
+  abbrev pub arm_tree : ArmShape → Arms → Arms
+  arm_tree (Arm guard body) behind = arm (expression_at rows guard) (statement_at rows body) behind
+  arm_tree NoArm behind = no_arm
 
   -- The arguments from an argument on, with the arguments behind it.
-  abbrev pub argumentTree : ArgumentShape → Arguments → Arguments
-  argumentTree (Argument e) behind = expressionAt rows e also behind
-  argumentTree NoArgument behind = no_more
+  abbrev pub argument_tree : ArgumentShape → Arguments → Arguments
+  argument_tree (Argument e) behind = expression_at rows e also behind
+  argument_tree NoArgument behind = no_more
 
   module _ (row : ℕ) where
     -- ---- the links lead on
@@ -283,7 +283,7 @@ module _ (rows : List ℤ) where
     StatementOnward name Empty = Unit {0}
     StatementOnward name (Express e) = Onward rows row e
     StatementOnward name (Block list) = OptionalOnward rows row list
-    StatementOnward name (If e onTrue onFalse) = Onward rows row e × Onward rows row onTrue × OptionalOnward rows row onFalse
+    StatementOnward name (If e on_true on_false) = Onward rows row e × Onward rows row on_true × OptionalOnward rows row on_false
     StatementOnward name (While e body) = Onward rows row e × Onward rows row body
     StatementOnward name (Do body e) = Onward rows row body × Onward rows row e
     StatementOnward name (For first test action body) = OptionalOnward rows row first × OptionalOnward rows row test × OptionalOnward rows row action × Onward rows row body
@@ -314,29 +314,29 @@ module _ (rows : List ℤ) where
     -- ---- what stands at a row
 
     pub record PlaceWithin (name : ℕ → Type 0) (arrays : ℕ) (place : PlaceShape) : Type 0 where
-      pub is : place_of (expressionAt rows row) ≡ placeTree place
+      pub is : place_of (expression_at rows row) ≡ place_tree place
       pub onward : PlaceOnward name arrays place
 
     pub record ExpressionWithin (name : ℕ → Type 0) (arrays : ℕ) (shape : ExpressionShape) : Type 0 where
-      pub is : expressionAt rows row ≡ expressionTree shape
+      pub is : expression_at rows row ≡ expression_tree shape
       pub onward : ExpressionOnward name arrays shape
 
     pub record StatementWithin (name : ℕ → Type 0) (shape : StatementShape) : Type 0 where
-      pub is : statementAt rows row ≡ statementTree shape
+      pub is : statement_at rows row ≡ statement_tree shape
       pub onward : StatementOnward name shape
 
     -- `next` is the row behind.
     pub record ItemAt (next : ℕ) (item : Item) : Type 0 where
-      pub is : itemsAt rows row ≡ itemTree item (statementAt rows row) (listAt rows next)
+      pub is : items_at rows row ≡ item_tree item (statement_at rows row) (list_at rows next)
       pub onward : OptionalOnward rows row next
       pub parts : ItemOnward item
 
     pub record ArmAt (next : ℕ) (shape : ArmShape) : Type 0 where
-      pub is : armsAt rows row ≡ armTree shape (armListAt rows next)
+      pub is : arms_at rows row ≡ arm_tree shape (arm_list_at rows next)
       pub onward : ArmOnward shape
       pub behind : OptionalOnward rows row next
 
     pub record ArgumentAt (next : ℕ) (shape : ArgumentShape) : Type 0 where
-      pub is : argumentsAt rows row ≡ argumentTree shape (argumentListAt rows next)
+      pub is : arguments_at rows row ≡ argument_tree shape (argument_list_at rows next)
       pub onward : ArgumentOnward shape
       pub behind : OptionalOnward rows row next

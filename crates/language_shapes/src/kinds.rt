@@ -1,6 +1,6 @@
 // The shape of a row of a kind: what its fields are, by the table of kinds.
 ghost use Rattle.std.specs.Prelude.{◌≡◌, ◌+◌, ◌*◌, ◌<◌, length};
-ghost use Rattle.language_shapes.specs.Shapes.{expressionAs, statementAs, markAs, definitionAs, memberAs};
+ghost use Rattle.language_shapes.specs.Shapes.{expression_as, statement_as, mark_as, definition_as, member_as};
 
 use super::{
     ChoiceShape, ExpressionShape, MarkShape, OperationShape, PlaceShape, Shape, StatementShape,
@@ -10,7 +10,7 @@ use words::{ExpressionKind, MarkKind, MemberKind, StatementKind};
 
 pub fn expression_shape(rows: &[i32], row: usize, kind: ExpressionKind) -> ExpressionShape
     requires { 6 * row + 5 < length rows.now }
-    ensures { result ≡ expressionAs rows.now row kind }
+    ensures { result ≡ expression_as rows.now row kind }
 {
     let a = number_at(rows, row, 1);
     let b = number_at(rows, row, 2);
@@ -44,7 +44,7 @@ pub fn expression_shape(rows: &[i32], row: usize, kind: ExpressionKind) -> Expre
 
 pub fn statement_shape(rows: &[i32], row: usize, kind: StatementKind) -> StatementShape
     requires { 6 * row + 5 < length rows.now }
-    ensures { result ≡ statementAs rows.now row kind }
+    ensures { result ≡ statement_as rows.now row kind }
 {
     let a = number_at(rows, row, 1);
     let b = number_at(rows, row, 2);
@@ -72,7 +72,7 @@ pub fn statement_shape(rows: &[i32], row: usize, kind: StatementKind) -> Stateme
 
 pub fn mark_shape(rows: &[i32], row: usize, kind: MarkKind) -> MarkShape
     requires { 6 * row + 5 < length rows.now }
-    ensures { result ≡ markAs rows.now row kind }
+    ensures { result ≡ mark_as rows.now row kind }
 {
     let a = number_at(rows, row, 1);
     match kind {
@@ -84,7 +84,7 @@ pub fn mark_shape(rows: &[i32], row: usize, kind: MarkKind) -> MarkShape
 
 pub fn definition_shape(rows: &[i32], row: usize) -> Shape
     requires { 6 * row + 5 < length rows.now }
-    ensures { result ≡ definitionAs rows.now row }
+    ensures { result ≡ definition_as rows.now row }
 {
     let number = number_at(rows, row, 1);
     let parameters = number_at(rows, row, 2);
@@ -94,7 +94,7 @@ pub fn definition_shape(rows: &[i32], row: usize) -> Shape
 
 pub fn member_shape(rows: &[i32], row: usize, kind: MemberKind) -> Shape
     requires { 6 * row + 5 < length rows.now }
-    ensures { result ≡ memberAs rows.now row kind }
+    ensures { result ≡ member_as rows.now row kind }
 {
     let a = number_at(rows, row, 1);
     let b = number_at(rows, row, 2);

@@ -1,19 +1,21 @@
 // Shapes: what stands at a row, with its links, read once from the row's words. A new kind is a variant of its group here, and a line
 // of the functions that read it.
+#![tactic(auto)]
+
 use words::Operator;
 
 pub mod kinds; // kinds.rt: the shape of a row of a kind
 pub mod rows; // rows.rt: the shape of the row, as an expression, a place, a statement, an item, an arm or an argument
 
 // A place: the number of a variable; or the number of an array and the row of the index.
-#[derive(Drop)]
+#[derive(Clone, Copy)]
 pub enum PlaceShape {
     Variable(usize),
     Element(usize, usize),
 }
 
 // An expression that works out its operands and then does one thing with their values. A link to a place is the place's row.
-#[derive(Drop)]
+#[derive(Clone, Copy)]
 pub enum OperationShape {
     Minus(usize),
     Not(usize),
@@ -26,7 +28,7 @@ pub enum OperationShape {
 }
 
 // An expression that chooses which of its operands it works out.
-#[derive(Drop)]
+#[derive(Clone, Copy)]
 pub enum ChoiceShape {
     And(usize, usize),
     Or(usize, usize),
@@ -34,7 +36,7 @@ pub enum ChoiceShape {
 }
 
 // A call with the number of its function and the row of its first argument.
-#[derive(Drop)]
+#[derive(Clone, Copy)]
 pub enum ExpressionShape {
     Number(i32),
     Read(PlaceShape),
@@ -44,7 +46,7 @@ pub enum ExpressionShape {
 }
 
 // A statement with its links; 0 is absent. A declaration with the store word of its object.
-#[derive(Drop)]
+#[derive(Clone, Copy)]
 pub enum StatementShape {
     Empty,
     Express(usize),
@@ -64,7 +66,7 @@ pub enum StatementShape {
     Return(usize),
 }
 
-#[derive(Drop)]
+#[derive(Clone, Copy)]
 pub enum MarkShape {
     Case(i32),
     Default,
@@ -73,7 +75,7 @@ pub enum MarkShape {
 
 // What stands at a row, by the group of its kind; an arm with the rows of its guard and of its block, an argument with that of its expression,
 // a definition with its number and the rows of its first parameter and of its block.
-#[derive(Drop)]
+#[derive(Clone, Copy)]
 pub enum Shape {
     OfExpression(ExpressionShape),
     OfStatement(StatementShape),
@@ -85,7 +87,7 @@ pub enum Shape {
 }
 
 // What a row is as an item of a list.
-#[derive(Drop)]
+#[derive(Clone, Copy)]
 pub enum Item {
     Statement,
     Mark(MarkShape),
@@ -93,14 +95,14 @@ pub enum Item {
 }
 
 // What a row is among arms: the rows of its guard and of its block.
-#[derive(Drop)]
+#[derive(Clone, Copy)]
 pub enum ArmShape {
     Arm(usize, usize),
     NoArm,
 }
 
 // What a row is among arguments: the row of its expression.
-#[derive(Drop)]
+#[derive(Clone, Copy)]
 pub enum ArgumentShape {
     Argument(usize),
     NoArgument,

@@ -1,9 +1,9 @@
 // What stands at a row. A row of another group counts as the constant 0, as an empty statement, as a statement among the items, and ends
 // the arms and the arguments.
 ghost use Rattle.std.specs.Prelude.{◌≡◌, ◌+◌, ◌*◌, ◌<◌, length};
-ghost use Rattle.words.specs.Table.{rowCount, number_at};
+ghost use Rattle.words.specs.Table.{row_count, number_at};
 ghost use Rattle.language_shapes.specs.Source.{Source, PlaceAt, ExpressionAt, StatementAt};
-ghost use Rattle.language_shapes.specs.Shapes.{shape_at, expressionIn, place_in, statementIn, itemIn, armIn, argumentIn, ItemAt, ArmAt, ArgumentAt};
+ghost use Rattle.language_shapes.specs.Shapes.{shape_at, expression_in, place_in, statement_in, item_in, arm_in, argument_in, ItemAt, ArmAt, ArgumentAt};
 
 use super::kinds::{definition_shape, expression_shape, mark_shape, member_shape, statement_shape};
 use super::{ArgumentShape, ArmShape, ExpressionShape, Item, PlaceShape, Shape, StatementShape};
@@ -26,7 +26,7 @@ pub fn shape_at(rows: &[i32], row: usize) -> Shape
 }
 
 fn expression_of(shape: Shape) -> ExpressionShape
-    ensures { result ≡ expressionIn shape }
+    ensures { result ≡ expression_in shape }
 {
     match shape {
         Shape::OfExpression(expression) => expression,
@@ -53,7 +53,7 @@ fn place_of(expression: ExpressionShape) -> PlaceShape
 }
 
 fn statement_of(shape: Shape) -> StatementShape
-    ensures { result ≡ statementIn shape }
+    ensures { result ≡ statement_in shape }
 {
     match shape {
         Shape::OfExpression(_) => StatementShape::Empty,
@@ -67,7 +67,7 @@ fn statement_of(shape: Shape) -> StatementShape
 }
 
 fn item_of(shape: Shape) -> Item
-    ensures { result ≡ itemIn shape }
+    ensures { result ≡ item_in shape }
 {
     match shape {
         Shape::OfExpression(_) => Item::Statement,
@@ -81,7 +81,7 @@ fn item_of(shape: Shape) -> Item
 }
 
 fn arm_of(shape: Shape) -> ArmShape
-    ensures { result ≡ armIn shape }
+    ensures { result ≡ arm_in shape }
 {
     match shape {
         Shape::OfExpression(_) => ArmShape::NoArm,
@@ -95,7 +95,7 @@ fn arm_of(shape: Shape) -> ArmShape
 }
 
 fn argument_of(shape: Shape) -> ArgumentShape
-    ensures { result ≡ argumentIn shape }
+    ensures { result ≡ argument_in shape }
 {
     match shape {
         Shape::OfExpression(_) => ArgumentShape::NoArgument,
@@ -109,42 +109,42 @@ fn argument_of(shape: Shape) -> ArgumentShape
 }
 
 pub fn expression_at(rows: &[i32], row: usize) -> ExpressionShape
-    requires { Source rows.now × (row < rowCount rows.now) }
+    requires { Source rows.now × (row < row_count rows.now) }
     ensures { ExpressionAt rows.now row result }
 {
     expression_of(shape_at(rows, row))
 }
 
 pub fn place_at(rows: &[i32], row: usize) -> PlaceShape
-    requires { Source rows.now × (row < rowCount rows.now) }
+    requires { Source rows.now × (row < row_count rows.now) }
     ensures { PlaceAt rows.now row result }
 {
     place_of(expression_at(rows, row))
 }
 
 pub fn statement_at(rows: &[i32], row: usize) -> StatementShape
-    requires { Source rows.now × (row < rowCount rows.now) }
+    requires { Source rows.now × (row < row_count rows.now) }
     ensures { StatementAt rows.now row result }
 {
     statement_of(shape_at(rows, row))
 }
 
 pub fn item_at(rows: &[i32], row: usize) -> Item
-    requires { Source rows.now × (row < rowCount rows.now) }
+    requires { Source rows.now × (row < row_count rows.now) }
     ensures { ItemAt rows.now row (number_at rows.now row 5) result }
 {
     item_of(shape_at(rows, row))
 }
 
 pub fn arm_at(rows: &[i32], row: usize) -> ArmShape
-    requires { Source rows.now × (row < rowCount rows.now) }
+    requires { Source rows.now × (row < row_count rows.now) }
     ensures { ArmAt rows.now row (number_at rows.now row 5) result }
 {
     arm_of(shape_at(rows, row))
 }
 
 pub fn argument_at(rows: &[i32], row: usize) -> ArgumentShape
-    requires { Source rows.now × (row < rowCount rows.now) }
+    requires { Source rows.now × (row < row_count rows.now) }
     ensures { ArgumentAt rows.now row (number_at rows.now row 5) result }
 {
     argument_of(shape_at(rows, row))

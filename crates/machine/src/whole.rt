@@ -1,14 +1,14 @@
 // The run of a program.
 ghost use Rattle.std.specs.Prelude.{◌≡◌, map, ◌+◌, ◌≤◌, length};
-ghost use Rattle.words.specs.Word.{natural as naturalOf};
+ghost use Rattle.words.specs.Word.{natural as natural_of};
 ghost use Rattle.words.specs.Layout.{sum};
 ghost use Rattle.words.specs.declared.Form.TheVariants.{Source, Kernel};
-ghost use Rattle.computation.specs.Remaining.{spend};
-ghost use Rattle.language.specs.Functions.{functionCount};
-ghost use Rattle.language.specs.Program.{contents, runTable};
-ghost use Rattle.machine_operations.specs.Bounds.{boundsFrom};
+ghost use Rattle.computation.proofs.Remaining.{spend};
+ghost use Rattle.language.specs.Functions.{function_count};
+ghost use Rattle.language.specs.Program.{contents, run_table};
+ghost use Rattle.machine_operations.specs.Bounds.{bounds_from};
 ghost use Rattle.machine_flows.specs.Flows.{ran};
-ghost use Rattle.machine.specs.Whole.{endingOfAnswer, finishedOf, whole_at, Runnable, Startable, RoomFor};
+ghost use Rattle.machine.specs.Whole.{ending_of_answer, finished_of, whole_at, Runnable, Startable, RoomFor};
 
 use machine_executor::cycle::exec;
 use machine_flows::functions::{fill_functions, function_count};
@@ -21,8 +21,8 @@ use words_endings::fault_numbered;
 
 // The bounds of the arrays: where each begins, and where the last one ends.
 pub fn fill_bounds(lengths: &[i32], variables: usize, bounds: &mut [usize])
-    requires { (length bounds.old ≡ length lengths.now + 1) × (variables + sum (map naturalOf lengths.now) ≤ 8192) }
-    ensures { bounds.new ≡ boundsFrom variables (map naturalOf lengths.now) }
+    requires { (length bounds.old ≡ length lengths.now + 1) × (variables + sum (map natural_of lengths.now) ≤ 8192) }
+    ensures { bounds.new ≡ bounds_from variables (map natural_of lengths.now) }
 {
     let mut total = variables;
     let mut i: usize = 0;
@@ -36,7 +36,7 @@ pub fn fill_bounds(lengths: &[i32], variables: usize, bounds: &mut [usize])
 
 // Why the run with this answer ended.
 fn ending_of(answer: i64) -> Ending
-    ensures { result ≡ endingOfAnswer answer }
+    ensures { result ≡ ending_of_answer answer }
 {
     let ended = operand(answer);
     let Operand::Halted = ended else {
@@ -77,7 +77,7 @@ fn run_in(
     room: &mut [usize],
 ) -> RunAnswer
     requires { RoomFor form header.now rows.now store.old functions (length room.old) }
-    ensures { finishedOf result store.new ≡ runTable form header.now rows.now budget store.old }
+    ensures { finished_of result store.new ≡ run_table form header.now rows.now budget store.old }
 {
     let first = leading(form);
     let n = header.len() - first + 1 + functions;
@@ -106,8 +106,8 @@ fn run_few(
     budget: u32,
     functions: usize,
 ) -> RunAnswer
-    requires { Runnable form header.now rows.now store.old × (functions ≡ functionCount (contents rows.now)) × (functions ≤ 64) }
-    ensures { finishedOf result store.new ≡ runTable form header.now rows.now budget store.old }
+    requires { Runnable form header.now rows.now store.old × (functions ≡ function_count (contents rows.now)) × (functions ≤ 64) }
+    ensures { finished_of result store.new ≡ run_table form header.now rows.now budget store.old }
 {
     let mut room: [usize; 97] = [0; 97];
     run_in(form, header, rows, store, budget, functions, &mut room)
@@ -122,8 +122,8 @@ fn run_some(
     budget: u32,
     functions: usize,
 ) -> RunAnswer
-    requires { Runnable form header.now rows.now store.old × (functions ≡ functionCount (contents rows.now)) × (functions ≤ 2048) }
-    ensures { finishedOf result store.new ≡ runTable form header.now rows.now budget store.old }
+    requires { Runnable form header.now rows.now store.old × (functions ≡ function_count (contents rows.now)) × (functions ≤ 2048) }
+    ensures { finished_of result store.new ≡ run_table form header.now rows.now budget store.old }
 {
     let mut room: [usize; 2081] = [0; 2081];
     run_in(form, header, rows, store, budget, functions, &mut room)
@@ -138,8 +138,8 @@ fn run_many(
     budget: u32,
     functions: usize,
 ) -> RunAnswer
-    requires { Runnable form header.now rows.now store.old × (functions ≡ functionCount (contents rows.now)) × (functions ≤ 40980) }
-    ensures { finishedOf result store.new ≡ runTable form header.now rows.now budget store.old }
+    requires { Runnable form header.now rows.now store.old × (functions ≡ function_count (contents rows.now)) × (functions ≤ 40980) }
+    ensures { finished_of result store.new ≡ run_table form header.now rows.now budget store.old }
 {
     let mut room: [usize; 41013] = [0; 41013];
     run_in(form, header, rows, store, budget, functions, &mut room)
@@ -154,8 +154,8 @@ fn run_counted(
     budget: u32,
     functions: usize,
 ) -> RunAnswer
-    requires { Runnable form header.now rows.now store.old × (functions ≡ functionCount (contents rows.now)) × (functions ≤ 2048) }
-    ensures { finishedOf result store.new ≡ runTable form header.now rows.now budget store.old }
+    requires { Runnable form header.now rows.now store.old × (functions ≡ function_count (contents rows.now)) × (functions ≤ 2048) }
+    ensures { finished_of result store.new ≡ run_table form header.now rows.now budget store.old }
 {
     if functions <= 64 {
         return run_few(form, header, rows, store, budget, functions);
@@ -166,7 +166,7 @@ fn run_counted(
 // The run of a source table. It stands apart from the kernel's, so that the largest room is in no frame of it.
 pub fn run_source_table(header: &[i32], rows: &[i32], store: &mut [i32], budget: u32) -> RunAnswer
     requires { Runnable Source header.now rows.now store.old }
-    ensures { finishedOf result store.new ≡ runTable Source header.now rows.now budget store.old }
+    ensures { finished_of result store.new ≡ run_table Source header.now rows.now budget store.old }
 {
     let functions = function_count(rows);
     run_counted(Form::Source, header, rows, store, budget, functions)
@@ -175,7 +175,7 @@ pub fn run_source_table(header: &[i32], rows: &[i32], store: &mut [i32], budget:
 // The run of a kernel table.
 pub fn run_kernel_table(header: &[i32], rows: &[i32], store: &mut [i32], budget: u32) -> RunAnswer
     requires { Runnable Kernel header.now rows.now store.old }
-    ensures { finishedOf result store.new ≡ runTable Kernel header.now rows.now budget store.old }
+    ensures { finished_of result store.new ≡ run_table Kernel header.now rows.now budget store.old }
 {
     let functions = function_count(rows);
     if functions <= 2048 {

@@ -10,14 +10,14 @@ ghost use Rattle.words.specs.Word.{pick};
 ghost use Rattle.words.specs.declared.Kind.TheVariants.{OfExpression, OfStatement};
 ghost use Rattle.words.specs.declared.ExpressionKind.TheVariants.{Element, Binary, And, Or, Conditional, Comma, Assign, Compound, Prefix, Postfix, Call};
 ghost use Rattle.words.specs.declared.StatementKind.TheVariants.{Express, If, Switch, GuardedIf, GuardedDo};
-ghost use Rattle.computation.specs.Remaining.{spend};
+ghost use Rattle.computation.proofs.Remaining.{spend};
 ghost use Rattle.machine_operations.specs.Answers.{answered, placed};
 ghost use Rattle.machine_operations.specs.Ready.{Ready, ReadyPlace, Entered};
-ghost use Rattle.machine_operations.specs.Rows.{value_at, evaluateAt, placeAt, locateAt};
+ghost use Rattle.machine_operations.specs.Rows.{value_at, evaluate_at, place_at, locate_at};
 ghost use Rattle.machine_flows.specs.Flows.{ran, turned};
 ghost use Rattle.machine_executor.specs.Arms.{ReadyArms, Chooses};
 ghost use Rattle.machine_executor.specs.Calls.{bound_at, ReadyBind};
-ghost use Rattle.machine_executor.specs.Rows.{partOr, performAt, execAt, item_at, itemsFrom, roundAt, roundsAt, ReadyRounds};
+ghost use Rattle.machine_executor.specs.Rows.{part_or, perform_at, exec_at, item_at, items_from, round_at, rounds_at, ReadyRounds};
 
 use arithmetic::{bit, is_true};
 use machine_flows::calls::{argument_count, row_behind, store_parameter};
@@ -38,6 +38,7 @@ use words::table::{number_at, word_at};
 use words_kinds::operator_of;
 
 // The value of the expression at a row. Constants and variables, half of all rows entered, are taken here.
+#[cycle(run)]
 pub fn eval(rows: &[i32], bounds: &[usize], row: usize, store: &mut [i32], left: &mut u32) -> i64
     requires { Ready rows.now bounds.now (length store.old) row }
     ensures { answered result left.new store.new ≡ spend (value_at rows.now bounds.now row) left.old store.old }
@@ -61,9 +62,10 @@ pub fn eval(rows: &[i32], bounds: &[usize], row: usize, store: &mut [i32], left:
 // most frequent ones, are told first, so that the compiler builds their operations in. A row that is no expression has the value 0.
 // `compute` has two callers, `eval` and `express`, so that it stays a function of the compiled code, and the short `eval` is built into
 // the functions that call it.
+#[cycle(run)]
 fn compute(rows: &[i32], bounds: &[usize], row: usize, store: &mut [i32], left: &mut u32) -> i64
     requires { Ready rows.now bounds.now (length store.old) row }
-    ensures { answered result left.new store.new ≡ spend (evaluateAt rows.now bounds.now row) left.old store.old }
+    ensures { answered result left.new store.new ≡ spend (evaluate_at rows.now bounds.now row) left.old store.old }
 {
     let number = number_at(rows, row, 0);
     if is_binary(number) {
@@ -111,9 +113,10 @@ fn compute(rows: &[i32], bounds: &[usize], row: usize, store: &mut [i32], left: 
 }
 
 // An element's row, entered: the index, then the bounds test.
+#[cycle(run)]
 fn locate(rows: &[i32], bounds: &[usize], row: usize, store: &mut [i32], left: &mut u32) -> i64
     requires { Entered rows.now bounds.now (length store.old) row (OfExpression Element) }
-    ensures { placed result left.new store.new ≡ spend (locateAt rows.now bounds.now row) left.old store.old }
+    ensures { placed result left.new store.new ≡ spend (locate_at rows.now bounds.now row) left.old store.old }
 {
     let answer = eval(&*rows, &*bounds, link_at(rows, row, 2), store, left);
     let index = operand(answer);
@@ -124,9 +127,10 @@ fn locate(rows: &[i32], bounds: &[usize], row: usize, store: &mut [i32], left: &
 }
 
 // The store position of the place at a row.
+#[cycle(run)]
 fn place(rows: &[i32], bounds: &[usize], row: usize, store: &mut [i32], left: &mut u32) -> i64
     requires { ReadyPlace rows.now bounds.now (length store.old) row }
-    ensures { placed result left.new store.new ≡ spend (placeAt rows.now bounds.now row) left.old store.old }
+    ensures { placed result left.new store.new ≡ spend (place_at rows.now bounds.now row) left.old store.old }
 {
     let n = *left;
     if n == 0 {
@@ -141,6 +145,7 @@ fn place(rows: &[i32], bounds: &[usize], row: usize, store: &mut [i32], left: &m
 }
 
 // Kinds 6 to 16: "right operand, then left, then the operation".
+#[cycle(run)]
 fn binary(
     rows: &[i32],
     bounds: &[usize],
@@ -150,7 +155,7 @@ fn binary(
     left: &mut u32,
 ) -> i64
     requires { Entered rows.now bounds.now (length store.old) row (OfExpression (Binary operator)) }
-    ensures { answered result left.new store.new ≡ spend (evaluateAt rows.now bounds.now row) left.old store.old }
+    ensures { answered result left.new store.new ≡ spend (evaluate_at rows.now bounds.now row) left.old store.old }
 {
     let right_answer = eval(&*rows, &*bounds, link_at(rows, row, 2), store, left);
     let second = operand(right_answer);
@@ -166,6 +171,7 @@ fn binary(
 }
 
 // And, or: the left operand decides where it is false, or true.
+#[cycle(run)]
 fn logical(
     rows: &[i32],
     bounds: &[usize],
@@ -175,7 +181,7 @@ fn logical(
     left: &mut u32,
 ) -> i64
     requires { Entered rows.now bounds.now (length store.old) row (OfExpression (pick decided Or And)) }
-    ensures { answered result left.new store.new ≡ spend (evaluateAt rows.now bounds.now row) left.old store.old }
+    ensures { answered result left.new store.new ≡ spend (evaluate_at rows.now bounds.now row) left.old store.old }
 {
     let left_answer = eval(&*rows, &*bounds, link_at(rows, row, 1), store, left);
     let first = operand(left_answer);
@@ -194,9 +200,10 @@ fn logical(
 }
 
 // Kind 19: the test, then one branch.
+#[cycle(run)]
 fn ternary(rows: &[i32], bounds: &[usize], row: usize, store: &mut [i32], left: &mut u32) -> i64
     requires { Entered rows.now bounds.now (length store.old) row (OfExpression Conditional) }
-    ensures { answered result left.new store.new ≡ spend (evaluateAt rows.now bounds.now row) left.old store.old }
+    ensures { answered result left.new store.new ≡ spend (evaluate_at rows.now bounds.now row) left.old store.old }
 {
     let answer = eval(&*rows, &*bounds, link_at(rows, row, 1), store, left);
     let test = operand(answer);
@@ -209,9 +216,10 @@ fn ternary(rows: &[i32], bounds: &[usize], row: usize, store: &mut [i32], left: 
     eval(&*rows, &*bounds, link_at(rows, row, 3), store, left)
 }
 
+#[cycle(run)]
 fn comma(rows: &[i32], bounds: &[usize], row: usize, store: &mut [i32], left: &mut u32) -> i64
     requires { Entered rows.now bounds.now (length store.old) row (OfExpression Comma) }
-    ensures { answered result left.new store.new ≡ spend (evaluateAt rows.now bounds.now row) left.old store.old }
+    ensures { answered result left.new store.new ≡ spend (evaluate_at rows.now bounds.now row) left.old store.old }
 {
     let answer = eval(&*rows, &*bounds, link_at(rows, row, 1), store, left);
     let first = operand(answer);
@@ -222,9 +230,10 @@ fn comma(rows: &[i32], bounds: &[usize], row: usize, store: &mut [i32], left: &m
 }
 
 // "Value, then the place's index, then the bounds test, then the store. The result is the value stored."
+#[cycle(run)]
 fn assign(rows: &[i32], bounds: &[usize], row: usize, store: &mut [i32], left: &mut u32) -> i64
     requires { Entered rows.now bounds.now (length store.old) row (OfExpression Assign) }
-    ensures { answered result left.new store.new ≡ spend (evaluateAt rows.now bounds.now row) left.old store.old }
+    ensures { answered result left.new store.new ≡ spend (evaluate_at rows.now bounds.now row) left.old store.old }
 {
     let value_answer = eval(&*rows, &*bounds, link_at(rows, row, 2), store, left);
     let second = operand(value_answer);
@@ -241,6 +250,7 @@ fn assign(rows: &[i32], bounds: &[usize], row: usize, store: &mut [i32], left: &
 }
 
 // Kinds 22 to 26: "value, index, bounds test, read, operate, store".
+#[cycle(run)]
 fn compound(
     rows: &[i32],
     bounds: &[usize],
@@ -250,7 +260,7 @@ fn compound(
     left: &mut u32,
 ) -> i64
     requires { Entered rows.now bounds.now (length store.old) row (OfExpression (Compound operator)) }
-    ensures { answered result left.new store.new ≡ spend (evaluateAt rows.now bounds.now row) left.old store.old }
+    ensures { answered result left.new store.new ≡ spend (evaluate_at rows.now bounds.now row) left.old store.old }
 {
     let value_answer = eval(&*rows, &*bounds, link_at(rows, row, 2), store, left);
     let second = operand(value_answer);
@@ -266,6 +276,7 @@ fn compound(
 }
 
 // Kinds 27 to 30: by 1, with the new value as the result, or the old one.
+#[cycle(run)]
 fn increment(
     rows: &[i32],
     bounds: &[usize],
@@ -276,7 +287,7 @@ fn increment(
     left: &mut u32,
 ) -> i64
     requires { Entered rows.now bounds.now (length store.old) row (OfExpression (pick old (Postfix operator) (Prefix operator))) }
-    ensures { answered result left.new store.new ≡ spend (evaluateAt rows.now bounds.now row) left.old store.old }
+    ensures { answered result left.new store.new ≡ spend (evaluate_at rows.now bounds.now row) left.old store.old }
 {
     let place_answer = place(&*rows, &*bounds, link_at(rows, row, 1), store, left);
     let first = position(place_answer);
@@ -288,9 +299,10 @@ fn increment(
 
 // A call's row, entered: the arguments and the parameters, then the function's block. `bind` has returned by then, so that none of its frames is
 // on the stack while the block runs.
+#[cycle(run)]
 fn call(rows: &[i32], bounds: &[usize], row: usize, store: &mut [i32], left: &mut u32) -> i64
     requires { Entered rows.now bounds.now (length store.old) row (OfExpression Call) }
-    ensures { answered result left.new store.new ≡ spend (evaluateAt rows.now bounds.now row) left.old store.old }
+    ensures { answered result left.new store.new ≡ spend (evaluate_at rows.now bounds.now row) left.old store.old }
 {
     let definition = function_row(bounds, number_at(rows, row, 1));
     let first = link_at(rows, row, 2);
@@ -307,6 +319,7 @@ fn call(rows: &[i32], bounds: &[usize], row: usize, store: &mut [i32], left: &mu
 // The first `count` arguments of a call, from the last to the first, and then as many of its function's parameters: "all before any parameter is
 // stored". Each value waits in a frame of this function, which calls itself and so stays a function of the compiled code: an array would be in
 // the frame of `compute`, for each call under way.
+#[cycle(run)]
 fn bind(
     rows: &[i32],
     bounds: &[usize],
@@ -344,6 +357,7 @@ fn bind(
 }
 
 // A part of a for, or the value of a return; an absent one has this value.
+#[cycle(run)]
 fn part(
     rows: &[i32],
     bounds: &[usize],
@@ -353,7 +367,7 @@ fn part(
     left: &mut u32,
 ) -> i64
     requires { Ready rows.now bounds.now (length store.old) row }
-    ensures { answered result left.new store.new ≡ spend (partOr absent rows.now bounds.now row) left.old store.old }
+    ensures { answered result left.new store.new ≡ spend (part_or absent rows.now bounds.now row) left.old store.old }
 {
     if row == 0 {
         return absent as i64;
@@ -362,9 +376,10 @@ fn part(
 }
 
 // An expression statement's row, entered: its expression, which is seldom a constant or a variable.
+#[cycle(run)]
 fn express(rows: &[i32], bounds: &[usize], row: usize, store: &mut [i32], left: &mut u32) -> i64
     requires { Entered rows.now bounds.now (length store.old) row (OfStatement Express) }
-    ensures { ran result left.new store.new ≡ spend (performAt rows.now bounds.now row) left.old store.old }
+    ensures { ran result left.new store.new ≡ spend (perform_at rows.now bounds.now row) left.old store.old }
 {
     let n = *left;
     if n == 0 {
@@ -375,9 +390,10 @@ fn express(rows: &[i32], bounds: &[usize], row: usize, store: &mut [i32], left: 
 }
 
 // The statement at a row.
+#[cycle(run)]
 pub fn exec(rows: &[i32], bounds: &[usize], row: usize, store: &mut [i32], left: &mut u32) -> i64
     requires { Ready rows.now bounds.now (length store.old) row }
-    ensures { ran result left.new store.new ≡ spend (execAt rows.now bounds.now row) left.old store.old }
+    ensures { ran result left.new store.new ≡ spend (exec_at rows.now bounds.now row) left.old store.old }
 {
     let n = *left;
     if n == 0 {
@@ -388,6 +404,7 @@ pub fn exec(rows: &[i32], bounds: &[usize], row: usize, store: &mut [i32], left:
 }
 
 // The item of a list at a row: a definition is passed over, "uncounted"; else the statement there.
+#[cycle(run)]
 fn item(rows: &[i32], bounds: &[usize], row: usize, store: &mut [i32], left: &mut u32) -> i64
     requires { Ready rows.now bounds.now (length store.old) row }
     ensures { ran result left.new store.new ≡ spend (item_at rows.now bounds.now row) left.old store.old }
@@ -406,9 +423,10 @@ fn item(rows: &[i32], bounds: &[usize], row: usize, store: &mut [i32], left: &mu
 
 // A row that was entered: the list of a block, or what `perform` does. It has two callers and is the one caller of `perform`, which is built into
 // it with both of its own: so a block among the items of a list takes one frame, of 144 bytes, and `rounds`, with `turn`, another.
+#[cycle(run)]
 fn entry(rows: &[i32], bounds: &[usize], row: usize, store: &mut [i32], left: &mut u32) -> i64
     requires { Ready rows.now bounds.now (length store.old) row }
-    ensures { ran result left.new store.new ≡ spend (performAt rows.now bounds.now row) left.old store.old }
+    ensures { ran result left.new store.new ≡ spend (perform_at rows.now bounds.now row) left.old store.old }
 {
     let number = number_at(rows, row, 0);
     if number == 42 {
@@ -419,9 +437,10 @@ fn entry(rows: &[i32], bounds: &[usize], row: usize, store: &mut [i32], left: &m
 
 // A row that was entered: what follows, by the number of its kind, as in `compute`; of a for its start, then its rounds. A row that is no
 // statement does nothing.
+#[cycle(run)]
 fn perform(rows: &[i32], bounds: &[usize], row: usize, store: &mut [i32], left: &mut u32) -> i64
     requires { Ready rows.now bounds.now (length store.old) row }
-    ensures { ran result left.new store.new ≡ spend (performAt rows.now bounds.now row) left.old store.old }
+    ensures { ran result left.new store.new ≡ spend (perform_at rows.now bounds.now row) left.old store.old }
 {
     let number = number_at(rows, row, 0);
     match number {
@@ -484,9 +503,10 @@ fn perform(rows: &[i32], bounds: &[usize], row: usize, store: &mut [i32], left: 
 }
 
 // The list from a first item on; 0 is the empty list.
+#[cycle(run)]
 fn list(rows: &[i32], bounds: &[usize], first: usize, store: &mut [i32], left: &mut u32) -> i64
     requires { Ready rows.now bounds.now (length store.old) first }
-    ensures { ran result left.new store.new ≡ spend (itemsFrom rows.now bounds.now first) left.old store.old }
+    ensures { ran result left.new store.new ≡ spend (items_from rows.now bounds.now first) left.old store.old }
 {
     let mut at = first;
     let mut answer = NEXT;
@@ -498,9 +518,10 @@ fn list(rows: &[i32], bounds: &[usize], first: usize, store: &mut [i32], left: &
 }
 
 // An if's row, entered: the test, then one branch.
+#[cycle(run)]
 fn branch(rows: &[i32], bounds: &[usize], row: usize, store: &mut [i32], left: &mut u32) -> i64
     requires { Entered rows.now bounds.now (length store.old) row (OfStatement If) }
-    ensures { ran result left.new store.new ≡ spend (performAt rows.now bounds.now row) left.old store.old }
+    ensures { ran result left.new store.new ≡ spend (perform_at rows.now bounds.now row) left.old store.old }
 {
     let answer = eval(&*rows, &*bounds, link_at(rows, row, 1), store, left);
     let test = operand(answer);
@@ -519,6 +540,7 @@ fn branch(rows: &[i32], bounds: &[usize], row: usize, store: &mut [i32], left: &
 
 // A round of a loop: the test, the body, the last part. The last part is the step of a for; in a do, which has its test there, it
 // decides whether another round follows.
+#[cycle(run)]
 fn turn(
     rows: &[i32],
     bounds: &[usize],
@@ -530,7 +552,7 @@ fn turn(
     left: &mut u32,
 ) -> i64
     requires { ReadyRounds rows.now bounds.now (length store.old) test body last }
-    ensures { turned result left.new store.new ≡ spend (roundAt rows.now bounds.now test body last decides) left.old store.old }
+    ensures { turned result left.new store.new ≡ spend (round_at rows.now bounds.now test body last decides) left.old store.old }
 {
     let test_answer = part(&*rows, &*bounds, test, 1, store, left);
     let tested = operand(test_answer);
@@ -554,6 +576,7 @@ fn turn(
 }
 
 // The rounds of a loop, until one is the last.
+#[cycle(run)]
 fn rounds(
     rows: &[i32],
     bounds: &[usize],
@@ -565,7 +588,7 @@ fn rounds(
     left: &mut u32,
 ) -> i64
     requires { ReadyRounds rows.now bounds.now (length store.old) test body last }
-    ensures { ran result left.new store.new ≡ spend (roundsAt rows.now bounds.now test body last decides) left.old store.old }
+    ensures { ran result left.new store.new ≡ spend (rounds_at rows.now bounds.now test body last decides) left.old store.old }
 {
     loop {
         let answer = turn(&*rows, &*bounds, test, body, last, decides, store, left);
@@ -577,9 +600,10 @@ fn rounds(
 }
 
 // A switch's row, entered: "go to the case of equal value, else to default, else past the switch; then fall through until break".
+#[cycle(run)]
 fn switch(rows: &[i32], bounds: &[usize], row: usize, store: &mut [i32], left: &mut u32) -> i64
     requires { Entered rows.now bounds.now (length store.old) row (OfStatement Switch) }
-    ensures { ran result left.new store.new ≡ spend (performAt rows.now bounds.now row) left.old store.old }
+    ensures { ran result left.new store.new ≡ spend (perform_at rows.now bounds.now row) left.old store.old }
 {
     let answer = eval(&*rows, &*bounds, link_at(rows, row, 1), store, left);
     let selector = operand(answer);
@@ -592,6 +616,7 @@ fn switch(rows: &[i32], bounds: &[usize], row: usize, store: &mut [i32], left: &
 
 // The row of the block of the first arm from `first` on whose guard is true, or 0: no guard is true. "Arms are entered from the first until a
 // guard is true": an arm's row is entered, then its guard's.
+#[cycle(run)]
 fn choose(rows: &[i32], bounds: &[usize], first: usize, store: &mut [i32], left: &mut u32) -> i64
     requires { ReadyArms rows.now bounds.now (length store.old) first }
     ensures { Chooses rows.now bounds.now first left.old store.old result left.new store.new }
@@ -619,6 +644,7 @@ fn choose(rows: &[i32], bounds: &[usize], first: usize, store: &mut [i32], left:
 // A guarded statement's row, entered: its arms, then the block that they come to. "Guarded if with no true guard gives a fourth fault"; a
 // guarded do goes round until no guard is true, or a block ends with a break, a continue or a goto. Each round enters an arm, so the
 // unspent budget falls.
+#[cycle(run)]
 fn guarded(
     rows: &[i32],
     bounds: &[usize],
@@ -628,7 +654,7 @@ fn guarded(
     left: &mut u32,
 ) -> i64
     requires { Entered rows.now bounds.now (length store.old) row (OfStatement (pick repeats GuardedDo GuardedIf)) }
-    ensures { ran result left.new store.new ≡ spend (performAt rows.now bounds.now row) left.old store.old }
+    ensures { ran result left.new store.new ≡ spend (perform_at rows.now bounds.now row) left.old store.old }
 {
     let first = link_at(rows, row, 1);
     loop {

@@ -14,24 +14,24 @@ use lib.Signed.{mag, lt_z}
 use mir.Syntax.{w32, w64}
 use mir.Val.{SFits, to_z, of_z}
 use borrow.Author.Tests.{ltb-true, ltb-false, lt-ltb, le-ltb, eq-eqb}
-use Rattle.words.specs.Word.{isWord, sameWord, natural, pick}
-use Rattle.arithmetic.specs.Arithmetic.{isTrue}
-use Rattle.words.specs.Laws.{or_right, back, sameWord-refl, sameWord-differ}
-use Rattle.words.specs.Answers.{faultNumbered}
+use Rattle.words.specs.Word.{is_word, same_word, natural, pick}
+use Rattle.arithmetic.specs.Arithmetic.{is_true}
+use Rattle.words.specs.Laws.{or_right, back, same_word-refl, same_word-differ}
+use Rattle.words.specs.Answers.{fault_numbered}
 use Rattle.words.specs.declared.FaultSort.TheVariants.{Guard}
 use Rattle.computation.specs.Computation.{Turn, again, leave, Computation, ret}
 use Rattle.computation.specs.Run.{spent, fault}
-use Rattle.computation.specs.Remaining.{Rest, gives, halts, onward, onTurn, spend, left_of, left-never-rises}
+use Rattle.computation.proofs.Remaining.{Rest, gives, halts, onward, on_turn, spend, left_of, left-never-rises}
 use Rattle.language.specs.Trees.{label}
-use Rattle.language.specs.Meaning.{Signal, next, breaking, continuing, seeking, returning, enter, afterSwitch, afterBody, Choice, ran as ranWith, afterArms}
+use Rattle.language.specs.Meaning.{Signal, next, breaking, continuing, seeking, returning, enter, after_switch, after_body, Choice, ran as ran_with, after_arms}
 use Rattle.language.specs.Functions.{returned}
-use Rattle.machine_operations.specs.Answers.{beyond, stopOf, isReturn, operandOf, answered}
+use Rattle.machine_operations.specs.Answers.{beyond, stop_of, is_return, operand_of, answered}
 use Rattle.machine_operations.specs.declared.Operand.{Operand}
 use Rattle.machine_operations.specs.declared.Operand.TheVariants.{Value, Halted as Stopped}
 use Rattle.machine_operations.proofs.Decoding.{handed, handed-is, wide, wide_is, operand-word, word-no-return, answered-word}
 use Rattle.machine_operations.proofs.Enter.{entered, not_entered}
 use Rattle.machine_operations.proofs.Operands.{stops, handed-on}
-use Rattle.machine_flows.specs.Flows.{passing_of, flow_of, returnValue, flowRest, ran, turnBy, turned, EndsCall, EndsReturn, EndsExpression, EndsDeclaration, EndsSwitch, EndsBody, EndsRound}
+use Rattle.machine_flows.specs.Flows.{passing_of, flow_of, return_value, flow_rest, ran, turn_by, turned, EndsCall, EndsReturn, EndsExpression, EndsDeclaration, EndsSwitch, EndsBody, EndsRound}
 use Rattle.machine_flows.specs.declared.Flow.{Flow}
 use Rattle.machine_flows.specs.declared.Flow.TheVariants.{Next, Break, Continue, Goto, Return, Halted}
 use Rattle.machine_flows.specs.contracts.Flow as declared
@@ -40,61 +40,61 @@ use Rattle.machine_flows.specs.contracts.Flow as declared
 
 module _ (n : ℕ) (s : List ℤ) where
   pub ran-next : ran (negsuc 0) n s ≡ gives next n s
-  unfolding flow_of operandOf isWord isReturn passing_of sameWord
+  unfolding flow_of operand_of is_word is_return passing_of same_word
   ran-next = refl
 
   pub ran-break : ran (negsuc 1) n s ≡ gives breaking n s
-  unfolding flow_of operandOf isWord isReturn passing_of sameWord
+  unfolding flow_of operand_of is_word is_return passing_of same_word
   ran-break = refl
 
   pub ran-continue : ran (negsuc 2) n s ≡ gives continuing n s
-  unfolding flow_of operandOf isWord isReturn passing_of sameWord
+  unfolding flow_of operand_of is_word is_return passing_of same_word
   ran-continue = refl
 
   pub ran-spent : ran (pos 2147483648) n s ≡ halts spent n s
-  unfolding flow_of operandOf isWord isReturn beyond stopOf
+  unfolding flow_of operand_of is_word is_return beyond stop_of
   ran-spent = refl
 
   pub ran-guard : ran (pos 2147483652) n s ≡ halts (fault Guard) n s
-  unfolding flow_of operandOf isWord isReturn beyond stopOf faultNumbered
+  unfolding flow_of operand_of is_word is_return beyond stop_of fault_numbered
   ran-guard = refl
 
   pub turned-last : turned (negsuc 0) n s ≡ gives (leave next) n s
-  unfolding flow_of operandOf isWord isReturn passing_of sameWord
+  unfolding flow_of operand_of is_word is_return passing_of same_word
   turned-last = refl
 
   pub turned-again : turned (negsuc 2) n s ≡ gives again n s
-  unfolding flow_of operandOf isWord isReturn passing_of sameWord
+  unfolding flow_of operand_of is_word is_return passing_of same_word
   turned-again = refl
 
 pub flow_next : flow_of (negsuc 0) ≡ Next
-unfolding flow_of operandOf isWord isReturn passing_of sameWord
+unfolding flow_of operand_of is_word is_return passing_of same_word
 flow_next = refl
 
 -- ---- a word tested by its bits
 
 module _ (z k : ℤ) (h : mag z < 2 ^ 31) (g : mag k < 2 ^ 31) where
-  pub is_word : of_z w32 z ≡ of_z w32 k → sameWord z k ≡ true
-  is_word e = ap (λ (x : ℤ). sameWord x k) (sym (back z h) ∙ ap (to_z w32) e ∙ back k g) ∙ sameWord-refl k
+  pub is-word : of_z w32 z ≡ of_z w32 k → same_word z k ≡ true
+  is-word e = ap (λ (x : ℤ). same_word x k) (sym (back z h) ∙ ap (to_z w32) e ∙ back k g) ∙ same_word-refl k
 
-  pub is-no-word : (of_z w32 z ≡ of_z w32 k → ⊥) → sameWord z k ≡ false
-  is-no-word q = sameWord-differ z k (λ e. q (ap (of_z w32) e))
+  pub is-no-word : (of_z w32 z ≡ of_z w32 k → ⊥) → same_word z k ≡ false
+  is-no-word q = same_word-differ z k (λ e. q (ap (of_z w32) e))
 
-module _ (z : ℤ) (a b c : Bool) (p : sameWord z (negsuc 0) ≡ a) (q : sameWord z (negsuc 1) ≡ b) (r : sameWord z (negsuc 2) ≡ c) where
+module _ (z : ℤ) (a b c : Bool) (p : same_word z (negsuc 0) ≡ a) (q : same_word z (negsuc 1) ≡ b) (r : same_word z (negsuc 2) ≡ c) where
   passing-by : passing_of z ≡ pick a Next (pick b Break (pick c Continue (Goto (natural z))))
   unfolding passing_of
   passing-by = rw (p, q, r)
 
-pub passing-next : (z : ℤ) → sameWord z (negsuc 0) ≡ true → passing_of z ≡ Next
+pub passing-next : (z : ℤ) → same_word z (negsuc 0) ≡ true → passing_of z ≡ Next
 passing-next z p = passing-by z true _ _ p refl refl
 
-pub passing-break : (z : ℤ) → sameWord z (negsuc 0) ≡ false → sameWord z (negsuc 1) ≡ true → passing_of z ≡ Break
+pub passing-break : (z : ℤ) → same_word z (negsuc 0) ≡ false → same_word z (negsuc 1) ≡ true → passing_of z ≡ Break
 passing-break z p q = passing-by z false true _ p q refl
 
-pub passing-continue : (z : ℤ) → sameWord z (negsuc 0) ≡ false → sameWord z (negsuc 1) ≡ false → sameWord z (negsuc 2) ≡ true → passing_of z ≡ Continue
+pub passing-continue : (z : ℤ) → same_word z (negsuc 0) ≡ false → same_word z (negsuc 1) ≡ false → same_word z (negsuc 2) ≡ true → passing_of z ≡ Continue
 passing-continue z p q r = passing-by z false false true p q r
 
-pub passing-goto : (z : ℤ) → sameWord z (negsuc 0) ≡ false → sameWord z (negsuc 1) ≡ false → sameWord z (negsuc 2) ≡ false → passing_of z ≡ Goto (natural z)
+pub passing-goto : (z : ℤ) → same_word z (negsuc 0) ≡ false → same_word z (negsuc 1) ≡ false → same_word z (negsuc 2) ≡ false → passing_of z ≡ Goto (natural z)
 passing-goto z p q r = passing-by z false false false p q r
 
 -- ---- a label, as a goto's answer
@@ -105,13 +105,13 @@ negative-label (pos n) e = absurd (omega (arith, ltb-true n 0 e))
 negative-label (negsuc n) e = refl
 
 label-goto : (z : ℤ) → lt_z z (pos 0) ≡ false → passing_of z ≡ Goto (natural z)
-unfolding passing_of sameWord
+unfolding passing_of same_word
 label-goto (pos n) e = refl
 label-goto (negsuc n) e = absurd (true≢false e)
 
 module _ (z : ℤ) (h : mag z < 2 ^ 31) where
   pub jump-negative : lt_z (to_z w32 (of_z w32 z)) (pos 0) ≡ true → (n : ℕ) (s : List ℤ) → ran (negsuc 3) n s ≡ gives (seeking (label (natural z))) n s
-  unfolding flow_of operandOf isWord isReturn passing_of sameWord
+  unfolding flow_of operand_of is_word is_return passing_of same_word
   jump-negative e n s = ap (λ (l : ℕ). gives (seeking (label l)) n s) (negative-label z (rw (back z h) at e))
 
   pub jump_label : lt_z (to_z w32 (of_z w32 z)) (pos 0) ≡ false → (n : ℕ) (s : List ℤ) → ran (wide z) n s ≡ gives (seeking (label (natural z))) n s
@@ -121,38 +121,38 @@ module _ (z : ℤ) (h : mag z < 2 ^ 31) where
 -- ---- the flow of an answer
 
 -- a stop is no return
-stop-is-none : (z : ℤ) → operandOf z ≡ Stopped → isReturn z ≡ false
-unfolding operandOf
-stop-is-none z e = by (isWord z) (isReturn z) e
+stop-is-none : (z : ℤ) → operand_of z ≡ Stopped → is_return z ≡ false
+unfolding operand_of
+stop-is-none z e = by (is_word z) (is_return z) e
   where
     by : (w r : Bool) → pick w (Value z) (pick r (Value (pos 0)) Stopped) ≡ Stopped → r ≡ false
     by true r e = absurd (let w : ◌≡◌ {A = ℕ} 0 1 = cc in omega arith)
     by false true e = absurd (let w : ◌≡◌ {A = ℕ} 0 1 = cc in omega arith)
     by false false e = refl
 
-pub flow-stops : (z : ℤ) → operandOf z ≡ Stopped → flow_of z ≡ Halted
+pub flow-stops : (z : ℤ) → operand_of z ≡ Stopped → flow_of z ≡ Halted
 unfolding flow_of
 flow-stops z e = rw (stop-is-none z e, e)
 
-pub flow-passes : (z v : ℤ) → isReturn z ≡ false → operandOf z ≡ Value v → flow_of z ≡ passing_of v
+pub flow-passes : (z v : ℤ) → is_return z ≡ false → operand_of z ≡ Value v → flow_of z ≡ passing_of v
 unfolding flow_of
 flow-passes z v r e = rw (r, e)
 
-pub flow-returns : (z : ℤ) → isReturn z ≡ true → flow_of z ≡ Return
+pub flow-returns : (z : ℤ) → is_return z ≡ true → flow_of z ≡ Return
 unfolding flow_of
 flow-returns z r = rw r
 
 -- ---- returns
 
 -- a return's answer, by its value
-return-is : (v : ℤ) → mag v < 2 ^ 31 → isReturn (pos 8589934592 +ℤ v) ≡ true
-unfolding isReturn
+return-is : (v : ℤ) → mag v < 2 ^ 31 → is_return (pos 8589934592 +ℤ v) ≡ true
+unfolding is_return
 return-is (pos a) h = rw (le-ltb (8589934592 + a) 6442450944 (omega arith), lt-ltb (8589934592 + a) 10737418240 (omega arith))
 return-is (negsuc a) h =
     rw (le-ltb 8589934592 (suc a) (omega arith), le-ltb (8589934592 - suc a) 6442450944 (omega arith), lt-ltb (8589934592 - suc a) 10737418240 (omega arith))
 
-return-again : (v : ℤ) → returnValue (pos 8589934592 +ℤ v) ≡ v
-unfolding returnValue
+return-again : (v : ℤ) → return_value (pos 8589934592 +ℤ v) ≡ v
+unfolding return_value
 return-again v = ap (λ (z : ℤ). z -ℤ pos 8589934592) (+ℤ_comm (pos 8589934592) v) ∙ +ℤ-neg_ℤ_cancel v (pos 8589934592)
 
 return_fits : (v : ℤ) → mag v < 2 ^ 31 → mag (pos 8589934592 +ℤ v) < 2 ^ 63
@@ -171,8 +171,8 @@ module _ (v : ℤ) (h : mag v < 2 ^ 31) where
   ran-returned n s = rw (wide_is v h, handed-is (pos 8589934592 +ℤ v) (return_fits v h)) (ran-return v h n s)
 
 -- the value of a return is a word
-returned-word : (z : ℤ) → isReturn z ≡ true → mag (returnValue z) < 2 ^ 31
-unfolding isReturn returnValue
+returned-word : (z : ℤ) → is_return z ≡ true → mag (return_value z) < 2 ^ 31
+unfolding is_return return_value
 returned-word (negsuc m) e = absurd (true≢false (sym e))
 returned-word (pos m) e = least (ltb m 6442450944) refl e
   where
@@ -185,23 +185,23 @@ returned-word (pos m) e = least (ltb m 6442450944) refl e
     least false t e = value (ltb m 8589934592) refl (ltb-false m 6442450944 t) (ltb-true m 10737418240 e)
 
 -- the answer of a call, by its block's
-module _ (z : ℤ) (fits : mag z < 2 ^ 63) {b : Bool} (r : b ≡ isReturn (handed z)) where
-  no_other : isReturn z ≡ b
-  no_other = ap isReturn (sym (handed-is z fits)) ∙ sym r
+module _ (z : ℤ) (fits : mag z < 2 ^ 63) {b : Bool} (r : b ≡ is_return (handed z)) where
+  no_other : is_return z ≡ b
+  no_other = ap is_return (sym (handed-is z fits)) ∙ sym r
 
   pub call_fits : b ≡ true → mag (handed z -ℤ pos 8589934592) < 2 ^ 63
-  unfolding returnValue
+  unfolding return_value
   call_fits t = rw (handed-is z fits) (omega (arith, returned-word z (no_other ∙ t)))
 
   pub call_returns : b ≡ true → EndsCall z (handed (handed z -ℤ pos 8589934592))
-  unfolding returnValue
+  unfolding return_value
   call_returns t n s =
       ap (λ (x : ℤ). answered x n s) (handed-is (handed z -ℤ pos 8589934592) (call_fits t) ∙ ap (λ (x : ℤ). x -ℤ pos 8589934592) (handed-is z fits))
-      ∙ answered-word (returnValue z) (returned-word z (no_other ∙ t)) n s ∙ rw (flow-returns z (no_other ∙ t))
+      ∙ answered-word (return_value z) (returned-word z (no_other ∙ t)) n s ∙ rw (flow-returns z (no_other ∙ t))
 
-  module _ (t : b ≡ false) (o : Operand) (e : o ≡ operandOf (handed z)) where
-    says-operand : operandOf z ≡ o
-    says-operand = ap operandOf (sym (handed-is z fits)) ∙ sym e
+  module _ (t : b ≡ false) (o : Operand) (e : o ≡ operand_of (handed z)) where
+    says-operand : operand_of z ≡ o
+    says-operand = ap operand_of (sym (handed-is z fits)) ∙ sym e
 
     pub call-stops : o ≡ Stopped → EndsCall z (handed z)
     call-stops q n s = rw (handed-is z fits, flow-stops z (says-operand ∙ q), says-operand, q)
@@ -210,10 +210,10 @@ module _ (z : ℤ) (fits : mag z < 2 ^ 63) {b : Bool} (r : b ≡ isReturn (hande
     unfolding passing_of
     call_ends v q n s = answered-word (pos 0) (omega arith) n s ∙ sym (rw (flow-passes z v (no_other ∙ t) (says-operand ∙ q)) (by v))
       where
-        by : (v : ℤ) → onward (flowRest (passing_of v) z n s) (λ signal n s. gives (returned signal) n s) ≡ gives (pos 0) n s
-        by v = go (sameWord v (negsuc 0)) (sameWord v (negsuc 1)) (sameWord v (negsuc 2))
+        by : (v : ℤ) → onward (flow_rest (passing_of v) z n s) (λ signal n s. gives (returned signal) n s) ≡ gives (pos 0) n s
+        by v = go (same_word v (negsuc 0)) (same_word v (negsuc 1)) (same_word v (negsuc 2))
           where
-            go : (a b c : Bool) → onward (flowRest (pick a Next (pick b Break (pick c Continue (Goto (natural v))))) z n s) (λ signal n s. gives (returned signal) n s) ≡ gives (pos 0) n s
+            go : (a b c : Bool) → onward (flow_rest (pick a Next (pick b Break (pick c Continue (Goto (natural v))))) z n s) (λ signal n s. gives (returned signal) n s) ≡ gives (pos 0) n s
             go true b c = refl
             go false true c = refl
             go false false true = refl
@@ -254,9 +254,9 @@ module _ (r : ℤ) (n : ℕ) (s : List ℤ) (fits : mag r < 2 ^ 63) where
   turned-handed = ap (λ (z : ℤ). turned z n s) (handed-is r fits)
 
 -- an evaluation's stop is handed up
-module _ {m : Rest ℤ} (r : ℤ) (n : ℕ) (s : List ℤ) (fits : mag r < 2 ^ 63) (h : answered r n s ≡ m) (o : Operand) (e : o ≡ operandOf (handed r)) (q : o ≡ Stopped) where
+module _ {m : Rest ℤ} (r : ℤ) (n : ℕ) (s : List ℤ) (fits : mag r < 2 ^ 63) (h : answered r n s ≡ m) (o : Operand) (e : o ≡ operand_of (handed r)) (q : o ≡ Stopped) where
   halted-flow : flow_of r ≡ Halted
-  halted-flow = flow-stops r (ap operandOf (sym (handed-is r fits)) ∙ sym e ∙ q)
+  halted-flow = flow-stops r (ap operand_of (sym (handed-is r fits)) ∙ sym e ∙ q)
 
   pub hands-flow : (f : ℤ → ℕ → List ℤ → Rest Signal) → ran (handed r) n s ≡ onward m f
   hands-flow f = ran-handed r n s fits ∙ rw halted-flow (sym (stops f r n s fits h o e q))
@@ -291,7 +291,7 @@ module _ (z : ℤ) (fits : mag z < 2 ^ 63) (f : Flow) (e : f ≡ flow_of (handed
   pub switch-same : (f ≡ Break → ⊥) → EndsSwitch z (handed z)
   switch-same q n s = ran-handed z n s fits ∙ by (flow_of z) (λ g. q (sym flow-is ∙ g))
     where
-      by : (g : Flow) → (g ≡ Break → ⊥) → flowRest g z n s ≡ onward (flowRest g z n s) (λ signal n s. gives (afterSwitch signal) n s)
+      by : (g : Flow) → (g ≡ Break → ⊥) → flow_rest g z n s ≡ onward (flow_rest g z n s) (λ signal n s. gives (after_switch signal) n s)
       by Next q = refl
       by Break q = absurd (q refl)
       by Continue q = refl
@@ -331,7 +331,7 @@ resumed more again n s = more n s
 resumed more (leave signal) n s = gives (leave signal) n s
 
 pub body-then : (m : Rest Signal) (rest : Computation (Turn Signal))
-    → onward m (λ signal n s. spend (afterBody rest signal) n s) ≡ onward (onward m (λ signal n s. spend (afterBody (ret again) signal) n s)) (resumed (spend rest))
+    → onward m (λ signal n s. spend (after_body rest signal) n s) ≡ onward (onward m (λ signal n s. spend (after_body (ret again) signal) n s)) (resumed (spend rest))
 unfolding spend
 body-then (gives next n s) rest = refl
 body-then (gives breaking n s) rest = refl
@@ -342,14 +342,14 @@ body-then (halts why n s) rest = refl
 
 -- the body's answer, and what follows it
 module _ {m : Rest Signal} (r : ℤ) (n : ℕ) (s : List ℤ) (fits : mag r < 2 ^ 63) (h : ran r n s ≡ m) (z : ℤ) where
-  pub body-turns : EndsBody (handed r) z → (rest : Computation (Turn Signal)) → onward m (λ signal n s. spend (afterBody rest signal) n s) ≡ onward (turned z n s) (resumed (spend rest))
+  pub body-turns : EndsBody (handed r) z → (rest : Computation (Turn Signal)) → onward m (λ signal n s. spend (after_body rest signal) n s) ≡ onward (turned z n s) (resumed (spend rest))
   body-turns e rest =
       body-then m rest
-      ∙ ap (λ (x : Rest (Turn Signal)). onward x (resumed (spend rest))) (ap (λ (x : Rest Signal). onward x (λ signal n s. spend (afterBody (ret again) signal) n s)) (sym h ∙ sym (ran-handed r n s fits)) ∙ sym (e n s))
+      ∙ ap (λ (x : Rest (Turn Signal)). onward x (resumed (spend rest))) (ap (λ (x : Rest Signal). onward x (λ signal n s. spend (after_body (ret again) signal) n s)) (sym h ∙ sym (ran-handed r n s fits)) ∙ sym (e n s))
 
   -- the answer of a switch's items, and the switch's own
-  pub switch-turns : EndsSwitch (handed r) z → ran z n s ≡ onward m (λ signal n s. gives (afterSwitch signal) n s)
-  switch-turns e = e n s ∙ ap (λ (x : Rest Signal). onward x (λ signal n s. gives (afterSwitch signal) n s)) (ran-handed r n s fits ∙ h)
+  pub switch-turns : EndsSwitch (handed r) z → ran z n s ≡ onward m (λ signal n s. gives (after_switch signal) n s)
+  switch-turns e = e n s ∙ ap (λ (x : Rest Signal). onward x (λ signal n s. gives (after_switch signal) n s)) (ran-handed r n s fits ∙ h)
 
 -- what enters a row and goes on has made a step
 step_falls : {A : Type 0} (a : A) (n : ℕ) (s : List ℤ) (m : Computation A) (k : ℕ) (t : List ℤ) → gives a n s ≡ spend (enter m) k t → n < k
@@ -367,7 +367,7 @@ module _ (z : ℤ) (n : ℕ) (s : List ℤ) (fits : mag z < 2 ^ 63) (f : Flow) (
     went : turned z n s ≡ gives again n s
     went = rw (flow-is z fits f e, q)
 
-    pub goes-round : {m : Rest (Turn Signal)} → turned z n s ≡ m → (more : ℕ → List ℤ → Rest Signal) → onward m (onTurn more) ≡ more n s
+    pub goes-round : {m : Rest (Turn Signal)} → turned z n s ≡ m → (more : ℕ → List ℤ → Rest Signal) → onward m (on_turn more) ≡ more n s
     goes-round h more = rw (← h, went)
 
     pub goes_on : (more : ℕ → List ℤ → Rest (Turn Signal)) → onward (turned z n s) (resumed more) ≡ more n s
@@ -381,10 +381,10 @@ module _ (z : ℤ) (n : ℕ) (s : List ℤ) (fits : mag z < 2 ^ 63) (f : Flow) (
     goes-not : flow_of z ≡ Continue → ⊥
     goes-not g = q (sym (flow-is z fits f e) ∙ g)
 
-    pub leaves : {m : Rest (Turn Signal)} → turned z n s ≡ m → (more : ℕ → List ℤ → Rest Signal) → onward m (onTurn more) ≡ ran (handed z) n s
+    pub leaves : {m : Rest (Turn Signal)} → turned z n s ≡ m → (more : ℕ → List ℤ → Rest Signal) → onward m (on_turn more) ≡ ran (handed z) n s
     leaves h more = rw (← h) (by (flow_of z) goes-not ∙ sym (ran-handed z n s fits))
       where
-        by : (g : Flow) → (g ≡ Continue → ⊥) → onward (onward (flowRest g z n s) (λ signal n s. gives (turnBy signal) n s)) (onTurn more) ≡ flowRest g z n s
+        by : (g : Flow) → (g ≡ Continue → ⊥) → onward (onward (flow_rest g z n s) (λ signal n s. gives (turn_by signal) n s)) (on_turn more) ≡ flow_rest g z n s
         by Next q = refl
         by Break q = refl
         by Continue q = absurd (q refl)
@@ -395,7 +395,7 @@ module _ (z : ℤ) (n : ℕ) (s : List ℤ) (fits : mag z < 2 ^ 63) (f : Flow) (
     pub ends-round : (more : ℕ → List ℤ → Rest (Turn Signal)) → onward (turned z n s) (resumed more) ≡ turned (handed z) n s
     ends-round more = by (flow_of z) goes-not ∙ sym (turned-handed z n s fits)
       where
-        by : (g : Flow) → (g ≡ Continue → ⊥) → onward (onward (flowRest g z n s) (λ signal n s. gives (turnBy signal) n s)) (resumed more) ≡ onward (flowRest g z n s) (λ signal n s. gives (turnBy signal) n s)
+        by : (g : Flow) → (g ≡ Continue → ⊥) → onward (onward (flow_rest g z n s) (λ signal n s. gives (turn_by signal) n s)) (resumed more) ≡ onward (flow_rest g z n s) (λ signal n s. gives (turn_by signal) n s)
         by Next q = refl
         by Break q = refl
         by Continue q = absurd (q refl)
@@ -407,21 +407,21 @@ module _ (z : ℤ) (n : ℕ) (s : List ℤ) (fits : mag z < 2 ^ 63) (f : Flow) (
 
 -- after its arms, which ran a block: the rounds again, or the block's own end
 abbrev pub rounded : (ℕ → List ℤ → Rest Signal) → Choice → ℕ → List ℤ → Rest Signal
-rounded more choice n s = onTurn more (afterArms choice) n s
+rounded more choice n s = on_turn more (after_arms choice) n s
 
 module _ (z : ℤ) (n : ℕ) (s : List ℤ) (fits : mag z < 2 ^ 63) {m : Rest Signal} (h : ran z n s ≡ m) (f : Flow) (e : f ≡ flow_of (handed z)) where
   module _ (q : f ≡ Next) where
     went_on : ran z n s ≡ gives next n s
     went_on = rw (flow-is z fits f e, q)
 
-    pub arms-again : (more : ℕ → List ℤ → Rest Signal) → onward m (λ signal n s. rounded more (ranWith signal) n s) ≡ more n s
+    pub arms-again : (more : ℕ → List ℤ → Rest Signal) → onward m (λ signal n s. rounded more (ran_with signal) n s) ≡ more n s
     arms-again more = rw (← h, went_on)
 
   module _ (q : f ≡ Next → ⊥) where
-    pub arms-left : (more : ℕ → List ℤ → Rest Signal) → onward m (λ signal n s. rounded more (ranWith signal) n s) ≡ ran (handed z) n s
+    pub arms-left : (more : ℕ → List ℤ → Rest Signal) → onward m (λ signal n s. rounded more (ran_with signal) n s) ≡ ran (handed z) n s
     arms-left more = rw (← h) (by (flow_of z) (λ g. q (sym (flow-is z fits f e) ∙ g)) ∙ sym (ran-handed z n s fits))
       where
-        by : (g : Flow) → (g ≡ Next → ⊥) → onward (flowRest g z n s) (λ signal n s. rounded more (ranWith signal) n s) ≡ flowRest g z n s
+        by : (g : Flow) → (g ≡ Next → ⊥) → onward (flow_rest g z n s) (λ signal n s. rounded more (ran_with signal) n s) ≡ flow_rest g z n s
         by Next q = absurd (q refl)
         by Break q = refl
         by Continue q = refl
@@ -438,7 +438,7 @@ block_falls z n s fits f e q m k t h = step_falls next n s m k t (sym (went_on z
 ran-left : (r : ℤ) (n : ℕ) (s : List ℤ) → left_of (ran r n s) ≡ n
 ran-left r n s = by (flow_of r)
   where
-    by : (f : Flow) → left_of (flowRest f r n s) ≡ n
+    by : (f : Flow) → left_of (flow_rest f r n s) ≡ n
     by Next = refl
     by Break = refl
     by Continue = refl
@@ -452,9 +452,9 @@ module _ (r : ℤ) (n : ℕ) (s : List ℤ) (k : ℕ) (t : List ℤ) where
 
 -- the last part of a round, whose value was handed on
 pub round-ends : (decides : Bool) (v r : ℤ) → mag v < 2 ^ 31 → mag r < 2 ^ 63 → EndsRound decides (to_z w32 (of_z w32 v)) r → (n : ℕ) (s : List ℤ)
-    → turned (handed r) n s ≡ pick decides (pick (isTrue v) (gives again n s) (gives (leave next) n s)) (gives again n s)
+    → turned (handed r) n s ≡ pick decides (pick (is_true v) (gives again n s) (gives (leave next) n s)) (gives again n s)
 round-ends decides v r h fits ends n s =
-    turned-handed r n s fits ∙ ends n s ∙ ap (λ (z : ℤ). pick decides (pick (isTrue z) (gives again n s) (gives (leave next) n s)) (gives again n s)) (back v h)
+    turned-handed r n s fits ∙ ends n s ∙ ap (λ (z : ℤ). pick decides (pick (is_true z) (gives again n s) (gives (leave next) n s)) (gives again n s)) (back v h)
 
 -- the answer of a call's block, and the call's own
 pub call-turns : {m : Rest Signal} (r : ℤ) (n : ℕ) (s : List ℤ) → mag r < 2 ^ 63 → ran r n s ≡ m → (z : ℤ) → EndsCall (handed r) z → answered z n s ≡ onward m (λ signal n s. gives (returned signal) n s)

@@ -6,9 +6,9 @@ use Prim.Native.Nat.{ℕ}
 use native.Mathlib.Omega.{arith}
 use lib.IntN.{ℤ}
 use Rattle.words.specs.Word.{pick}
-use Rattle.computation.specs.Remaining.{gives, onward, spend}
-use Rattle.language.specs.Trees.{Mark, case, default, Statement, empty, Items, none, ◌then◌, ◌here◌, define, sameMark, has}
-use Rattle.language.specs.Meaning.{Context, Signal, next, breaking, continuing, seeking, returning, target, afterSwitch, perform, items, exec}
+use Rattle.computation.proofs.Remaining.{gives, onward, spend}
+use Rattle.language.specs.Trees.{Mark, case, default, Statement, empty, Items, none, ◌then◌, ◌here◌, define, same_mark, has}
+use Rattle.language.specs.Meaning.{Context, Signal, next, breaking, continuing, seeking, returning, target, after_switch, perform, items, exec}
 use Rattle.machine_flows.specs.Lists.{from, start_of}
 
 module _ (C : Context) where
@@ -57,9 +57,9 @@ module _ (C : Context) where
   search-list m none n s = refl
   search-list m (x then is) n s = search-list m is n s
   search-list m (define f words body is) n s = search-list m is n s
-  search-list m (k here is) n s = go (sameMark m k) refl (search-list m is n s)
+  search-list m (k here is) n s = go (same_mark m k) refl (search-list m is n s)
     where
-      go : (b : Bool) → sameMark m k ≡ b → spend (items C is (seeking m)) n s ≡ spend (items C (from m is) (pick (has m is) next (seeking m))) n s
+      go : (b : Bool) → same_mark m k ≡ b → spend (items C is (seeking m)) n s ≡ spend (items C (from m is) (pick (has m is) next (seeking m))) n s
           → spend (items C (k here is) (seeking m)) n s ≡ spend (items C (from m (k here is)) (pick (has m (k here is)) next (seeking m))) n s
       go true e h = rw (e, from, has)
       go false e h = rw (e, from, has) h
@@ -69,7 +69,7 @@ module _ (C : Context) where
   from-none m none e = refl
   from-none m (x then is) e = from-none m is e
   from-none m (define f words body is) e = from-none m is e
-  from-none m (k here is) e = go (sameMark m k) e (λ q. from-none m is q)
+  from-none m (k here is) e = go (same_mark m k) e (λ q. from-none m is q)
     where
       go : (b : Bool) → (b || has m is) ≡ false → (has m is ≡ false → from m is ≡ none) → pick b (k here is) (from m is) ≡ none
       go true e f = absurd (let z : ◌≡◌ {A = ℕ} 0 1 = cc in omega arith)
@@ -77,7 +77,7 @@ module _ (C : Context) where
 
   -- a switch begins at the case of equal value, else at the default, else past its items
   pub switch-starts : (v : ℤ) (is : Items) (n : ℕ) (s : List ℤ)
-      → onward (spend (items C is (target v is)) n s) (λ signal n s. gives (afterSwitch signal) n s) ≡ onward (spend (items C (start_of v is) next) n s) (λ signal n s. gives (afterSwitch signal) n s)
+      → onward (spend (items C is (target v is)) n s) (λ signal n s. gives (after_switch signal) n s) ≡ onward (spend (items C (start_of v is) next) n s) (λ signal n s. gives (after_switch signal) n s)
   unfolding start_of
   switch-starts v is n s = go (has (case v) is) refl (has default is) refl
     where
@@ -85,8 +85,8 @@ module _ (C : Context) where
       sought m e = search-list m is n s ∙ rw e
 
       go : (b : Bool) → has (case v) is ≡ b → (d : Bool) → has default is ≡ d
-          → onward (spend (items C is (pick b (seeking (case v)) (pick d (seeking default) breaking))) n s) (λ signal n s. gives (afterSwitch signal) n s)
-          ≡ onward (spend (items C (pick b (from (case v) is) (from default is)) next) n s) (λ signal n s. gives (afterSwitch signal) n s)
-      go true e d f = ap (λ r. onward r (λ signal n s. gives (afterSwitch signal) n s)) (sought (case v) e)
-      go false e true f = ap (λ r. onward r (λ signal n s. gives (afterSwitch signal) n s)) (sought default f)
+          → onward (spend (items C is (pick b (seeking (case v)) (pick d (seeking default) breaking))) n s) (λ signal n s. gives (after_switch signal) n s)
+          ≡ onward (spend (items C (pick b (from (case v) is) (from default is)) next) n s) (λ signal n s. gives (after_switch signal) n s)
+      go true e d f = ap (λ r. onward r (λ signal n s. gives (after_switch signal) n s)) (sought (case v) e)
+      go false e true f = ap (λ r. onward r (λ signal n s. gives (after_switch signal) n s)) (sought default f)
       go false e false f = rw (past-breaking is n s, from-none default is f, list-none next n s)

@@ -14,9 +14,9 @@ pub record ArgumentsAt (rows : List ℤ) (first : ℕ) : Type 0 where
   pub argument_is : 0 < first → kind_at rows first ≡ OfMember Argument
 
 -- The row so many links behind a first one.
-unfoldable pub rowBehind : List ℤ → ℕ → ℕ → ℕ
-rowBehind rows first zero = first
-rowBehind rows first (suc k) = rowBehind rows (number_at rows first 5) k
+unfoldable pub row_behind : List ℤ → ℕ → ℕ → ℕ
+row_behind rows first zero = first
+row_behind rows first (suc k) = row_behind rows (number_at rows first 5) k
 
 -- The word that the row names is in a store of so many.
 pub record ParameterAt (rows : List ℤ) (row words : ℕ) : Type 0 where

@@ -1,9 +1,9 @@
 // The rows of arguments and parameters.
 ghost use Rattle.std.specs.Prelude.{◌≡◌, length, set};
 ghost use Rattle.words.specs.Table.{number_at};
-ghost use Rattle.language.specs.Decode.{argumentListAt};
-ghost use Rattle.language.specs.Calls.{argumentCount};
-ghost use Rattle.machine_flows.specs.Calls.{ArgumentsAt, ParameterAt, rowBehind};
+ghost use Rattle.language.specs.Decode.{argument_list_at};
+ghost use Rattle.language.specs.Calls.{argument_count};
+ghost use Rattle.machine_flows.specs.Calls.{ArgumentsAt, ParameterAt, row_behind};
 ghost use Rattle.machine_flows.specs.Lists.{InTable};
 
 use machine_operations::operations::link_at;
@@ -11,7 +11,7 @@ use machine_operations::operations::link_at;
 // How many arguments there are from a row on.
 pub fn argument_count(rows: &[i32], first: usize) -> usize
     requires { ArgumentsAt rows.now first }
-    ensures { result ≡ argumentCount (argumentListAt rows.now first) }
+    ensures { result ≡ argument_count (argument_list_at rows.now first) }
 {
     let mut at = first;
     let mut count: usize = 0;
@@ -25,7 +25,7 @@ pub fn argument_count(rows: &[i32], first: usize) -> usize
 // The row so many links behind a first one: arguments are worked out from the last to the first, and links lead forward only.
 pub fn row_behind(rows: &[i32], first: usize, links: usize) -> usize
     requires { InTable rows.now first }
-    ensures { result ≡ rowBehind rows.now first links }
+    ensures { result ≡ row_behind rows.now first links }
 {
     let mut at = first;
     let mut k: usize = 0;

@@ -1,11 +1,11 @@
 // What a statement's answer says: -1 next, -2 break, -3 continue, a label that is sought (-4 for one that no label has), or, beyond
 // the words, why the run stops, as an evaluation says it, or the value that a return gives, counted from 2^33. A round's answer says the same, where a continue goes round again.
 ghost use Rattle.std.specs.Prelude.{◌≡◌, List, ℕ, ◌+◌, ◌*◌, ◌<◌, ℤ, length};
-ghost use Rattle.words.specs.Word.{natural as naturalOf};
+ghost use Rattle.words.specs.Word.{natural as natural_of};
 ghost use Rattle.words.specs.Table.{number_at};
 ghost use Rattle.language.specs.Trees.{label as label_of};
 ghost use Rattle.language.specs.Meaning.{seeking};
-ghost use Rattle.computation.specs.Remaining.{gives};
+ghost use Rattle.computation.proofs.Remaining.{gives};
 ghost use Rattle.machine_flows.specs.Flows.{flow_of, passing_of, ran, EndsExpression, EndsDeclaration, EndsReturn, EndsCall, EndsUnguarded, EndsSwitch, EndsBody, EndsRound};
 
 use super::{CONTINUE, Flow, NEXT, NO_LABEL, RETURN};
@@ -47,7 +47,7 @@ fn passing(number: i32) -> Flow
 
 // The answer of a goto to this label.
 pub fn jump(label: i32) -> i64
-    ensures { (n : ℕ) (s : List ℤ) → ran result n s ≡ gives (seeking (label_of (naturalOf label))) n s }
+    ensures { (n : ℕ) (s : List ℤ) → ran result n s ≡ gives (seeking (label_of (natural_of label))) n s }
 {
     if label < 0 {
         return NO_LABEL;

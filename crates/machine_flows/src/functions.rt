@@ -1,10 +1,10 @@
 // The rows of functions as a list, which a run works out once: the first function's is the last.
 ghost use Rattle.std.specs.Prelude.{◌≡◌, ◌≤◌, ◌<◌, length};
-ghost use Rattle.words.specs.Table.{rowCount};
-ghost use Rattle.language.specs.Functions.{functionCount};
+ghost use Rattle.words.specs.Table.{row_count};
+ghost use Rattle.language.specs.Functions.{function_count};
 ghost use Rattle.language.specs.Program.{contents};
-ghost use Rattle.machine_operations.specs.Bounds.{functionRowIn};
-ghost use Rattle.machine_flows.specs.FunctionRows.{isDefined, InOrder, RowsOfFunctions};
+ghost use Rattle.machine_operations.specs.Bounds.{function_row_in};
+ghost use Rattle.machine_flows.specs.FunctionRows.{is_defined, InOrder, RowsOfFunctions};
 ghost use Rattle.machine_flows.specs.Lists.{InTable};
 
 use machine_operations::operations::link_at;
@@ -13,7 +13,7 @@ use words::table::number_at;
 // Whether a definition stands at the row; at 0 there is none.
 fn is_definition(rows: &[i32], row: usize) -> bool
     requires { InTable rows.now row }
-    ensures { result ≡ isDefined rows.now row }
+    ensures { result ≡ is_defined rows.now row }
 {
     if row == 0 {
         return false;
@@ -24,7 +24,7 @@ fn is_definition(rows: &[i32], row: usize) -> bool
 // How many functions the table defines: "definitions come first in row 0's list".
 pub fn function_count(rows: &[i32]) -> usize
     requires { InOrder rows.now }
-    ensures { (result ≡ functionCount (contents rows.now)) × (result ≤ rowCount rows.now) }
+    ensures { (result ≡ function_count (contents rows.now)) × (result ≤ row_count rows.now) }
 {
     let mut at = link_at(rows, 0, 1);
     let mut count: usize = 0;
@@ -37,7 +37,7 @@ pub fn function_count(rows: &[i32]) -> usize
 
 // The row of each function, from the end of the room.
 pub fn fill_functions(rows: &[i32], room: &mut [usize])
-    requires { InOrder rows.now × (length room.old ≡ functionCount (contents rows.now)) }
+    requires { InOrder rows.now × (length room.old ≡ function_count (contents rows.now)) }
     ensures { RowsOfFunctions rows.now room.new }
 {
     let mut at = link_at(rows, 0, 1);
@@ -52,7 +52,7 @@ pub fn fill_functions(rows: &[i32], room: &mut [usize])
 // The row that defines the function with this number, in a run's list.
 pub fn function_row(list: &[usize], number: usize) -> usize
     requires { number < length list.now }
-    ensures { result ≡ functionRowIn list.now number }
+    ensures { result ≡ function_row_in list.now number }
 {
     let at = list.len() - 1 - number;
     list[at]

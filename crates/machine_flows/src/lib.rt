@@ -1,5 +1,7 @@
 // What a statement's answer says, and where a list goes on. An answer is one number, so that it comes back in a register: flows.rt says
 // what it means.
+#![tactic(auto)]
+
 pub mod calls; // calls.rt: the rows of arguments and parameters
 pub mod flows; // flows.rt: what a statement's answer says
 pub mod functions; // functions.rt: the rows of functions as a list
@@ -20,7 +22,7 @@ pub const RETURN: i64 = 8589934592;
 
 // How a statement ended: the next item follows; a break, a continue, the search for a label or a return is under way; or the run stops
 // there.
-#[derive(Drop)]
+#[derive(Clone, Copy)]
 pub enum Flow {
     Next,
     Break,
@@ -31,7 +33,7 @@ pub enum Flow {
 }
 
 // What is sought in a list.
-#[derive(Drop)]
+#[derive(Clone, Copy)]
 pub enum SoughtMark {
     Case(i32),
     Default,

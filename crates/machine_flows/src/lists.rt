@@ -1,7 +1,7 @@
 // Where a list goes on: "the run goes on at its label, in the first list outward that has it".
 ghost use Rattle.std.specs.Prelude.{◌≡◌};
-ghost use Rattle.language.specs.Trees.{case as case_of, default as defaultOf, label as label_of};
-ghost use Rattle.language.specs.Decode.{itemsAt};
+ghost use Rattle.language.specs.Trees.{case as case_of, default as default_of, label as label_of};
+ghost use Rattle.language.specs.Decode.{items_at};
 ghost use Rattle.machine_flows.specs.Lists.{mark_of, marks, InTable, Finds, Starts, Resumes};
 
 use super::flows::flow;
@@ -13,7 +13,7 @@ use words::table::{number_at, word_at};
 // default, 53 a label.
 fn is_mark(rows: &[i32], row: usize, mark: SoughtMark) -> bool
     requires { InTable rows.now row }
-    ensures { result ≡ marks (mark_of mark) (itemsAt rows.now row) }
+    ensures { result ≡ marks (mark_of mark) (items_at rows.now row) }
 {
     match mark {
         SoughtMark::Case(value) => is_case(rows, row, value),
@@ -24,7 +24,7 @@ fn is_mark(rows: &[i32], row: usize, mark: SoughtMark) -> bool
 
 fn is_case(rows: &[i32], row: usize, value: i32) -> bool
     requires { InTable rows.now row }
-    ensures { result ≡ marks (case_of value) (itemsAt rows.now row) }
+    ensures { result ≡ marks (case_of value) (items_at rows.now row) }
 {
     let number = number_at(rows, row, 0);
     if number == 48 {
@@ -35,14 +35,14 @@ fn is_case(rows: &[i32], row: usize, value: i32) -> bool
 
 fn is_default(rows: &[i32], row: usize) -> bool
     requires { InTable rows.now row }
-    ensures { result ≡ marks defaultOf (itemsAt rows.now row) }
+    ensures { result ≡ marks default_of (items_at rows.now row) }
 {
     number_at(rows, row, 0) == 49
 }
 
 fn is_label(rows: &[i32], row: usize, label: usize) -> bool
     requires { InTable rows.now row }
-    ensures { result ≡ marks (label_of label) (itemsAt rows.now row) }
+    ensures { result ≡ marks (label_of label) (items_at rows.now row) }
 {
     let number = number_at(rows, row, 0);
     if number == 53 {

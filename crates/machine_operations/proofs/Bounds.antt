@@ -6,27 +6,27 @@ use native.Mathlib.Omega.{arith}
 use native.Mathlib.Numerals.{add-one}
 use lib.IntN.{ℤ}
 use lib.ListN.{length, get_or, take}
-use Rattle.words.specs.Layout.{Layout, sum, storeSize, arrayLength, arrayBase}
-use Rattle.words.specs.Laws.{arrayBase-next, array-in-store}
-use Rattle.language.specs.Functions.{functionCount}
+use Rattle.words.specs.Layout.{Layout, sum, store_size, array_length, array_base}
+use Rattle.words.specs.Laws.{array_base-next, array-in-store}
+use Rattle.language.specs.Functions.{function_count}
 use Rattle.language.specs.Program.{contents}
-use Rattle.machine_operations.specs.Bounds.{boundsFrom, bounds_of, layoutFrom, arrayBounds, layoutIn}
+use Rattle.machine_operations.specs.Bounds.{bounds_from, bounds_of, layout_from, array_bounds, layout_in}
 use Rattle.machine_operations.specs.Ready.{Bounded, Setting}
 
-bounds-length : (base : ℕ) (ns : List ℕ) → length (boundsFrom base ns) ≡ suc (length ns)
-unfolding boundsFrom
+bounds-length : (base : ℕ) (ns : List ℕ) → length (bounds_from base ns) ≡ suc (length ns)
+unfolding bounds_from
 bounds-length base [] = refl
 bounds-length base (n ∷ ns) = ap suc (bounds-length (base + n) ns)
 
-bounds-at : (base : ℕ) (ns : List ℕ) (i : ℕ) → i ≤ length ns → get_or (boundsFrom base ns) i 0 ≡ base + sum (take i ns)
-unfolding boundsFrom sum
+bounds-at : (base : ℕ) (ns : List ℕ) (i : ℕ) → i ≤ length ns → get_or (bounds_from base ns) i 0 ≡ base + sum (take i ns)
+unfolding bounds_from sum
 bounds-at base [] zero h = omega arith
 bounds-at base [] (suc i) h = absurd (omega arith)
 bounds-at base (n ∷ ns) zero h = omega arith
 bounds-at base (n ∷ ns) (suc i) h = omega (arith, bounds-at (base + n) ns i (omega arith))
 
-pub bound-is : (L : Layout) (i : ℕ) → i ≤ length L.lengths → get_or (bounds_of L) i 0 ≡ arrayBase L i
-unfolding bounds_of arrayBase
+pub bound-is : (L : Layout) (i : ℕ) → i ≤ length L.lengths → get_or (bounds_of L) i 0 ≡ array_base L i
+unfolding bounds_of array_base
 bound-is L i h = bounds-at L.variables L.lengths i h
 
 pub bounds-count : (L : Layout) → length (bounds_of L) ≡ suc (length L.lengths)
@@ -35,20 +35,20 @@ bounds-count L = bounds-length L.variables L.lengths
 
 -- what the bounds say of an array
 pub record Lies (L : Layout) (bounds : List ℕ) (array : ℕ) : Type 0 where
-  pub base : get_or bounds array 0 ≡ arrayBase L array
-  pub span : get_or bounds (array + 1) 0 - get_or bounds array 0 ≡ arrayLength L array
+  pub base : get_or bounds array 0 ≡ array_base L array
+  pub span : get_or bounds (array + 1) 0 - get_or bounds array 0 ≡ array_length L array
   pub bounded : Bounded bounds array
 
 -- in a store of so many words, which the arrays fit
-module _ (bounds : List ℕ) (words : ℕ) (are : bounds ≡ bounds_of (layoutFrom bounds)) (fits : storeSize (layoutFrom bounds) ≤ words) (few : words < 65536) (array : ℕ)
-    (h : array < length (layoutFrom bounds).lengths) where
-  pub lies_in : Lies (layoutFrom bounds) bounds array
+module _ (bounds : List ℕ) (words : ℕ) (are : bounds ≡ bounds_of (layout_from bounds)) (fits : store_size (layout_from bounds) ≤ words) (few : words < 65536) (array : ℕ)
+    (h : array < length (layout_from bounds).lengths) where
+  pub lies_in : Lies (layout_from bounds) bounds array
   lies_in =
-      let L = layoutFrom bounds in
-      let here : get_or bounds array 0 ≡ arrayBase L array = ap (λ (l : List ℕ). get_or l array 0) are ∙ bound-is L array (omega arith) in
-      let next : get_or bounds (array + 1) 0 ≡ arrayBase L (array + 1) = ap (λ (l : List ℕ). get_or l (array + 1) 0) are ∙ bound-is L (array + 1) (omega arith) in
+      let L = layout_from bounds in
+      let here : get_or bounds array 0 ≡ array_base L array = ap (λ (l : List ℕ). get_or l array 0) are ∙ bound-is L array (omega arith) in
+      let next : get_or bounds (array + 1) 0 ≡ array_base L (array + 1) = ap (λ (l : List ℕ). get_or l (array + 1) 0) are ∙ bound-is L (array + 1) (omega arith) in
       let count : length bounds ≡ suc (length L.lengths) = ap length are ∙ bounds-count L in
-      let more = arrayBase-next L array h in
+      let more = array_base-next L array h in
       let inside = array-in-store L array h in
       record {
         base = here;
@@ -83,9 +83,9 @@ lies-longer L list n array l =
     take-most (x ∷ l) zero = omega arith
     take-most (x ∷ l) (suc n) = let less = take-most l n in omega arith
 
-module _ {rows : List ℤ} {bounds : List ℕ} {words : ℕ} (setting : Setting rows bounds words) (array : ℕ) (h : array < length (layoutIn rows bounds).lengths) where
-  pub lies : Lies (layoutIn rows bounds) bounds array
-  unfolding layoutIn
+module _ {rows : List ℤ} {bounds : List ℕ} {words : ℕ} (setting : Setting rows bounds words) (array : ℕ) (h : array < length (layout_in rows bounds).lengths) where
+  pub lies : Lies (layout_in rows bounds) bounds array
+  unfolding layout_in
   lies =
-      lies-longer (layoutIn rows bounds) bounds (length bounds - functionCount (contents rows)) array
-      (lies_in (arrayBounds (functionCount (contents rows)) bounds) words setting.bounds-are setting.sound.store-fits setting.few_words array h)
+      lies-longer (layout_in rows bounds) bounds (length bounds - function_count (contents rows)) array
+      (lies_in (array_bounds (function_count (contents rows)) bounds) words setting.bounds_are setting.sound.store_fits setting.few_words array h)

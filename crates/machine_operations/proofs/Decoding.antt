@@ -11,15 +11,15 @@ use mir.Syntax.{w32, w64}
 use mir.Val.{SFits, Fits, to_z, of_z}
 use mir.Facts.{to_z-of_z}
 use borrow.Author.Tests.{ltb-true, ltb-false, lt-ltb, le-ltb, ne_eqb}
-use Rattle.words.specs.Word.{isWord, natural, pick}
+use Rattle.words.specs.Word.{is_word, natural, pick}
 use lib.ListN.{get_or, set}
 use Rattle.arithmetic.specs.Arithmetic.{Outcome, value, apply, element}
 use Rattle.words.specs.declared.Operator.{Operator}
-use Rattle.language.specs.Meaning.{update, oldValue, newValue}
-use Rattle.words.specs.Answers.{faultNumber}
+use Rattle.language.specs.Meaning.{update, old_value, new_value}
+use Rattle.words.specs.Answers.{fault_number}
 use Rattle.arithmetic.specs.Answers.{computed, located}
 use Rattle.words.specs.Laws.{back, below-least-word, above-greatest-word, between-words}
-use Rattle.arithmetic.specs.Laws.{element-inside}
+use Rattle.arithmetic.proofs.Laws.{element-inside}
 use Rattle.words.specs.declared.FaultSort.{FaultSort}
 use Rattle.words.specs.declared.FaultSort.TheVariants.{Index}
 use Rattle.words.specs.AnswerLaws.{faults-apart}
@@ -27,8 +27,8 @@ use Rattle.arithmetic.specs.declared.Computed.{Computed}
 use Rattle.arithmetic.specs.declared.Computed.TheVariants.{Value as Computes, Fails}
 use Rattle.computation.specs.Computation.{settle}
 use Rattle.computation.specs.Run.{Stop, spent, fault}
-use Rattle.computation.specs.Remaining.{gives, halts, spend, onward}
-use Rattle.machine_operations.specs.Answers.{stopNumber, beyond, stopOf, isReturn, operandOf, answered, placed, Settles, Places}
+use Rattle.computation.proofs.Remaining.{gives, halts, spend, onward}
+use Rattle.machine_operations.specs.Answers.{stop_number, beyond, stop_of, is_return, operand_of, answered, placed, Settles, Places}
 use Rattle.machine_operations.specs.declared.Operand.TheVariants.{Value, Halted}
 use Rattle.arithmetic.specs.declared.Located.{Located}
 use Rattle.arithmetic.specs.declared.Located.TheVariants.{At, Outside}
@@ -51,41 +51,41 @@ wide_is z h = ap (λ (x : ℤ). to_z w64 (of_z w64 x)) (back z h) ∙ handed-is 
 
 -- ---- decoding
 
-pub operand-word : (z : ℤ) → mag z < 2 ^ 31 → operandOf z ≡ Value z
-unfolding operandOf isWord
+pub operand-word : (z : ℤ) → mag z < 2 ^ 31 → operand_of z ≡ Value z
+unfolding operand_of is_word
 operand-word z h = rw (lt-ltb _ _ h)
 
-pub operand-other : (z : ℤ) → 2 ^ 31 ≤ mag z → isReturn z ≡ false → operandOf z ≡ Halted
-unfolding operandOf isWord
+pub operand-other : (z : ℤ) → 2 ^ 31 ≤ mag z → is_return z ≡ false → operand_of z ≡ Halted
+unfolding operand_of is_word
 operand-other z h e = rw (le-ltb _ _ h, e)
 
-pub operand-return : (z : ℤ) → 2 ^ 31 ≤ mag z → isReturn z ≡ true → operandOf z ≡ Value (pos 0)
-unfolding operandOf isWord
+pub operand-return : (z : ℤ) → 2 ^ 31 ≤ mag z → is_return z ≡ true → operand_of z ≡ Value (pos 0)
+unfolding operand_of is_word
 operand-return z h e = rw (le-ltb _ _ h, e)
 
 -- a number below the least return's, or a negative one, is none
-pub no-return-below : (n : ℕ) → n < 6442450944 → isReturn (pos n) ≡ false
-unfolding isReturn
+pub no-return-below : (n : ℕ) → n < 6442450944 → is_return (pos n) ≡ false
+unfolding is_return
 no-return-below n h = rw (lt-ltb _ _ h)
 
-pub word-no-return : (z : ℤ) → mag z < 2 ^ 31 → isReturn z ≡ false
-unfolding isReturn
+pub word-no-return : (z : ℤ) → mag z < 2 ^ 31 → is_return z ≡ false
+unfolding is_return
 word-no-return (pos n) h = no-return-below n (omega arith)
 word-no-return (negsuc n) h = refl
 
-pub no-return-negative : (z : ℤ) → lt_z z (negsuc 2147483647) ≡ true → isReturn z ≡ false
-unfolding isReturn
+pub no-return-negative : (z : ℤ) → lt_z z (negsuc 2147483647) ≡ true → is_return z ≡ false
+unfolding is_return
 no-return-negative (pos n) e = absurd (true≢false (sym e))
 no-return-negative (negsuc n) e = refl
 
 -- the tests of `is_return`
 module _ (z : ℤ) (h : SFits w64 z) where
-  pub return-below : lt_z (handed z) (pos 6442450944) ≡ true → false ≡ isReturn z
-  unfolding isReturn
+  pub return-below : lt_z (handed z) (pos 6442450944) ≡ true → false ≡ is_return z
+  unfolding is_return
   return-below e = rw (rw (to_z-of_z {z = z} h) at e)
 
-  pub return-test : lt_z (handed z) (pos 6442450944) ≡ false → lt_z (handed z) (pos 10737418240) ≡ isReturn z
-  unfolding isReturn
+  pub return-test : lt_z (handed z) (pos 6442450944) ≡ false → lt_z (handed z) (pos 10737418240) ≡ is_return z
+  unfolding is_return
   return-test e = rw (to_z-of_z {z = z} h) (rw (rw (to_z-of_z {z = z} h) at e))
 
 -- the tests of `operand`
@@ -93,21 +93,21 @@ module _ (z : ℤ) (h : SFits w64 z) where
   abbrev same : handed z ≡ z
   same = to_z-of_z {z = z} h
 
-  module _ (e : lt_z (pos 2147483647) (handed z) ≡ true) {b : Bool} (r : b ≡ isReturn (handed z)) where
-    pub operand_above : b ≡ false → Halted ≡ operandOf z
-    operand_above q = sym (operand-other z (above-greatest-word z (rw same at e)) (ap isReturn (sym same) ∙ sym r ∙ q))
+  module _ (e : lt_z (pos 2147483647) (handed z) ≡ true) {b : Bool} (r : b ≡ is_return (handed z)) where
+    pub operand_above : b ≡ false → Halted ≡ operand_of z
+    operand_above q = sym (operand-other z (above-greatest-word z (rw same at e)) (ap is_return (sym same) ∙ sym r ∙ q))
 
-    pub operand-returns : b ≡ true → Value (pos 0) ≡ operandOf z
-    operand-returns q = sym (operand-return z (above-greatest-word z (rw same at e)) (ap isReturn (sym same) ∙ sym r ∙ q))
+    pub operand-returns : b ≡ true → Value (pos 0) ≡ operand_of z
+    operand-returns q = sym (operand-return z (above-greatest-word z (rw same at e)) (ap is_return (sym same) ∙ sym r ∙ q))
 
-  pub operand_below : lt_z (handed z) (negsuc 2147483647) ≡ true → Halted ≡ operandOf z
+  pub operand_below : lt_z (handed z) (negsuc 2147483647) ≡ true → Halted ≡ operand_of z
   operand_below e = let f = rw same at e in sym (operand-other z (below-least-word z f) (no-return-negative z f))
 
   module _ (e : lt_z (pos 2147483647) (handed z) ≡ false) (g : lt_z (handed z) (negsuc 2147483647) ≡ false) where
     pub operand-fits : SFits w32 (handed z)
     operand-fits = record { sfits = between-words (handed z) g e }
 
-    pub operand-is : Value (to_z w32 (of_z w32 (handed z))) ≡ operandOf z
+    pub operand-is : Value (to_z w32 (of_z w32 (handed z))) ≡ operand_of z
     operand-is =
         ap Value (to_z-of_z operand-fits ∙ same) ∙ sym (operand-word z (rw same at operand-fits.sfits))
 
@@ -124,35 +124,35 @@ pub answered-wide : (z : ℤ) → mag z < 2 ^ 31 → (n : ℕ) (s : List ℤ) �
 answered-wide z h n s = rw (wide_is z h) (answered-word z h n s)
 
 -- a stop
-pub stop-other : (why : Stop) → 2 ^ 31 ≤ mag (stopNumber why)
-unfolding stopNumber
+pub stop-other : (why : Stop) → 2 ^ 31 ≤ mag (stop_number why)
+unfolding stop_number
 stop-other spent = omega arith
 stop-other (fault sort) = omega (arith, (faults-apart sort).no_other)
 
-pub stop-no-return : (why : Stop) → isReturn (stopNumber why) ≡ false
-unfolding stopNumber
+pub stop-no-return : (why : Stop) → is_return (stop_number why) ≡ false
+unfolding stop_number
 stop-no-return spent = no-return-below 2147483648 (omega arith)
-stop-no-return (fault sort) = no-return-below (2147483647 + faultNumber sort) (omega (arith, (faults-apart sort).small))
+stop-no-return (fault sort) = no-return-below (2147483647 + fault_number sort) (omega (arith, (faults-apart sort).small))
 
-pub stop-again : (why : Stop) → stopOf (stopNumber why) ≡ why
-unfolding stopOf stopNumber beyond
+pub stop-again : (why : Stop) → stop_of (stop_number why) ≡ why
+unfolding stop_of stop_number beyond
 stop-again spent = refl
 stop-again (fault sort) =
-    let number : 2147483647 + faultNumber sort - 2147483647 ≡ faultNumber sort = omega arith in
+    let number : 2147483647 + fault_number sort - 2147483647 ≡ fault_number sort = omega arith in
     let apart = faults-apart sort in
-    rw (number, ne_eqb (faultNumber sort) 1 (λ e. omega (arith, apart.no_other)), apart.again)
+    rw (number, ne_eqb (fault_number sort) 1 (λ e. omega (arith, apart.no_other)), apart.again)
 
 -- the code's sum of the greatest word and a fault's number
-module _ (sort : FaultSort) (n : ℕ) (e : n ≡ faultNumber sort) where
-  counted : pos 2147483647 +ℤ to_z w64 n ≡ stopNumber (fault sort)
-  unfolding stopNumber
+module _ (sort : FaultSort) (n : ℕ) (e : n ≡ fault_number sort) where
+  counted : pos 2147483647 +ℤ to_z w64 n ≡ stop_number (fault sort)
+  unfolding stop_number
   counted = ap (λ (z : ℤ). pos 2147483647 +ℤ z) (handed-is (pos n) (omega (arith, (faults-apart sort).small))) ∙ ap (λ (m : ℕ). pos (2147483647 + m)) e
 
   pub counted-fits : SFits w64 (pos 2147483647 +ℤ to_z w64 n)
-  unfolding stopNumber
+  unfolding stop_number
   counted-fits = rw counted (record { sfits = omega (arith, (faults-apart sort).small) })
 
-  pub counted_is : handed (pos 2147483647 +ℤ to_z w64 n) ≡ stopNumber (fault sort)
+  pub counted_is : handed (pos 2147483647 +ℤ to_z w64 n) ≡ stop_number (fault sort)
   counted_is = handed-is _ counted-fits.sfits ∙ counted
 
 -- how far an answer lies behind the words, as the code tests and subtracts
@@ -169,25 +169,25 @@ pub behind-least : (z : ℤ) → lt_z z (pos 2147483647) ≡ false → 214748364
 behind-least (pos n) e = ltb-false n 2147483647 e
 behind-least (negsuc n) e = absurd (true≢false e)
 
-pub behind-is : (z : ℤ) → lt_z z (pos 2147483647) ≡ false → nat_abs z - 2147483647 ≡ beyond z
+pub behind_is : (z : ℤ) → lt_z z (pos 2147483647) ≡ false → nat_abs z - 2147483647 ≡ beyond z
 unfolding beyond
-behind-is (pos n) e = refl
-behind-is (negsuc n) e = absurd (true≢false e)
+behind_is (pos n) e = refl
+behind_is (negsuc n) e = absurd (true≢false e)
 
-pub answered-stop : (why : Stop) (n : ℕ) (s : List ℤ) → answered (stopNumber why) n s ≡ halts why n s
-answered-stop why n s = rw (operand-other (stopNumber why) (stop-other why) (stop-no-return why), stop-again why)
+pub answered-stop : (why : Stop) (n : ℕ) (s : List ℤ) → answered (stop_number why) n s ≡ halts why n s
+answered-stop why n s = rw (operand-other (stop_number why) (stop-other why) (stop-no-return why), stop-again why)
 
-pub placed-stop : (why : Stop) (n : ℕ) (s : List ℤ) → placed (stopNumber why) n s ≡ halts why n s
-placed-stop why n s = rw (operand-other (stopNumber why) (stop-other why) (stop-no-return why), stop-again why)
+pub placed-stop : (why : Stop) (n : ℕ) (s : List ℤ) → placed (stop_number why) n s ≡ halts why n s
+placed-stop why n s = rw (operand-other (stop_number why) (stop-other why) (stop-no-return why), stop-again why)
 
 -- a run that has no step left
 module _ (n : ℕ) (s : List ℤ) where
   pub answered-spent : answered (pos 2147483648) n s ≡ halts spent n s
-  unfolding stopNumber
+  unfolding stop_number
   answered-spent = answered-stop spent n s
 
   pub placed-spent : placed (pos 2147483648) n s ≡ halts spent n s
-  unfolding stopNumber
+  unfolding stop_number
   placed-spent = placed-stop spent n s
 
 -- a place's word that was cast
@@ -206,7 +206,7 @@ module _ (c : Computed) where
   unfolding spend
   settles-value v e h n s = answered-wide v h n s ∙ rw e
 
-  pub settles-fault : (sort : FaultSort) (z : ℤ) → c ≡ Fails sort → z ≡ stopNumber (fault sort) → mag z < 2 ^ 63 → Settles (handed z) (computed c)
+  pub settles-fault : (sort : FaultSort) (z : ℤ) → c ≡ Fails sort → z ≡ stop_number (fault sort) → mag z < 2 ^ 63 → Settles (handed z) (computed c)
   unfolding spend
   settles-fault sort z e g h n s = rw (handed-is z h, g, answered-stop (fault sort) n s, e)
 
@@ -237,14 +237,14 @@ module _ (o : Operator) (i : ℕ) (right : ℤ) (s : List ℤ) (c : Computed) (e
 
 module _ (o : Operator) (i : ℕ) (right : ℤ) (s : List ℤ) (c : Computed) (e : computed c ≡ apply o (to_z w32 (of_z w32 (get_or s i (pos 0)))) (to_z w32 (of_z w32 right)))
     (g : mag (get_or s i (pos 0)) < 2 ^ 31) (h : mag right < 2 ^ 31) (v : ℤ) (f : c ≡ Computes v) (k : mag v < 2 ^ 31) (old : Bool) (n : ℕ) where
-  stored : gives (pick old oldValue newValue (get_or s i (pos 0)) v) n (set s i (to_z w32 (of_z w32 v))) ≡ spend (update o i right (pick old oldValue newValue)) n s
-  stored = rw (back v k) (sym (update-gives o i right s c e g h (pick old oldValue newValue) n v f))
+  stored : gives (pick old old_value new_value (get_or s i (pos 0)) v) n (set s i (to_z w32 (of_z w32 v))) ≡ spend (update o i right (pick old old_value new_value)) n s
+  stored = rw (back v k) (sym (update-gives o i right s c e g h (pick old old_value new_value) n v f))
 
-  pub update-old : old ≡ true → answered (wide (get_or s i (pos 0))) n (set s i (to_z w32 (of_z w32 v))) ≡ spend (update o i right (pick old oldValue newValue)) n s
-  update-old t = answered-wide (get_or s i (pos 0)) g n _ ∙ ap (λ (b : Bool). gives (pick b oldValue newValue (get_or s i (pos 0)) v) n (set s i (to_z w32 (of_z w32 v)))) (sym t) ∙ stored
+  pub update-old : old ≡ true → answered (wide (get_or s i (pos 0))) n (set s i (to_z w32 (of_z w32 v))) ≡ spend (update o i right (pick old old_value new_value)) n s
+  update-old t = answered-wide (get_or s i (pos 0)) g n _ ∙ ap (λ (b : Bool). gives (pick b old_value new_value (get_or s i (pos 0)) v) n (set s i (to_z w32 (of_z w32 v)))) (sym t) ∙ stored
 
-  pub update-new : old ≡ false → answered (wide v) n (set s i (to_z w32 (of_z w32 v))) ≡ spend (update o i right (pick old oldValue newValue)) n s
-  update-new t = answered-wide v k n _ ∙ ap (λ (b : Bool). gives (pick b oldValue newValue (get_or s i (pos 0)) v) n (set s i (to_z w32 (of_z w32 v)))) (sym t) ∙ stored
+  pub update-new : old ≡ false → answered (wide v) n (set s i (to_z w32 (of_z w32 v))) ≡ spend (update o i right (pick old old_value new_value)) n s
+  update-new t = answered-wide v k n _ ∙ ap (λ (b : Bool). gives (pick b old_value new_value (get_or s i (pos 0)) v) n (set s i (to_z w32 (of_z w32 v)))) (sym t) ∙ stored
 
 -- ---- links and positions
 
@@ -276,6 +276,6 @@ module _ (base length : ℕ) (index : ℤ) (l : Located) (e : located l ≡ elem
   unfolding spend
   within-at i f small n s = placed-position i (omega (arith, within-small i f small)) n s ∙ rw (← tested, f)
 
-  pub within-outside : (z : ℤ) → l ≡ Outside → z ≡ stopNumber (fault Index) → mag z < 2 ^ 63 → Places (handed z) (element base length index)
+  pub within-outside : (z : ℤ) → l ≡ Outside → z ≡ stop_number (fault Index) → mag z < 2 ^ 63 → Places (handed z) (element base length index)
   unfolding spend
   within-outside z f q h n s = ap (λ (x : ℤ). placed x n s) (handed-is z h ∙ q) ∙ placed-stop (fault Index) n s ∙ rw (← tested, f)

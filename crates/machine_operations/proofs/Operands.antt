@@ -12,16 +12,16 @@ use mir.Syntax.{w32}
 use mir.Val.{to_z, of_z}
 use Rattle.words.specs.Word.{pick}
 use Rattle.words.specs.Table.{number_at}
-use Rattle.arithmetic.specs.Arithmetic.{Outcome, isTrue, bit, truth, logicalNot, apply, minus, element}
+use Rattle.arithmetic.specs.Arithmetic.{Outcome, is_true, bit, truth, logical_not, apply, minus, element}
 use Rattle.arithmetic.specs.Answers.{computed}
 use Rattle.words.specs.Laws.{back}
 use Rattle.arithmetic.specs.declared.Computed.{Computed}
 use Rattle.words.specs.declared.Operator.{Operator}
 use Rattle.computation.specs.Computation.{Computation, settle}
-use Rattle.computation.specs.Remaining.{Rest, gives, halts, onward, left_of, spend, left-never-rises}
+use Rattle.computation.proofs.Remaining.{Rest, gives, halts, onward, left_of, spend, left-never-rises}
 use Rattle.language.specs.Sound.{Link, PlaceLink}
-use Rattle.machine_operations.specs.Answers.{stopOf, operandOf, operandRest, answered, position_of, placed, Settles, Fetches, Negates}
-use Rattle.machine_operations.specs.Bounds.{layoutIn}
+use Rattle.machine_operations.specs.Answers.{stop_of, operand_of, operand_rest, answered, position_of, placed, Settles, Fetches, Negates}
+use Rattle.machine_operations.specs.Bounds.{layout_in}
 use Rattle.machine_operations.specs.Ready.{Setting, Ready, ReadyPlace, Entered}
 use Rattle.machine_operations.specs.declared.Operand.{Operand}
 use Rattle.machine_operations.specs.declared.Operand.TheVariants.{Value, Halted}
@@ -35,26 +35,26 @@ use Rattle.machine_operations.proofs.Rows.{field-inside, element-array}
 -- ---- answers: `m` is the part of the run that the call did, `f` the rest of it
 
 module _ {A : Type 0} {m : Rest ℤ} (f : ℤ → ℕ → List ℤ → Rest A) (r : ℤ) (n : ℕ) (s : List ℤ) (fits : mag r < 2 ^ 63) (h : answered r n s ≡ m)
-    (o : Operand) (e : o ≡ operandOf (handed r)) where
-  says : operandOf r ≡ o
-  says = ap operandOf (sym (handed-is r fits)) ∙ sym e
+    (o : Operand) (e : o ≡ operand_of (handed r)) where
+  says : operand_of r ≡ o
+  says = ap operand_of (sym (handed-is r fits)) ∙ sym e
 
   pub goes : (v : ℤ) → o ≡ Value v → onward m f ≡ f v n s
   goes v q = rw (← h, says, q)
 
-  pub stops : o ≡ Halted → onward m f ≡ halts (stopOf r) n s
+  pub stops : o ≡ Halted → onward m f ≡ halts (stop_of r) n s
   stops q = rw (← h, says, q)
 
-module _ {m : Rest ℤ} (r : ℤ) (n : ℕ) (s : List ℤ) (fits : mag r < 2 ^ 63) (h : answered r n s ≡ m) (o : Operand) (e : o ≡ operandOf (handed r)) (q : o ≡ Halted) where
+module _ {m : Rest ℤ} (r : ℤ) (n : ℕ) (s : List ℤ) (fits : mag r < 2 ^ 63) (h : answered r n s ≡ m) (o : Operand) (e : o ≡ operand_of (handed r)) (q : o ≡ Halted) where
   pub hands-up : (f : ℤ → ℕ → List ℤ → Rest ℤ) → answered (handed r) n s ≡ onward m f
   hands-up f = rw (← e, q, handed-is r fits) (sym (stops f r n s fits h o e q))
 
   pub hands-placed : (f : ℤ → ℕ → List ℤ → Rest ℕ) → placed (handed r) n s ≡ onward m f
   hands-placed f = rw (← e, q, handed-is r fits) (sym (stops f r n s fits h o e q))
 
-module _ {m : Rest ℕ} (r : ℤ) (n : ℕ) (s : List ℤ) (fits : mag r < 2 ^ 63) (h : placed r n s ≡ m) (p : Position) (e : p ≡ position_of (operandOf (handed r))) where
-  lies : position_of (operandOf r) ≡ p
-  lies = ap (λ (z : ℤ). position_of (operandOf z)) (sym (handed-is r fits)) ∙ sym e
+module _ {m : Rest ℕ} (r : ℤ) (n : ℕ) (s : List ℤ) (fits : mag r < 2 ^ 63) (h : placed r n s ≡ m) (p : Position) (e : p ≡ position_of (operand_of (handed r))) where
+  lies : position_of (operand_of r) ≡ p
+  lies = ap (λ (z : ℤ). position_of (operand_of z)) (sym (handed-is r fits)) ∙ sym e
 
   pub found : {A : Type 0} (f : ℕ → ℕ → List ℤ → Rest A) (i : ℕ) → p ≡ At i → onward m f ≡ f i n s
   found f i q = rw (← h, lies, q)
@@ -64,10 +64,10 @@ module _ {m : Rest ℕ} (r : ℤ) (n : ℕ) (s : List ℤ) (fits : mag r < 2 ^ 6
   at_value Halted q = refl
 
   pub lost : (f : ℕ → ℕ → List ℤ → Rest ℤ) → p ≡ Nowhere → answered (handed r) n s ≡ onward m f
-  lost f q = rw (at_value (operandOf (handed r)) (sym e ∙ q), handed-is r fits) (rw (← h, lies, q))
+  lost f q = rw (at_value (operand_of (handed r)) (sym e ∙ q), handed-is r fits) (rw (← h, lies, q))
 
 -- an operand's answer, handed on
-pub handed-value : (r : ℤ) (n : ℕ) (s : List ℤ) (o : Operand) → o ≡ operandOf (handed r) → (v : ℤ) → o ≡ Value v → answered (handed r) n s ≡ gives v n s
+pub handed-value : (r : ℤ) (n : ℕ) (s : List ℤ) (o : Operand) → o ≡ operand_of (handed r) → (v : ℤ) → o ≡ Value v → answered (handed r) n s ≡ gives v n s
 handed-value r n s o e v q = rw (← e, q)
 
 -- the bounds test of a word that was handed on
@@ -88,9 +88,9 @@ pub fetched : {m : Rest ℕ} (r : ℤ) (n : ℕ) (s : List ℤ) → mag r < 2 ^ 
 fetched r n s fits h z ok e = handed-on z n s ok ∙ e n ∙ ap (λ (x : Rest ℕ). onward x (λ i n s. gives (get_or s i (pos 0)) n s)) (handed_on-placed r n s fits ∙ h)
 
 pub negated : {m : Rest ℤ} (ofTruth : Bool) (r : ℤ) (n : ℕ) (s : List ℤ) → mag r < 2 ^ 63 → answered r n s ≡ m → (z : ℤ) → mag z < 2 ^ 63 → Negates ofTruth (handed r) z
-    → answered (handed z) n s ≡ onward m (λ v n s. pick ofTruth (gives (logicalNot v) n s) (spend (settle (minus v)) n s))
+    → answered (handed z) n s ≡ onward m (λ v n s. pick ofTruth (gives (logical_not v) n s) (spend (settle (minus v)) n s))
 negated ofTruth r n s fits h z ok e =
-    handed-on z n s ok ∙ e n s ∙ ap (λ (x : Rest ℤ). onward x (λ v n s. pick ofTruth (gives (logicalNot v) n s) (spend (settle (minus v)) n s))) (handed-on r n s fits ∙ h)
+    handed-on z n s ok ∙ e n s ∙ ap (λ (x : Rest ℤ). onward x (λ v n s. pick ofTruth (gives (logical_not v) n s) (spend (settle (minus v)) n s))) (handed-on r n s fits ∙ h)
 
 -- an operation of words that were handed on
 pub operands-handed : (o : Operator) (left right : ℤ) → mag left < 2 ^ 31 → mag right < 2 ^ 31 → (n : ℕ) (s : List ℤ)
@@ -104,9 +104,9 @@ settled_is r c o fits p e n s = handed-on r n s fits ∙ p n s ∙ ap (λ (x : O
 -- ---- the steps left never rise
 
 answered-left : (r : ℤ) (n : ℕ) (s : List ℤ) → left_of (answered r n s) ≡ n
-answered-left r n s = by (operandOf r)
+answered-left r n s = by (operand_of r)
   where
-    by : (o : Operand) → left_of (operandRest o r n s) ≡ n
+    by : (o : Operand) → left_of (operand_rest o r n s) ≡ n
     by (Value v) = refl
     by Halted = refl
 
@@ -119,24 +119,24 @@ module _ {rows : List ℤ} {bounds : List ℕ} {words row : ℕ} (here : Ready r
   pub resize : {size : ℕ} → size ≡ words → Setting rows bounds size
   resize e = rw e here.setting
 
-  module _ {field : ℕ} (link : Link rows (layoutIn rows bounds) words row field) where
+  module _ {field : ℕ} (link : Link rows (layout_in rows bounds) words row field) where
     pub link-asks : field < 6 → (6 * row + field < length rows) × (number_at rows row field < 2147483648)
-    link-asks h = (omega (arith, here.setting.sound.whole, here.below), omega (arith, link.inside, here.setting.few-rows))
+    link-asks h = (omega (arith, here.setting.sound.whole, here.below), omega (arith, link.inside, here.setting.few_rows))
 
     module _ {l : ℕ} (e : l ≡ number_at rows row field) where
       pub linked : {size : ℕ} → size ≡ words → Ready rows bounds size l
       linked q = record { setting = resize q; below = rw e link.inside }
 
-  module _ {field : ℕ} (link : PlaceLink rows (layoutIn rows bounds) words row field) {l : ℕ} (e : l ≡ number_at rows row field) where
+  module _ {field : ℕ} (link : PlaceLink rows (layout_in rows bounds) words row field) {l : ℕ} (e : l ≡ number_at rows row field) where
     pub linked-place : {size : ℕ} → size ≡ words → ReadyPlace rows bounds size l
     linked-place q = record { ready = linked link.0 e q; place_is = rw e link.1 }
 
 -- the number of an element's array
 module _ {rows : List ℤ} {bounds : List ℕ} {words row : ℕ} (here : Entered rows bounds words row (OfExpression Element)) where
   pub array-asks : (6 * row + 1 < length rows) × (number_at rows row 1 < 2147483648)
-  array-asks = (field-inside here.ready 1 (omega arith), omega (arith, element-array here, here.ready.setting.few-arrays))
+  array-asks = (field-inside here.ready 1 (omega arith), omega (arith, element-array here, here.ready.setting.few_arrays))
 
-  pub array-is : {array : ℕ} → array ≡ number_at rows row 1 → array < length (layoutIn rows bounds).lengths
+  pub array-is : {array : ℕ} → array ≡ number_at rows row 1 → array < length (layout_in rows bounds).lengths
   array-is e = rw e (element-array here)
 
 -- ---- tests
@@ -172,6 +172,6 @@ unfolding bit
 decided-bit true n s = refl
 decided-bit false n s = refl
 
-pub truth-is : (v : ℤ) → bit (isTrue v) ≡ truth v
+pub truth-is : (v : ℤ) → bit (is_true v) ≡ truth v
 unfolding truth
 truth-is v = refl

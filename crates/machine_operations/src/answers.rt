@@ -1,8 +1,8 @@
 // What an answer says: a word is a value, and the numbers behind the words say why the run stops.
 ghost use Rattle.std.specs.Prelude.{◌≡◌};
-ghost use Rattle.arithmetic.specs.Answers.{computed as computedOf};
-ghost use Rattle.computation.specs.Run.{fault as faultOf};
-ghost use Rattle.machine_operations.specs.Answers.{isReturn as isReturnOf, operandOf, position_of, stopNumber, beyond as beyondOf, Settles};
+ghost use Rattle.arithmetic.specs.Answers.{computed as computed_of};
+ghost use Rattle.computation.specs.Run.{fault as fault_of};
+ghost use Rattle.machine_operations.specs.Answers.{is_return as is_return_of, operand_of, position_of, stop_number, beyond as beyond_of, Settles};
 
 use super::{GREATEST_WORD, Operand, Position};
 use arithmetic::Computed;
@@ -12,7 +12,7 @@ use words_endings::fault_number;
 
 // Whether an answer is a return's: its value, counted from 2^33.
 pub fn is_return(answer: i64) -> bool
-    ensures { result ≡ isReturnOf answer }
+    ensures { result ≡ is_return_of answer }
 {
     if answer < 6442450944 {
         return false;
@@ -22,7 +22,7 @@ pub fn is_return(answer: i64) -> bool
 
 // The operand that an answer gives.
 pub fn operand(answer: i64) -> Operand
-    ensures { result ≡ operandOf answer }
+    ensures { result ≡ operand_of answer }
 {
     if answer > GREATEST_WORD {
         if is_return(answer) {
@@ -38,7 +38,7 @@ pub fn operand(answer: i64) -> Operand
 
 // The position that an answer gives: a place's, or the row of a block.
 pub fn position(answer: i64) -> Position
-    ensures { result ≡ position_of (operandOf answer) }
+    ensures { result ≡ position_of (operand_of answer) }
 {
     let found = operand(answer);
     let Operand::Value(word) = found else {
@@ -49,14 +49,14 @@ pub fn position(answer: i64) -> Position
 
 // The answer for a run that a fault stops.
 pub fn fault(sort: FaultSort) -> i64
-    ensures { result ≡ stopNumber (faultOf sort) }
+    ensures { result ≡ stop_number (fault_of sort) }
 {
     GREATEST_WORD + fault_number(sort) as i64
 }
 
 // How far an answer lies behind the words: the number of the ending, where the run stopped.
 pub fn beyond(answer: i64) -> u64
-    ensures { result ≡ beyondOf answer }
+    ensures { result ≡ beyond_of answer }
 {
     if answer < GREATEST_WORD {
         return 0;
@@ -66,7 +66,7 @@ pub fn beyond(answer: i64) -> u64
 
 // The answer for what an operation gives.
 pub fn settled(computed: Computed) -> i64
-    ensures { Settles result (computedOf computed) }
+    ensures { Settles result (computed_of computed) }
 {
     match computed {
         Computed::Value(value) => value as i64,

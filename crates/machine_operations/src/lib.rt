@@ -1,5 +1,7 @@
 // What an evaluation does without entering a row. An answer is one number, so that it comes back in a register: a word is the value, and
 // the numbers behind the words say why the run stops: the greatest word and the ending's number.
+#![tactic(auto)]
+
 pub mod answers; // answers.rt: what an answer says
 pub mod operations; // operations.rt: what an evaluation does without entering a row
 
@@ -12,14 +14,14 @@ pub const SPENT: i64 = GREATEST_WORD + 1;
 pub const GUARD: i64 = GREATEST_WORD + 5;
 
 // What an operand comes to: its value, or the run stops there.
-#[derive(Drop)]
+#[derive(Clone, Copy)]
 pub enum Operand {
     Value(i32),
     Halted,
 }
 
 // Where an answer points: a place's position in the store, or a row of the table; or the run stops there.
-#[derive(Drop)]
+#[derive(Clone, Copy)]
 pub enum Position {
     At(usize),
     Nowhere,

@@ -5,12 +5,12 @@ ghost use Rattle.words.specs.Table.{word_at, number_at};
 ghost use Rattle.words.specs.Kinds.{between};
 ghost use Rattle.words.specs.declared.Kind.TheVariants.{OfExpression};
 ghost use Rattle.words.specs.declared.ExpressionKind.TheVariants.{Variable};
-ghost use Rattle.arithmetic.specs.Arithmetic.{isTrue, apply as applyOf, element as elementOf};
-ghost use Rattle.computation.specs.Remaining.{gives, spend};
-ghost use Rattle.language.specs.Meaning.{update as updateOf, oldValue, newValue};
-ghost use Rattle.machine_operations.specs.Answers.{operandOf, answered, position_of, Settles, Places, Fetches, Negates};
+ghost use Rattle.arithmetic.specs.Arithmetic.{is_true, apply as apply_of, element as element_of};
+ghost use Rattle.computation.proofs.Remaining.{gives, spend};
+ghost use Rattle.language.specs.Meaning.{update as update_of, old_value, new_value};
+ghost use Rattle.machine_operations.specs.Answers.{operand_of, answered, position_of, Settles, Places, Fetches, Negates};
 ghost use Rattle.machine_operations.specs.Ready.{Bounded, Entered};
-ghost use Rattle.machine_operations.specs.Rows.{evaluateAt};
+ghost use Rattle.machine_operations.specs.Rows.{evaluate_at};
 ghost use Rattle.machine_operations.specs.declared.Position.TheVariants.{At};
 
 use super::answers::{fault, operand, position, settled};
@@ -41,7 +41,7 @@ pub fn constant(rows: &[i32], row: usize) -> i64
 // A variable's row, entered: its word of the store.
 pub fn variable(rows: &[i32], bounds: &[usize], row: usize, store: &[i32]) -> i64
     requires { Entered rows.now bounds.now (length store.now) row (OfExpression Variable) }
-    ensures { (n : ℕ) → answered result n store.now ≡ spend (evaluateAt rows.now bounds.now row) n store.now }
+    ensures { (n : ℕ) → answered result n store.now ≡ spend (evaluate_at rows.now bounds.now row) n store.now }
 {
     let at = link_at(rows, row, 1);
     store[at] as i64
@@ -49,7 +49,7 @@ pub fn variable(rows: &[i32], bounds: &[usize], row: usize, store: &[i32]) -> i6
 
 // The word at the position that a place's answer gives; a stop is handed on.
 pub fn fetch(answer: i64, store: &[i32]) -> i64
-    requires { (length store.now < 65536) × ((i : ℕ) → position_of (operandOf answer) ≡ At i → i < length store.now) }
+    requires { (length store.now < 65536) × ((i : ℕ) → position_of (operand_of answer) ≡ At i → i < length store.now) }
     ensures { Fetches answer store.now result }
 {
     let place = position(answer);
@@ -85,7 +85,7 @@ pub fn is_binary(number: usize) -> bool
 
 // Whether the left operand of an and (false) or an or (true) decides its value.
 pub fn decides(value: i32, decided: bool) -> bool
-    ensures { result ≡ pick decided (isTrue value) (not (isTrue value)) }
+    ensures { result ≡ pick decided (is_true value) (not (is_true value)) }
 {
     if decided {
         return is_true(value);
@@ -96,7 +96,7 @@ pub fn decides(value: i32, decided: bool) -> bool
 // The bounds test: an array lies from its own bound up to the next.
 pub fn within(bounds: &[usize], array: usize, index: i32) -> i64
     requires { Bounded bounds.now array }
-    ensures { Places result (elementOf (get_or bounds.now array 0) (get_or bounds.now (array + 1) 0 - get_or bounds.now array 0) index) }
+    ensures { Places result (element_of (get_or bounds.now array 0) (get_or bounds.now (array + 1) 0 - get_or bounds.now array 0) index) }
 {
     let base = bounds[array];
     let end = bounds[array + 1];
@@ -110,7 +110,7 @@ pub fn within(bounds: &[usize], array: usize, index: i32) -> i64
 // The answer of an operation: kinds 6 to 16. This is for `binary` alone, so that the compiler builds it in: what `apply` gives would
 // come back through memory.
 pub fn operate(operator: Operator, left: i32, right: i32) -> i64
-    ensures { Settles result (applyOf operator left right) }
+    ensures { Settles result (apply_of operator left right) }
 {
     match operator {
         Operator::Add => settled(add(left, right)),
@@ -130,7 +130,7 @@ pub fn operate(operator: Operator, left: i32, right: i32) -> i64
 // Read a word, operate, store; the result is the old value or the new one.
 pub fn update(operator: Operator, at: usize, right: i32, old: bool, store: &mut [i32]) -> i64
     requires { at < length store.old }
-    ensures { (n : ℕ) → answered result n store.new ≡ spend (updateOf operator at right (pick old oldValue newValue)) n store.old }
+    ensures { (n : ℕ) → answered result n store.new ≡ spend (update_of operator at right (pick old old_value new_value)) n store.old }
 {
     let before = store[at];
     let result = apply(operator, before, right);

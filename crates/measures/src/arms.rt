@@ -1,9 +1,9 @@
 // The measures of arms, from those of the first arm and of the arms behind it.
 ghost use Rattle.std.specs.Prelude.{◌≡◌, ◌+◌, ◌<◌};
-ghost use Rattle.words.specs.Table.{rowCount};
-ghost use Rattle.language.specs.Decode.{armsAt};
-ghost use Rattle.measures_table.specs.Parts.{calledIn};
-ghost use Rattle.measures_table.specs.Measures.{armMeasures, LinkMeasured, MeasuredFrom, ArmsMeasured};
+ghost use Rattle.words.specs.Table.{row_count};
+ghost use Rattle.language.specs.Decode.{arms_at};
+ghost use Rattle.measures_table.specs.Parts.{called_in};
+ghost use Rattle.measures_table.specs.Measures.{arm_measures, LinkMeasured, MeasuredFrom, ArmsMeasured};
 
 use language_shapes::ArmShape;
 use language_shapes::rows::arm_at;
@@ -17,7 +17,7 @@ use words::table::number_at;
 // An arm brings 5 rows beside its guard and its block: an if with its atom and two blocks, and a goto. `next` is the row behind it.
 fn arm_measures(table: &[usize], guard: usize, body: usize, next: usize) -> StatementMeasures
     requires { LinkMeasured table.now guard × LinkMeasured table.now body × LinkMeasured table.now next }
-    ensures { result ≡ armMeasures table.now guard body next }
+    ensures { result ≡ arm_measures table.now guard body next }
 {
     let test = measure_at(table, guard, ROWS);
     let onward = measure_at(table, body, STATEMENT_ROWS);
@@ -36,8 +36,8 @@ fn arm_measures(table: &[usize], guard: usize, body: usize, next: usize) -> Stat
 
 // The arms from a row on; a row that is no arm ends them.
 pub fn measured_arms(rows: &[i32], table: &[usize], row: usize) -> StatementMeasures
-    requires { MeasuredFrom rows.now table.now (row + 1) × (row < rowCount rows.now) }
-    ensures { ArmsMeasured (calledIn rows.now) (armsAt rows.now row) result }
+    requires { MeasuredFrom rows.now table.now (row + 1) × (row < row_count rows.now) }
+    ensures { ArmsMeasured (called_in rows.now) (arms_at rows.now row) result }
 {
     let next = number_at(rows, row, 5);
     let shape = arm_at(rows, row);

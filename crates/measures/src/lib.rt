@@ -1,5 +1,7 @@
 // Measures: how many kernel rows, temporaries and labels the code of each source row takes, found by one pass before anything is
 // written. So every link of the translation is known when its row is written.
+#![tactic(auto)]
+
 pub mod arms; // arms.rt: the measures of arms
 pub mod lists; // lists.rt: the measures of a list
 pub mod pass; // pass.rt: the pass over the rows

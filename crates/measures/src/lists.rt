@@ -1,11 +1,11 @@
 // The measures of a list, from those of its first item and of the list behind it.
 ghost use Rattle.std.specs.Prelude.{◌≡◌, ◌+◌, ◌≤◌, ◌<◌};
-ghost use Rattle.words.specs.Table.{rowCount};
-ghost use Rattle.language.specs.Decode.{statementAt, itemsAt};
+ghost use Rattle.words.specs.Table.{row_count};
+ghost use Rattle.language.specs.Decode.{statement_at, items_at};
 ghost use Rattle.language_shapes.specs.Shapes.{ItemAt};
 ghost use Rattle.language_shapes.specs.declared.Item.TheVariants.{Mark};
-ghost use Rattle.measures_table.specs.Parts.{calledIn};
-ghost use Rattle.measures_table.specs.Measures.{limited as limitedTo, pastLabels, MarkAsks, markMeasures, StatementAsks, statementMeasures, MeasuredFrom, StatementMeasured, ListMeasured};
+ghost use Rattle.measures_table.specs.Parts.{called_in};
+ghost use Rattle.measures_table.specs.Measures.{limited as limited_to, past_labels, MarkAsks, mark_measures, StatementAsks, statement_measures, MeasuredFrom, StatementMeasured, ListMeasured};
 
 use language_shapes::rows::item_at;
 use language_shapes::{Item, MarkShape};
@@ -18,7 +18,7 @@ use words::table::number_at;
 // The place of a default that stands behind `more` labels; 0 stays 0.
 fn past_labels(more: usize, place: usize) -> usize
     requires { (more ≤ 65536) × (place ≤ 65536) }
-    ensures { result ≡ limitedTo (pastLabels more place) }
+    ensures { result ≡ limited_to (past_labels more place) }
 {
     if place == 0 {
         return 0;
@@ -29,7 +29,7 @@ fn past_labels(more: usize, place: usize) -> usize
 // A list that begins with a mark.
 fn behind_mark(table: &[usize], next: usize, cases: usize, default: usize) -> ListMeasures
     requires { MarkAsks table.now next cases default }
-    ensures { result ≡ markMeasures table.now next cases default }
+    ensures { result ≡ mark_measures table.now next cases default }
 {
     ListMeasures {
         rows: limited(1 + measure_at(table, next, LIST_ROWS)),
@@ -43,7 +43,7 @@ fn behind_mark(table: &[usize], next: usize, cases: usize, default: usize) -> Li
 // A list that begins with a statement.
 fn behind_statement(table: &[usize], next: usize, s: StatementMeasures) -> ListMeasures
     requires { StatementAsks table.now next s }
-    ensures { result ≡ statementMeasures table.now next s }
+    ensures { result ≡ statement_measures table.now next s }
 {
     ListMeasures {
         rows: limited(s.rows + measure_at(table, next, LIST_ROWS)),
@@ -63,7 +63,7 @@ fn measured_mark(
     mark: MarkShape,
 ) -> ListMeasures
     requires { MeasuredFrom rows.now table.now (row + 1) × ItemAt rows.now row next (Mark mark) }
-    ensures { ListMeasured (calledIn rows.now) (itemsAt rows.now row) result }
+    ensures { ListMeasured (called_in rows.now) (items_at rows.now row) result }
 {
     match mark {
         MarkShape::Case(_) => {
@@ -92,8 +92,8 @@ pub fn measured_list(
     row: usize,
     statement: StatementMeasures,
 ) -> ListMeasures
-    requires { MeasuredFrom rows.now table.now (row + 1) × (row < rowCount rows.now) × StatementMeasured (calledIn rows.now) (statementAt rows.now row) statement }
-    ensures { ListMeasured (calledIn rows.now) (itemsAt rows.now row) result }
+    requires { MeasuredFrom rows.now table.now (row + 1) × (row < row_count rows.now) × StatementMeasured (called_in rows.now) (statement_at rows.now row) statement }
+    ensures { ListMeasured (called_in rows.now) (items_at rows.now row) result }
 {
     let next = number_at(rows, row, 5);
     let item = item_at(rows, row);

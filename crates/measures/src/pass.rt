@@ -1,6 +1,6 @@
 // The pass over the rows, from the last to the first: every link leads to a row that is measured already.
 ghost use Rattle.std.specs.Prelude.{◌+◌, ◌*◌, ◌≤◌, ◌<◌, length};
-ghost use Rattle.words.specs.Table.{rowCount};
+ghost use Rattle.words.specs.Table.{row_count};
 ghost use Rattle.language_shapes.specs.Source.{NamesFrom, Source};
 ghost use Rattle.write_sets_rows.specs.WriteSets.{Sets};
 ghost use Rattle.measures_table.specs.Measures.{width, MeasuredFrom, Measured};
@@ -14,7 +14,7 @@ use write_sets_functions::functions::gather_functions;
 use write_sets_rows::writes::fill_sets;
 
 fn measure_row(store: usize, rows: &[i32], sets: &[u64], table: &mut [usize], row: usize)
-    requires { Sets store rows.now sets.now × MeasuredFrom rows.now table.old (row + 1) × (row < rowCount rows.now) }
+    requires { Sets store rows.now sets.now × MeasuredFrom rows.now table.old (row + 1) × (row < row_count rows.now) }
     ensures { MeasuredFrom rows.now table.new row }
 {
     let expression = measured_expression(store, rows, sets, table, row);
@@ -25,7 +25,7 @@ fn measure_row(store: usize, rows: &[i32], sets: &[u64], table: &mut [usize], ro
 }
 
 fn measure_rows(store: usize, rows: &[i32], sets: &[u64], table: &mut [usize])
-    requires { Sets store rows.now sets.now × (width * rowCount rows.now ≤ length table.old) }
+    requires { Sets store rows.now sets.now × (width * row_count rows.now ≤ length table.old) }
     ensures { Measured rows.now table.new }
 {
     let mut row = rows.len() / 6;
@@ -37,7 +37,7 @@ fn measure_rows(store: usize, rows: &[i32], sets: &[u64], table: &mut [usize])
 
 // Fills the table of measures; the write sets, those of the functions first, are needed only here. The declared words begin at `store`.
 pub fn measure(store: usize, rows: &[i32], table: &mut [usize])
-    requires { Source rows.now × NamesFrom store rows.now × (width * rowCount rows.now ≤ length table.old) }
+    requires { Source rows.now × NamesFrom store rows.now × (width * row_count rows.now ≤ length table.old) }
     ensures { Measured rows.now table.new }
 {
     let mut sets = [0u64; 10240];

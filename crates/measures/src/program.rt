@@ -1,13 +1,13 @@
 // The measures of a program: those of its definitions, one after the other, and of its main part.
 ghost use Rattle.std.specs.Prelude.{◌≡◌, true, ◌≤◌, ◌<◌};
-ghost use Rattle.words.specs.Table.{rowCount};
-ghost use Rattle.language.specs.Decode.{listAt, parameterListAt};
+ghost use Rattle.words.specs.Table.{row_count};
+ghost use Rattle.language.specs.Decode.{list_at, parameter_list_at};
 ghost use Rattle.language.specs.Program.{contents};
 ghost use Rattle.language_shapes.specs.Source.{Source};
-ghost use Rattle.measures_table.specs.Parts.{calledIn};
+ghost use Rattle.measures_table.specs.Parts.{called_in};
 ghost use Rattle.measures_table.specs.Measures.{LinkMeasured, Measured, ProgramMeasured};
-ghost use Rattle.write_sets_functions.specs.Definitions.{defines, definedAt};
-ghost use Rattle.measures.specs.Programs.{CountIs, SmallMeasures, added as addedTo, listMeasures, DefinitionMeasured};
+ghost use Rattle.write_sets_functions.specs.Definitions.{defines, defined_at};
+ghost use Rattle.measures.specs.Programs.{CountIs, SmallMeasures, added as added_to, list_measures, DefinitionMeasured};
 
 use measures_table::table::{limited, measure_at};
 use measures_table::{
@@ -19,8 +19,8 @@ use write_sets_functions::definitions::{is_definition, is_parameter};
 
 // How many parameters there are from a link on.
 pub fn parameter_count(rows: &[i32], first: usize) -> usize
-    requires { Source rows.now × (first < rowCount rows.now) }
-    ensures { CountIs (parameterListAt rows.now first) result }
+    requires { Source rows.now × (first < row_count rows.now) }
+    ensures { CountIs (parameter_list_at rows.now first) result }
 {
     let mut count: usize = 0;
     let mut row = first;
@@ -33,8 +33,8 @@ pub fn parameter_count(rows: &[i32], first: usize) -> usize
 
 // The definition at a row: its row, those of its parameters, and its block.
 pub fn definition_measures(rows: &[i32], table: &[usize], row: usize) -> StatementMeasures
-    requires { Measured rows.now table.now × (row < rowCount rows.now) × (defines rows.now row ≡ true) }
-    ensures { DefinitionMeasured (calledIn rows.now) (definedAt rows.now row) result }
+    requires { Measured rows.now table.now × (row < row_count rows.now) × (defines rows.now row ≡ true) }
+    ensures { DefinitionMeasured (called_in rows.now) (defined_at rows.now row) result }
 {
     let parameters = parameter_count(rows, number_at(rows, row, 2));
     let body = number_at(rows, row, 3);
@@ -48,7 +48,7 @@ pub fn definition_measures(rows: &[i32], table: &[usize], row: usize) -> Stateme
 // The list from a link on.
 fn list_measures(table: &[usize], list: usize) -> StatementMeasures
     requires { LinkMeasured table.now list }
-    ensures { result ≡ listMeasures table.now list }
+    ensures { result ≡ list_measures table.now list }
 {
     StatementMeasures {
         rows: measure_at(table, list, LIST_ROWS),
@@ -59,7 +59,7 @@ fn list_measures(table: &[usize], list: usize) -> StatementMeasures
 
 fn added(found: StatementMeasures, more: StatementMeasures) -> StatementMeasures
     requires { SmallMeasures found × SmallMeasures more }
-    ensures { result ≡ addedTo found more }
+    ensures { result ≡ added_to found more }
 {
     StatementMeasures {
         rows: limited(found.rows + more.rows),
@@ -70,8 +70,8 @@ fn added(found: StatementMeasures, more: StatementMeasures) -> StatementMeasures
 
 // The definitions from a link on, and the main part behind them.
 pub fn program_measures(rows: &[i32], table: &[usize], first: usize) -> StatementMeasures
-    requires { Measured rows.now table.now × (first < rowCount rows.now) }
-    ensures { ProgramMeasured (calledIn rows.now) (listAt rows.now first) result }
+    requires { Measured rows.now table.now × (first < row_count rows.now) }
+    ensures { ProgramMeasured (called_in rows.now) (list_at rows.now first) result }
 {
     let mut found = StatementMeasures {
         rows: 0,
@@ -89,7 +89,7 @@ pub fn program_measures(rows: &[i32], table: &[usize], first: usize) -> Statemen
 // The program, whose list row 0 has.
 pub fn measured_program(rows: &[i32], table: &[usize]) -> StatementMeasures
     requires { Measured rows.now table.now }
-    ensures { ProgramMeasured (calledIn rows.now) (contents rows.now) result }
+    ensures { ProgramMeasured (called_in rows.now) (contents rows.now) result }
 {
     program_measures(rows, table, number_at(rows, 0, 1))
 }

@@ -1,9 +1,9 @@
 // The measures of a statement, by its shape, from those of the rows that its links lead to.
 ghost use Rattle.std.specs.Prelude.{◌≡◌, ◌+◌, ◌≤◌, ◌<◌};
-ghost use Rattle.words.specs.Table.{rowCount};
-ghost use Rattle.language.specs.Decode.{statementAt};
-ghost use Rattle.measures_table.specs.Parts.{calledIn};
-ghost use Rattle.measures_table.specs.Measures.{plainMeasures, expressMeasures, blockMeasures, ifMeasures, loopMeasures, switchMeasures, guardedMeasures, roundsMeasures, declareMeasures, returnMeasures, LinkMeasured, TestIs, MeasuredFrom, StatementMeasured};
+ghost use Rattle.words.specs.Table.{row_count};
+ghost use Rattle.language.specs.Decode.{statement_at};
+ghost use Rattle.measures_table.specs.Parts.{called_in};
+ghost use Rattle.measures_table.specs.Measures.{plain_measures, express_measures, block_measures, if_measures, loop_measures, switch_measures, guarded_measures, rounds_measures, declare_measures, return_measures, LinkMeasured, TestIs, MeasuredFrom, StatementMeasured};
 
 use language_shapes::StatementShape;
 use language_shapes::rows::statement_at;
@@ -28,7 +28,7 @@ fn test_rows(table: &[usize], test: usize) -> usize
 
 // A statement of one row.
 fn plain_measures() -> StatementMeasures
-    ensures { result ≡ plainMeasures }
+    ensures { result ≡ plain_measures }
 {
     StatementMeasures {
         rows: 1,
@@ -39,7 +39,7 @@ fn plain_measures() -> StatementMeasures
 
 fn express_measures(table: &[usize], e: usize) -> StatementMeasures
     requires { LinkMeasured table.now e }
-    ensures { result ≡ expressMeasures table.now e }
+    ensures { result ≡ express_measures table.now e }
 {
     StatementMeasures {
         rows: larger(1, measure_at(table, e, DROPPED_ROWS)),
@@ -50,7 +50,7 @@ fn express_measures(table: &[usize], e: usize) -> StatementMeasures
 
 fn block_measures(table: &[usize], list: usize) -> StatementMeasures
     requires { LinkMeasured table.now list }
-    ensures { result ≡ blockMeasures table.now list }
+    ensures { result ≡ block_measures table.now list }
 {
     StatementMeasures {
         rows: limited(1 + measure_at(table, list, LIST_ROWS)),
@@ -61,7 +61,7 @@ fn block_measures(table: &[usize], list: usize) -> StatementMeasures
 
 fn if_measures(table: &[usize], e: usize, yes: usize, no: usize) -> StatementMeasures
     requires { LinkMeasured table.now e × LinkMeasured table.now yes × LinkMeasured table.now no }
-    ensures { result ≡ ifMeasures table.now e yes no }
+    ensures { result ≡ if_measures table.now e yes no }
 {
     let test = measure_at(table, e, ROWS);
     let onward = measure_at(table, yes, STATEMENT_ROWS);
@@ -87,7 +87,7 @@ fn loop_measures(
     body: usize,
 ) -> StatementMeasures
     requires { LinkMeasured table.now first × LinkMeasured table.now test × LinkMeasured table.now step × LinkMeasured table.now body }
-    ensures { result ≡ loopMeasures table.now first test step body }
+    ensures { result ≡ loop_measures table.now first test step body }
 {
     let before = measure_at(table, first, DROPPED_ROWS) + test_rows(table, test);
     let round = measure_at(table, step, DROPPED_ROWS) + measure_at(table, body, STATEMENT_ROWS);
@@ -109,7 +109,7 @@ fn loop_measures(
 // A switch; `taken` is how many temporaries the selector's value takes.
 fn switch_measures(table: &[usize], taken: usize, e: usize, list: usize) -> StatementMeasures
     requires { LinkMeasured table.now e × LinkMeasured table.now list × (taken ≤ 1) }
-    ensures { result ≡ switchMeasures table.now taken e list }
+    ensures { result ≡ switch_measures table.now taken e list }
 {
     let selector = measure_at(table, e, ROWS);
     let tests = 11 * measure_at(table, list, LIST_CASES);
@@ -128,7 +128,7 @@ fn switch_measures(table: &[usize], taken: usize, e: usize, list: usize) -> Stat
 // The arms of a guarded form, with the rows and labels of its own.
 fn guarded_measures(table: &[usize], own: usize, labels: usize, arms: usize) -> StatementMeasures
     requires { LinkMeasured table.now arms × (own ≤ 6) × (labels ≤ 2) }
-    ensures { result ≡ guardedMeasures table.now own labels arms }
+    ensures { result ≡ guarded_measures table.now own labels arms }
 {
     StatementMeasures {
         rows: limited(own + measure_at(table, arms, ARMS_ROWS)),
@@ -140,7 +140,7 @@ fn guarded_measures(table: &[usize], own: usize, labels: usize, arms: usize) -> 
 // A guarded do; without arms it has no rounds.
 fn rounds_measures(table: &[usize], arms: usize) -> StatementMeasures
     requires { LinkMeasured table.now arms }
-    ensures { result ≡ roundsMeasures table.now arms }
+    ensures { result ≡ rounds_measures table.now arms }
 {
     if measure_at(table, arms, ARMS_ROWS) == 0 {
         return plain_measures();
@@ -151,7 +151,7 @@ fn rounds_measures(table: &[usize], arms: usize) -> StatementMeasures
 // A declaration; `store` is how many rows store its value.
 fn declare_measures(table: &[usize], store: usize, e: usize) -> StatementMeasures
     requires { LinkMeasured table.now e × (store ≤ 4) }
-    ensures { result ≡ declareMeasures table.now store e }
+    ensures { result ≡ declare_measures table.now store e }
 {
     StatementMeasures {
         rows: limited(store + measure_at(table, e, ROWS)),
@@ -163,7 +163,7 @@ fn declare_measures(table: &[usize], store: usize, e: usize) -> StatementMeasure
 // A return takes 2 rows beside the code of its value: its own and that of the atom.
 fn return_measures(table: &[usize], value: usize) -> StatementMeasures
     requires { LinkMeasured table.now value }
-    ensures { result ≡ returnMeasures table.now value }
+    ensures { result ≡ return_measures table.now value }
 {
     StatementMeasures {
         rows: limited(2 + measure_at(table, value, ROWS)),
@@ -173,8 +173,8 @@ fn return_measures(table: &[usize], value: usize) -> StatementMeasures
 }
 
 pub fn measured_statement(rows: &[i32], table: &[usize], row: usize) -> StatementMeasures
-    requires { MeasuredFrom rows.now table.now (row + 1) × (row < rowCount rows.now) }
-    ensures { StatementMeasured (calledIn rows.now) (statementAt rows.now row) result }
+    requires { MeasuredFrom rows.now table.now (row + 1) × (row < row_count rows.now) }
+    ensures { StatementMeasured (called_in rows.now) (statement_at rows.now row) result }
 {
     let shape = statement_at(rows, row);
     match shape {

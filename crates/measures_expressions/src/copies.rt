@@ -2,15 +2,15 @@
 // words begin at `store`.
 ghost use Rattle.std.specs.Prelude.{◌≡◌, ◌+◌, ◌*◌, ◌≤◌, ◌<◌, length};
 ghost use Rattle.words.specs.Word.{pick};
-ghost use Rattle.words.specs.Table.{rowCount};
-ghost use Rattle.language.specs.Decode.{place_of, expressionAt, part_at};
-ghost use Rattle.translation.specs.Translate.{atomOf};
+ghost use Rattle.words.specs.Table.{row_count};
+ghost use Rattle.language.specs.Decode.{place_of, expression_at, part_at};
+ghost use Rattle.translation.specs.Translate.{atom_of};
 ghost use Rattle.translation.specs.TranslateSize.{copied};
 ghost use Rattle.language_shapes.specs.Source.{NamesFrom, Source, ExpressionAt};
 ghost use Rattle.language_shapes.specs.declared.ExpressionShape.TheVariants.{Operation};
 ghost use Rattle.write_sets.specs.Sets.{member};
-ghost use Rattle.measures_table.specs.Parts.{calledIn, index_of, firstCopied, Operand};
-ghost use Rattle.write_sets_rows.specs.WriteSets.{partWrites, Sets};
+ghost use Rattle.measures_table.specs.Parts.{called_in, index_of, first_copied, Operand};
+ghost use Rattle.write_sets_rows.specs.WriteSets.{part_writes, Sets};
 ghost use Rattle.measures_table.specs.Measures.{width, MeasuredFrom, MeasuredRow};
 ghost use Rattle.measures_expressions.specs.Passed.{CopiedBy};
 
@@ -39,8 +39,8 @@ pub fn copied_against(
     row: usize,
     set: WriteSet,
 ) -> usize
-    requires { Source rows.now × NamesFrom store rows.now × (row < rowCount rows.now) × (width * rowCount rows.now ≤ length table.now) × MeasuredRow rows.now table.now row }
-    ensures { CopiedBy store (calledIn rows.now) (expressionAt rows.now row) set result }
+    requires { Source rows.now × NamesFrom store rows.now × (row < row_count rows.now) × (width * row_count rows.now ≤ length table.now) × MeasuredRow rows.now table.now row }
+    ensures { CopiedBy store (called_in rows.now) (expression_at rows.now row) set result }
 {
     let holder = holder_at(rows, table, row);
     match holder {
@@ -59,17 +59,17 @@ fn copied_over(
     row: usize,
     meanwhile: usize,
 ) -> usize
-    requires sets { Sets store rows.now sets.now × (row < rowCount rows.now) × (meanwhile < rowCount rows.now) }
-    requires rows_in_bounds { (width * rowCount rows.now ≤ length table.now) × MeasuredRow rows.now table.now row }
-    ensures { result ≡ copied (atomOf (calledIn rows.now) (expressionAt rows.now row)) (partWrites (calledIn rows.now) (part_at rows.now meanwhile)) }
+    requires sets { Sets store rows.now sets.now × (row < row_count rows.now) × (meanwhile < row_count rows.now) }
+    requires rows_in_bounds { (width * row_count rows.now ≤ length table.now) × MeasuredRow rows.now table.now row }
+    ensures { result ≡ copied (atom_of (called_in rows.now) (expression_at rows.now row)) (part_writes (called_in rows.now) (part_at rows.now meanwhile)) }
 {
     copied_against(store, rows, table, row, set_at(sets, meanwhile))
 }
 
 // The row of the index of the place at a row; 0 for a variable.
 fn index_at(rows: &[i32], row: usize) -> usize
-    requires { Source rows.now × (row < rowCount rows.now) }
-    ensures { Operand rows.now row result (index_of (place_of (expressionAt rows.now row))) }
+    requires { Source rows.now × (row < row_count rows.now) }
+    ensures { Operand rows.now row result (index_of (place_of (expression_at rows.now row))) }
 {
     let place = place_at(rows, row);
     match place {
@@ -87,7 +87,7 @@ fn copied_operation(
     operation: OperationShape,
 ) -> usize
     requires { Sets store rows.now sets.now × MeasuredFrom rows.now table.now (row + 1) × ExpressionAt rows.now row (Operation operation) }
-    ensures { result ≡ firstCopied (calledIn rows.now) (expressionAt rows.now row) }
+    ensures { result ≡ first_copied (called_in rows.now) (expression_at rows.now row) }
 {
     match operation {
         OperationShape::Minus(_) => 0,
@@ -107,8 +107,8 @@ fn copied_operation(
 
 // 1 where the expression at a row copies the value of its first operand, else 0.
 pub fn copied_at(store: usize, rows: &[i32], sets: &[u64], table: &[usize], row: usize) -> usize
-    requires { Sets store rows.now sets.now × MeasuredFrom rows.now table.now (row + 1) × (row < rowCount rows.now) }
-    ensures { result ≡ firstCopied (calledIn rows.now) (expressionAt rows.now row) }
+    requires { Sets store rows.now sets.now × MeasuredFrom rows.now table.now (row + 1) × (row < row_count rows.now) }
+    ensures { result ≡ first_copied (called_in rows.now) (expression_at rows.now row) }
 {
     let shape = expression_at(rows, row);
     match shape {

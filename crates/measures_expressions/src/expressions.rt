@@ -1,14 +1,14 @@
 // The measures of an expression, from what its own row brings and the measures of its operands, or of its arguments.
 ghost use Rattle.std.specs.Prelude.{◌≡◌, false, ◌+◌, ◌≤◌, ◌<◌};
-ghost use Rattle.words.specs.Table.{rowCount};
-ghost use Rattle.language.specs.Decode.{expressionAt};
-ghost use Rattle.translation.specs.Translate.{expressionLevels};
-ghost use Rattle.translation.specs.TranslateSize.{expressionSize};
+ghost use Rattle.words.specs.Table.{row_count};
+ghost use Rattle.language.specs.Decode.{expression_at};
+ghost use Rattle.translation.specs.Translate.{expression_levels};
+ghost use Rattle.translation.specs.TranslateSize.{expression_size};
 ghost use Rattle.language_shapes.specs.Functions.{is_call};
-ghost use Rattle.measures_table.specs.Parts.{calledIn, OwnAt};
+ghost use Rattle.measures_table.specs.Parts.{called_in, OwnAt};
 ghost use Rattle.write_sets_rows.specs.WriteSets.{Sets};
-ghost use Rattle.measures_table.specs.Measures.{limited as limitedTo, MeasuredFrom, ExpressionMeasured};
-ghost use Rattle.measures_expressions.specs.Passed.{callMeasures};
+ghost use Rattle.measures_table.specs.Measures.{limited as limited_to, MeasuredFrom, ExpressionMeasured};
+ghost use Rattle.measures_expressions.specs.Passed.{call_measures};
 
 use super::copies::copied_at;
 use super::parts::own_at;
@@ -23,8 +23,8 @@ use write_sets::nothing;
 
 // The kernel rows of the expression at a row, where its value has this use, from those of its operands.
 fn expression_rows(rows: &[i32], table: &[usize], row: usize, own: Own, usage: Use) -> usize
-    requires { MeasuredFrom rows.now table.now (row + 1) × (row < rowCount rows.now) × OwnAt rows.now row own × (is_call (expressionAt rows.now row) ≡ false) }
-    ensures { result ≡ limitedTo (expressionSize (calledIn rows.now) (expressionAt rows.now row) usage) }
+    requires { MeasuredFrom rows.now table.now (row + 1) × (row < row_count rows.now) × OwnAt rows.now row own × (is_call (expression_at rows.now row) ≡ false) }
+    ensures { result ≡ limited_to (expression_size (called_in rows.now) (expression_at rows.now row) usage) }
 {
     let first_use = own.first_use;
     let second_use = second_use(own.passes, usage);
@@ -37,8 +37,8 @@ fn expression_rows(rows: &[i32], table: &[usize], row: usize, own: Own, usage: U
 
 // The levels of the expression at a row, where its value has this use, from those of its operands.
 fn expression_levels(rows: &[i32], table: &[usize], row: usize, own: Own, usage: Use) -> usize
-    requires { MeasuredFrom rows.now table.now (row + 1) × (row < rowCount rows.now) × OwnAt rows.now row own }
-    ensures { result ≡ limitedTo (expressionLevels (calledIn rows.now) (expressionAt rows.now row) usage) }
+    requires { MeasuredFrom rows.now table.now (row + 1) × (row < row_count rows.now) × OwnAt rows.now row own }
+    ensures { result ≡ limited_to (expression_levels (called_in rows.now) (expression_at rows.now row) usage) }
 {
     let first_use = own.first_use;
     let second_use = second_use(own.passes, usage);
@@ -60,8 +60,8 @@ fn measured_plain(
     table: &[usize],
     row: usize,
 ) -> ExpressionMeasures
-    requires { Sets store rows.now sets.now × MeasuredFrom rows.now table.now (row + 1) × (row < rowCount rows.now) × (is_call (expressionAt rows.now row) ≡ false) }
-    ensures { ExpressionMeasured rows.now (expressionAt rows.now row) result }
+    requires { Sets store rows.now sets.now × MeasuredFrom rows.now table.now (row + 1) × (row < row_count rows.now) × (is_call (expression_at rows.now row) ≡ false) }
+    ensures { ExpressionMeasured rows.now (expression_at rows.now row) result }
 {
     let copied = copied_at(store, rows, sets, table, row);
     let own = own_at(rows, table, row, copied);
@@ -80,7 +80,7 @@ fn measured_plain(
 // A call, from the measures of its arguments.
 fn call_measures(row: usize, passed: Passed) -> ExpressionMeasures
     requires { (passed.rows ≤ 65536) × (passed.count ≤ 64) }
-    ensures { result ≡ callMeasures row passed }
+    ensures { result ≡ call_measures row passed }
 {
     let rows = limited(4 + 2 * passed.count + passed.rows);
     let levels = larger(1, passed.levels);
@@ -103,8 +103,8 @@ pub fn measured_expression(
     table: &[usize],
     row: usize,
 ) -> ExpressionMeasures
-    requires { Sets store rows.now sets.now × MeasuredFrom rows.now table.now (row + 1) × (row < rowCount rows.now) }
-    ensures { ExpressionMeasured rows.now (expressionAt rows.now row) result }
+    requires { Sets store rows.now sets.now × MeasuredFrom rows.now table.now (row + 1) × (row < row_count rows.now) }
+    ensures { ExpressionMeasured rows.now (expression_at rows.now row) result }
 {
     let shape = expression_at(rows, row);
     match shape {

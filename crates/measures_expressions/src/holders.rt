@@ -1,13 +1,13 @@
 // What holds a value: the number itself, a variable, or the temporary of its level.
 ghost use Rattle.std.specs.Prelude.{◌≡◌, ◌+◌, ◌*◌, ◌≤◌, ◌<◌, length};
 ghost use Rattle.words.specs.Word.{pick};
-ghost use Rattle.words.specs.Table.{rowCount};
-ghost use Rattle.language.specs.Decode.{place_of, expressionAt};
+ghost use Rattle.words.specs.Table.{row_count};
+ghost use Rattle.language.specs.Decode.{place_of, expression_at};
 ghost use Rattle.translation.specs.Uses.{direct};
-ghost use Rattle.translation.specs.Translate.{updated, atomOf, taken as taken_of};
+ghost use Rattle.translation.specs.Translate.{updated, atom_of, taken as taken_of};
 ghost use Rattle.language_shapes.specs.Source.{Source, ExpressionAt};
 ghost use Rattle.language_shapes.specs.declared.ExpressionShape.TheVariants.{Operation};
-ghost use Rattle.measures_table.specs.Parts.{calledIn, plainAtom, placeHolder, directOperation, Holding};
+ghost use Rattle.measures_table.specs.Parts.{called_in, plain_atom, place_holder, direct_operation, Holding};
 ghost use Rattle.measures_table.specs.Measures.{width, MeasuredRow};
 
 use language_shapes::rows::{expression_at, place_at};
@@ -16,7 +16,7 @@ use measures_table::{Holder, VALUE, WIDTH};
 
 // A variable holds its own value; an element's goes into the temporary.
 fn place_holder(place: PlaceShape) -> Holder
-    ensures { result ≡ placeHolder place }
+    ensures { result ≡ place_holder place }
 {
     match place {
         PlaceShape::Variable(number) => Holder::Variable(number),
@@ -26,8 +26,8 @@ fn place_holder(place: PlaceShape) -> Holder
 
 // The place at a row, which an operation updates.
 fn updated_holder(rows: &[i32], row: usize) -> Holder
-    requires { Source rows.now × (row < rowCount rows.now) }
-    ensures { Holding rows.now (updated (place_of (expressionAt rows.now row))) result }
+    requires { Source rows.now × (row < row_count rows.now) }
+    ensures { Holding rows.now (updated (place_of (expression_at rows.now row))) result }
 {
     let place = place_at(rows, row);
     place_holder(place)
@@ -36,7 +36,7 @@ fn updated_holder(rows: &[i32], row: usize) -> Holder
 // An operation whose value comes from its own row.
 fn operation_holder(rows: &[i32], row: usize, operation: OperationShape) -> Holder
     requires { Source rows.now × ExpressionAt rows.now row (Operation operation) }
-    ensures { Holding rows.now (plainAtom (calledIn rows.now) (expressionAt rows.now row)) result }
+    ensures { Holding rows.now (plain_atom (called_in rows.now) (expression_at rows.now row)) result }
 {
     match operation {
         OperationShape::Minus(_) => Holder::Temporary,
@@ -52,8 +52,8 @@ fn operation_holder(rows: &[i32], row: usize, operation: OperationShape) -> Hold
 
 // What holds the value that comes from a row.
 fn plain_holder(rows: &[i32], row: usize) -> Holder
-    requires { Source rows.now × (row < rowCount rows.now) }
-    ensures { Holding rows.now (plainAtom (calledIn rows.now) (expressionAt rows.now row)) result }
+    requires { Source rows.now × (row < row_count rows.now) }
+    ensures { Holding rows.now (plain_atom (called_in rows.now) (expression_at rows.now row)) result }
 {
     let shape = expression_at(rows, row);
     match shape {
@@ -67,16 +67,16 @@ fn plain_holder(rows: &[i32], row: usize) -> Holder
 
 // What holds the value of the expression at a row.
 pub fn holder_at(rows: &[i32], table: &[usize], row: usize) -> Holder
-    requires { Source rows.now × (row < rowCount rows.now) × (width * rowCount rows.now ≤ length table.now) × MeasuredRow rows.now table.now row }
-    ensures { Holding rows.now (atomOf (calledIn rows.now) (expressionAt rows.now row)) result }
+    requires { Source rows.now × (row < row_count rows.now) × (width * row_count rows.now ≤ length table.now) × MeasuredRow rows.now table.now row }
+    ensures { Holding rows.now (atom_of (called_in rows.now) (expression_at rows.now row)) result }
 {
     plain_holder(rows, table[WIDTH * row + VALUE])
 }
 
 // Whether the value of the expression at a row takes a temporary: 1 or 0.
 pub fn taken_at(rows: &[i32], table: &[usize], row: usize) -> usize
-    requires { Source rows.now × (row < rowCount rows.now) × (width * rowCount rows.now ≤ length table.now) × MeasuredRow rows.now table.now row }
-    ensures { result ≡ taken_of (atomOf (calledIn rows.now) (expressionAt rows.now row)) }
+    requires { Source rows.now × (row < row_count rows.now) × (width * row_count rows.now ≤ length table.now) × MeasuredRow rows.now table.now row }
+    ensures { result ≡ taken_of (atom_of (called_in rows.now) (expression_at rows.now row)) }
 {
     let holder = holder_at(rows, table, row);
     match holder {
@@ -88,7 +88,7 @@ pub fn taken_at(rows: &[i32], table: &[usize], row: usize) -> usize
 
 // Whether an operation gives a result, kinds 4 to 16.
 fn direct_operation(operation: OperationShape) -> bool
-    ensures { result ≡ directOperation operation }
+    ensures { result ≡ direct_operation operation }
 {
     match operation {
         OperationShape::Minus(_) => true,
@@ -104,8 +104,8 @@ fn direct_operation(operation: OperationShape) -> bool
 
 // Whether the value of the expression at a row is an element or the result of an operation, which goes straight into a variable that stores it.
 pub fn direct_at(rows: &[i32], row: usize) -> bool
-    requires { Source rows.now × (row < rowCount rows.now) }
-    ensures { result ≡ direct (expressionAt rows.now row) }
+    requires { Source rows.now × (row < row_count rows.now) }
+    ensures { result ≡ direct (expression_at rows.now row) }
 {
     let shape = expression_at(rows, row);
     match shape {
@@ -122,8 +122,8 @@ pub fn direct_at(rows: &[i32], row: usize) -> bool
 
 // How many rows store the value of the expression at a row in a variable: none where it goes straight there.
 pub fn store_rows(rows: &[i32], row: usize) -> usize
-    requires { Source rows.now × (row < rowCount rows.now) }
-    ensures { result ≡ pick (direct (expressionAt rows.now row)) 0 4 }
+    requires { Source rows.now × (row < row_count rows.now) }
+    ensures { result ≡ pick (direct (expression_at rows.now row)) 0 4 }
 {
     if direct_at(rows, row) {
         return 0;

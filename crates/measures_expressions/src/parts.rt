@@ -1,14 +1,14 @@
 // What an expression's own row brings to its code, by its shape.
 ghost use Rattle.std.specs.Prelude.{◌≡◌, ◌+◌, ◌<◌, false, eqb};
 ghost use Rattle.words.specs.Word.{pick};
-ghost use Rattle.words.specs.Table.{rowCount};
-ghost use Rattle.language.specs.Decode.{expressionAt};
+ghost use Rattle.words.specs.Table.{row_count};
+ghost use Rattle.language.specs.Decode.{expression_at};
 ghost use Rattle.language_shapes.specs.Functions.{is_call};
 ghost use Rattle.language_shapes.specs.Source.{ExpressionAt};
 ghost use Rattle.language_shapes.specs.declared.ExpressionShape.TheVariants.{Read, Operation, Choice};
 ghost use Rattle.language_shapes.specs.declared.OperationShape.TheVariants.{Assign};
-ghost use Rattle.measures_table.specs.Parts.{calledIn, firstCopied, plainOwn, resultOwn, storedOwn, commaOwn, stepOwn, OwnAt, PlaceOwnAt};
-ghost use Rattle.measures_table.specs.Measures.{valueSlot, slot_at, LinkMeasured, MeasuredFrom, StoreAsks, PostfixAt};
+ghost use Rattle.measures_table.specs.Parts.{called_in, first_copied, plain_own, result_own, stored_own, comma_own, step_own, OwnAt, PlaceOwnAt};
+ghost use Rattle.measures_table.specs.Measures.{value_slot, slot_at, LinkMeasured, MeasuredFrom, StoreAsks, PostfixAt};
 
 use super::holders::{direct_at, taken_at};
 use language_shapes::rows::{expression_at, place_at};
@@ -28,7 +28,7 @@ fn own(
     levels: usize,
     value: usize,
 ) -> Own
-    ensures { result ≡ plainOwn first second third fourth above rows levels value }
+    ensures { result ≡ plain_own first second third fourth above rows levels value }
 {
     Own {
         first,
@@ -49,7 +49,7 @@ fn own(
 
 // An element or an operation, whose value takes a temporary where no variable stores it.
 fn result(first: usize, second: usize, above: usize, rows: usize, value: usize) -> Own
-    ensures { result ≡ resultOwn first second above rows value }
+    ensures { result ≡ result_own first second above rows value }
 {
     Own {
         first,
@@ -70,7 +70,7 @@ fn result(first: usize, second: usize, above: usize, rows: usize, value: usize) 
 
 // An assignment to a variable.
 fn stored(number: usize, first: usize, above: usize, rows: usize, value: usize) -> Own
-    ensures { result ≡ storedOwn number first above rows value }
+    ensures { result ≡ stored_own number first above rows value }
 {
     Own {
         first,
@@ -91,7 +91,7 @@ fn stored(number: usize, first: usize, above: usize, rows: usize, value: usize) 
 
 fn own_comma(table: &[usize], left: usize, right: usize) -> Own
     requires { LinkMeasured table.now right }
-    ensures { result ≡ commaOwn left right (slot_at table.now right valueSlot) }
+    ensures { result ≡ comma_own left right (slot_at table.now right value_slot) }
 {
     Own {
         first: left,
@@ -112,7 +112,7 @@ fn own_comma(table: &[usize], left: usize, right: usize) -> Own
 
 // e++ and e−− on a variable: its old value is kept only where it is used.
 fn own_step(row: usize) -> Own
-    ensures { result ≡ stepOwn row }
+    ensures { result ≡ step_own row }
 {
     Own {
         first: 0,
@@ -133,7 +133,7 @@ fn own_step(row: usize) -> Own
 
 // The place at a row.
 fn place_own(rows: &[i32], table: &[usize], row: usize) -> PlaceOwn
-    requires { MeasuredFrom rows.now table.now (row + 1) × (row < rowCount rows.now) }
+    requires { MeasuredFrom rows.now table.now (row + 1) × (row < row_count rows.now) }
     ensures { PlaceOwnAt rows.now row result }
 {
     let place = place_at(rows, row);
@@ -152,7 +152,7 @@ fn place_own(rows: &[i32], table: &[usize], row: usize) -> PlaceOwn
 }
 
 fn own_read(rows: &[i32], row: usize, place: PlaceShape) -> Own
-    requires { (row < rowCount rows.now) × ExpressionAt rows.now row (Read place) }
+    requires { (row < row_count rows.now) × ExpressionAt rows.now row (Read place) }
     ensures { OwnAt rows.now row result }
 {
     match place {
@@ -164,7 +164,7 @@ fn own_read(rows: &[i32], row: usize, place: PlaceShape) -> Own
 // The row that an assignment's value comes from: its own, where it has copied the value.
 fn value_at(table: &[usize], row: usize, e: usize, copied: usize) -> usize
     requires { LinkMeasured table.now e }
-    ensures { result ≡ pick (eqb copied 1) row (slot_at table.now e valueSlot) }
+    ensures { result ≡ pick (eqb copied 1) row (slot_at table.now e value_slot) }
 {
     if copied == 1 {
         return row;
@@ -192,7 +192,7 @@ fn own_assign(
     place: usize,
     e: usize,
 ) -> Own
-    requires { MeasuredFrom rows.now table.now (row + 1) × (row < rowCount rows.now) × ExpressionAt rows.now row (Operation (Assign place e)) × (copied ≡ firstCopied (calledIn rows.now) (expressionAt rows.now row)) }
+    requires { MeasuredFrom rows.now table.now (row + 1) × (row < row_count rows.now) × ExpressionAt rows.now row (Operation (Assign place e)) × (copied ≡ first_copied (called_in rows.now) (expression_at rows.now row)) }
     ensures { OwnAt rows.now row result }
 {
     let shape = place_at(rows, place);
@@ -207,7 +207,7 @@ fn own_assign(
 }
 
 fn own_postfix(rows: &[i32], table: &[usize], row: usize, place: usize) -> Own
-    requires { MeasuredFrom rows.now table.now (row + 1) × (row < rowCount rows.now) × PostfixAt rows.now row place }
+    requires { MeasuredFrom rows.now table.now (row + 1) × (row < row_count rows.now) × PostfixAt rows.now row place }
     ensures { OwnAt rows.now row result }
 {
     let shape = place_at(rows, place);
@@ -227,7 +227,7 @@ fn own_operation(
     copied: usize,
     operation: OperationShape,
 ) -> Own
-    requires { MeasuredFrom rows.now table.now (row + 1) × (row < rowCount rows.now) × ExpressionAt rows.now row (Operation operation) × (copied ≡ firstCopied (calledIn rows.now) (expressionAt rows.now row)) }
+    requires { MeasuredFrom rows.now table.now (row + 1) × (row < row_count rows.now) × ExpressionAt rows.now row (Operation operation) × (copied ≡ first_copied (called_in rows.now) (expression_at rows.now row)) }
     ensures { OwnAt rows.now row result }
 {
     match operation {
@@ -253,7 +253,7 @@ fn own_operation(
 }
 
 fn own_choice(rows: &[i32], table: &[usize], row: usize, choice: ChoiceShape) -> Own
-    requires { MeasuredFrom rows.now table.now (row + 1) × (row < rowCount rows.now) × ExpressionAt rows.now row (Choice choice) }
+    requires { MeasuredFrom rows.now table.now (row + 1) × (row < row_count rows.now) × ExpressionAt rows.now row (Choice choice) }
     ensures { OwnAt rows.now row result }
 {
     match choice {
@@ -268,8 +268,8 @@ fn own_choice(rows: &[i32], table: &[usize], row: usize, choice: ChoiceShape) ->
 
 // The expression at a row that is no call; `copied` is 1 where the value of its first operand is copied, else 0.
 pub fn own_at(rows: &[i32], table: &[usize], row: usize, copied: usize) -> Own
-    requires measured_from { MeasuredFrom rows.now table.now (row + 1) × (row < rowCount rows.now) × (copied ≡ firstCopied (calledIn rows.now) (expressionAt rows.now row)) }
-    requires row_value { is_call (expressionAt rows.now row) ≡ false }
+    requires measured_from { MeasuredFrom rows.now table.now (row + 1) × (row < row_count rows.now) × (copied ≡ first_copied (called_in rows.now) (expression_at rows.now row)) }
+    requires row_value { is_call (expression_at rows.now row) ≡ false }
     ensures { OwnAt rows.now row result }
 {
     let shape = expression_at(rows, row);

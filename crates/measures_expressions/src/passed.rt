@@ -1,12 +1,12 @@
 // The measures of a call's arguments. They are worked out from the last to the first, so each waits while those before it are: what these can
 // write is joined along the list.
 ghost use Rattle.std.specs.Prelude.{◌≡◌, ◌+◌, ◌≤◌, ◌<◌, ◌^◌};
-ghost use Rattle.words.specs.Table.{rowCount};
-ghost use Rattle.language.specs.Decode.{argumentListAt};
-ghost use Rattle.language.specs.Calls.{argumentCount};
+ghost use Rattle.words.specs.Table.{row_count};
+ghost use Rattle.language.specs.Decode.{argument_list_at};
+ghost use Rattle.language.specs.Calls.{argument_count};
 ghost use Rattle.write_sets_rows.specs.WriteSets.{Sets};
 ghost use Rattle.measures_table.specs.Measures.{LinkMeasured, MeasuredFrom};
-ghost use Rattle.measures_expressions.specs.Passed.{noPassed, PassedFits, passedWith, PassedAt};
+ghost use Rattle.measures_expressions.specs.Passed.{no_passed, PassedFits, passed_with, PassedAt};
 
 use super::copies::copied_against;
 use super::holders::taken_at;
@@ -19,7 +19,7 @@ use write_sets::{WriteSet, join};
 use write_sets_rows::table::set_at;
 
 fn no_passed() -> Passed
-    ensures { result ≡ noPassed }
+    ensures { result ≡ no_passed }
 {
     Passed {
         rows: 0,
@@ -33,7 +33,7 @@ fn no_passed() -> Passed
 // An argument before others, the expression at a row: `taken` is how many temporaries its value takes, `copied` whether it is copied.
 fn with_argument(table: &[usize], e: usize, taken: usize, copied: usize, behind: Passed) -> Passed
     requires { LinkMeasured table.now e × (taken ≤ 1) × (copied ≤ 1) × PassedFits behind }
-    ensures { result ≡ passedWith table.now e taken copied behind }
+    ensures { result ≡ passed_with table.now e taken copied behind }
 {
     let held = taken + copied;
     let own = larger(measure_at(table, e, LEVELS), held);
@@ -55,7 +55,7 @@ pub fn passed_measures(
     link: usize,
     before: WriteSet,
 ) -> Passed
-    requires { Sets store rows.now sets.now × (0 < link → MeasuredFrom rows.now table.now (link + 1) × (link < rowCount rows.now)) × (argumentCount (argumentListAt rows.now link) ≤ 64) }
+    requires { Sets store rows.now sets.now × (0 < link → MeasuredFrom rows.now table.now (link + 1) × (link < row_count rows.now)) × (argument_count (argument_list_at rows.now link) ≤ 64) }
     ensures { PassedAt store rows.now link before result }
 {
     if link == 0 {

@@ -8,10 +8,10 @@ use native.Mathlib.Omega.{arith}
 use lib.Arith.{lt_of_le-ne}
 use lib.ListN.{length, take, drop, set, get_or}
 use lib.IntN.{ℤ}
-use Rattle.words.specs.Table.{rowCount}
-use Rattle.language.specs.Decode.{expressionAt, statementAt, itemsAt, armsAt}
-use Rattle.measures_table.specs.Parts.{calledIn}
-use Rattle.measures_table.specs.Measures.{width, rowsSlot, levelsSlot, valueSlot, statementRowsSlot, statementLevelsSlot, statementLabelsSlot, listRowsSlot, listLevelsSlot, listLabelsSlot, listCasesSlot, listDefaultSlot, copiedSlot, droppedRowsSlot, droppedLevelsSlot, storedLevelsSlot, armsRowsSlot, armsLevelsSlot, armsLabelsSlot, copiesSlot, slot, rowWords, ExpressionMeasured, StatementMeasured, ListMeasured, ArmsMeasured, MeasuredRow, MeasuredFrom}
+use Rattle.words.specs.Table.{row_count}
+use Rattle.language.specs.Decode.{expression_at, statement_at, items_at, arms_at}
+use Rattle.measures_table.specs.Parts.{called_in}
+use Rattle.measures_table.specs.Measures.{width, rows_slot, levels_slot, value_slot, statement_rows_slot, statement_levels_slot, statement_labels_slot, list_rows_slot, list_levels_slot, list_labels_slot, list_cases_slot, list_default_slot, copied_slot, dropped_rows_slot, dropped_levels_slot, stored_levels_slot, arms_rows_slot, arms_levels_slot, arms_labels_slot, copies_slot, slot, row_words, ExpressionMeasured, StatementMeasured, ListMeasured, ArmsMeasured, MeasuredRow, MeasuredFrom}
 use Rattle.measures_table.specs.declared.ExpressionMeasures.{ExpressionMeasures}
 use Rattle.measures_table.specs.declared.StatementMeasures.{StatementMeasures}
 use Rattle.measures_table.specs.declared.ListMeasures.{ListMeasures}
@@ -45,41 +45,41 @@ nineteen-stores (x0 ∷ x1 ∷ x2 ∷ x3 ∷ x4 ∷ x5 ∷ x6 ∷ x7 ∷ x8 ∷ 
 nineteen-stores (x0 ∷ x1 ∷ x2 ∷ x3 ∷ x4 ∷ x5 ∷ x6 ∷ x7 ∷ x8 ∷ x9 ∷ x10 ∷ x11 ∷ x12 ∷ x13 ∷ x14 ∷ x15 ∷ x16 ∷ x17 ∷ x18 ∷ l) zero a b c d e f g h i j k m o q r s v w z p = refl
 
 module _ (rows : List ℤ) (t u : List ℕ) (row : ℕ) (e : ExpressionMeasures) (s : StatementMeasures) (l : ListMeasures) (a : StatementMeasures)
-    (fits : width * row + width ≤ length t) (is : u ≡ (take (width * row) t ++ rowWords e s l a) ++ drop (width * row + width) t) where
-  own : (k : ℕ) → k < width → slot u row k ≡ get_or (rowWords e s l a) k 0
-  own k h = own-words width t u (rowWords e s l a) row refl fits is k h
+    (fits : width * row + width ≤ length t) (is : u ≡ (take (width * row) t ++ row_words e s l a) ++ drop (width * row + width) t) where
+  own : (k : ℕ) → k < width → slot u row k ≡ get_or (row_words e s l a) k 0
+  own k h = own-words width t u (row_words e s l a) row refl fits is k h
 
   others : (other k : ℕ) → row < other → slot u other k ≡ slot t other k
-  others other k h = other-words width t u (rowWords e s l a) row refl fits is (width * other + k) (omega arith)
+  others other k h = other-words width t u (row_words e s l a) row refl fits is (width * other + k) (omega arith)
 
-  module _ (em : ExpressionMeasured rows (expressionAt rows row) e) (sm : StatementMeasured (calledIn rows) (statementAt rows row) s) (lm : ListMeasured (calledIn rows) (itemsAt rows row) l) (am : ArmsMeasured (calledIn rows) (armsAt rows row) a) where
+  module _ (em : ExpressionMeasured rows (expression_at rows row) e) (sm : StatementMeasured (called_in rows) (statement_at rows row) s) (lm : ListMeasured (called_in rows) (items_at rows row) l) (am : ArmsMeasured (called_in rows) (arms_at rows row) a) where
     own_row : MeasuredRow rows u row
     own_row = record {
-      expression = rw (own rowsSlot (omega arith), own levelsSlot (omega arith), own valueSlot (omega arith), own copiedSlot (omega arith), own droppedRowsSlot (omega arith), own droppedLevelsSlot (omega arith), own storedLevelsSlot (omega arith), own copiesSlot (omega arith)) em;
-      statement = rw (own statementRowsSlot (omega arith), own statementLevelsSlot (omega arith), own statementLabelsSlot (omega arith)) sm;
-      list = rw (own listRowsSlot (omega arith), own listLevelsSlot (omega arith), own listLabelsSlot (omega arith), own listCasesSlot (omega arith), own listDefaultSlot (omega arith)) lm;
-      arms = rw (own armsRowsSlot (omega arith), own armsLevelsSlot (omega arith), own armsLabelsSlot (omega arith)) am;
+      expression = rw (own rows_slot (omega arith), own levels_slot (omega arith), own value_slot (omega arith), own copied_slot (omega arith), own dropped_rows_slot (omega arith), own dropped_levels_slot (omega arith), own stored_levels_slot (omega arith), own copies_slot (omega arith)) em;
+      statement = rw (own statement_rows_slot (omega arith), own statement_levels_slot (omega arith), own statement_labels_slot (omega arith)) sm;
+      list = rw (own list_rows_slot (omega arith), own list_levels_slot (omega arith), own list_labels_slot (omega arith), own list_cases_slot (omega arith), own list_default_slot (omega arith)) lm;
+      arms = rw (own arms_rows_slot (omega arith), own arms_levels_slot (omega arith), own arms_labels_slot (omega arith)) am;
     }
 
     other_row : (other : ℕ) → row < other → MeasuredRow rows t other → MeasuredRow rows u other
     other_row other h m = record {
-      expression = rw (others other rowsSlot h, others other levelsSlot h, others other valueSlot h, others other copiedSlot h, others other droppedRowsSlot h, others other droppedLevelsSlot h, others other storedLevelsSlot h, others other copiesSlot h) m.expression;
-      statement = rw (others other statementRowsSlot h, others other statementLevelsSlot h, others other statementLabelsSlot h) m.statement;
-      list = rw (others other listRowsSlot h, others other listLevelsSlot h, others other listLabelsSlot h, others other listCasesSlot h, others other listDefaultSlot h) m.list;
-      arms = rw (others other armsRowsSlot h, others other armsLevelsSlot h, others other armsLabelsSlot h) m.arms;
+      expression = rw (others other rows_slot h, others other levels_slot h, others other value_slot h, others other copied_slot h, others other dropped_rows_slot h, others other dropped_levels_slot h, others other stored_levels_slot h, others other copies_slot h) m.expression;
+      statement = rw (others other statement_rows_slot h, others other statement_levels_slot h, others other statement_labels_slot h) m.statement;
+      list = rw (others other list_rows_slot h, others other list_levels_slot h, others other list_labels_slot h, others other list_cases_slot h, others other list_default_slot h) m.list;
+      arms = rw (others other arms_rows_slot h, others other arms_levels_slot h, others other arms_labels_slot h) m.arms;
     }
 
     -- with the row's words in, one more row is measured
     pub one_more : MeasuredFrom rows t (row + 1) → MeasuredFrom rows u row
     one_more m = record {
       source = m.source;
-      room = omega (arith, m.room, stored-length width t u (rowWords e s l a) row refl fits is);
-      row-measured = λ r h b. by r h b (lem-eq r);
+      room = omega (arith, m.room, stored-length width t u (row_words e s l a) row refl fits is);
+      row_measured = λ r h b. by r h b (lem-eq r);
     }
       where
         lem-eq : (r : ℕ) → Dec (r ≡ row)
         lem-eq r = ℕ_discrete r row
 
-        by : (r : ℕ) → row ≤ r → r < rowCount rows → Dec (r ≡ row) → MeasuredRow rows u r
+        by : (r : ℕ) → row ≤ r → r < row_count rows → Dec (r ≡ row) → MeasuredRow rows u r
         by r h b (yes q) = subst (λ (r : ℕ). MeasuredRow rows u r) (sym q) own_row
-        by r h b (no q) = let k = lt_of_le-ne h (λ x. q (sym x)) in other_row r k (m.row-measured r (omega arith) b)
+        by r h b (no q) = let k = lt_of_le-ne h (λ x. q (sym x)) in other_row r k (m.row_measured r (omega arith) b)

@@ -4,22 +4,22 @@ use Rattle.std.proofs.Math.Path.{refl}
 use Rattle.std.proofs.Common.{sym, ap, ◌∙◌}
 use Prim.Native.Nat.{ℕ, zero, suc, ◌+◌, ◌*◌, ◌-◌, ◌≤◌, ◌<◌, min, max}
 use native.Mathlib.Omega.{arith}
-use Rattle.words.specs.Table.{rowCount}
+use Rattle.words.specs.Table.{row_count}
 use Rattle.language.specs.Trees.{Expression, constant, read, minus, not, binary, and, or, comma, conditional, assign, compound, prefix, postfix, call, Place, variable, element, present, ◌here◌}
-use Rattle.language.specs.Decode.{expressionAt, statementAt, listAt, armListAt, part_at}
+use Rattle.language.specs.Decode.{expression_at, statement_at, list_at, arm_list_at, part_at}
 use Rattle.translation.specs.Uses.{direct}
 use Rattle.translation.specs.declared.Use.{Use}
 use Rattle.translation.specs.declared.Use.TheVariants.{Dropped as dropped, Wanted as wanted, Stored as stored}
-use Rattle.translation.specs.Translate.{Atom, top, held, landed, atomOf, labels, armsLabels, itemsLabels, expressionLevels, operandLevels, statementLevels, armsLevels, itemsLevels}
-use Rattle.language.specs.Writes.{writes, indexWrites}
-use Rattle.translation.specs.HeldCode.{copied-most, held-variable}
-use Rattle.translation.specs.TranslateSize.{copied, ownRows, expressionSize, operandSize, statementSize, armsSize, itemsSize, cases}
-use Rattle.language_shapes.specs.Shapes.{choiceTree, Onward, OptionalOnward}
+use Rattle.translation.specs.Translate.{Atom, top, held, landed, atom_of, labels, arms_labels, items_labels, expression_levels, operand_levels, statement_levels, arms_levels, items_levels}
+use Rattle.language.specs.Writes.{writes, index_writes}
+use Rattle.translation.proofs.HeldCode.{copied-most, held-variable}
+use Rattle.translation.specs.TranslateSize.{copied, own_rows, expression_size, operand_size, statement_size, arms_size, items_size, cases}
+use Rattle.language_shapes.specs.Shapes.{choice_tree, Onward, OptionalOnward}
 use Rattle.language_shapes.specs.Source.{Source}
 use Rattle.language_shapes.specs.declared.ChoiceShape.{ChoiceShape}
 use Rattle.language_shapes.specs.declared.ChoiceShape.TheVariants.{And, Or, Conditional}
-use Rattle.measures_table.specs.Parts.{calledIn, passedRows, firstOperand, secondOperand, thirdOperand, fourthOperand, aboveFirst, firstCopied, plainAtom, firstUse, secondUse, ownLevels, usePassed, UseFits}
-use Rattle.measures_table.specs.Measures.{limited, defaultPlace, width, sums, rowsSlot, levelsSlot, valueSlot, statementRowsSlot, statementLevelsSlot, statementLabelsSlot, listRowsSlot, listLevelsSlot, listLabelsSlot, listCasesSlot, listDefaultSlot, copiedSlot, armsRowsSlot, armsLevelsSlot, armsLabelsSlot, rowsFor, levelsFor, slot, slot_at, LinkMeasured, MeasuredRow, MeasuredFrom, Measured}
+use Rattle.measures_table.specs.Parts.{called_in, passed_rows, first_operand, second_operand, third_operand, fourth_operand, above_first, first_copied, plain_atom, first_use, second_use, own_levels, use_passed, UseFits}
+use Rattle.measures_table.specs.Measures.{limited, default_place, width, sums, rows_slot, levels_slot, value_slot, statement_rows_slot, statement_levels_slot, statement_labels_slot, list_rows_slot, list_levels_slot, list_labels_slot, list_cases_slot, list_default_slot, copied_slot, arms_rows_slot, arms_levels_slot, arms_labels_slot, rows_for, levels_for, slot, slot_at, LinkMeasured, MeasuredRow, MeasuredFrom, Measured}
 
 -- ---- sums that are cut off
 
@@ -49,8 +49,8 @@ at_some table (suc link) k h = refl
 
 -- takes the rows of one that is wanted; and it does not matter which variable stores it
 module _ (called : ℕ → ℕ → Bool) where
-  pub stored-size : (e : Expression) (i : ℕ) → expressionSize called e (stored i) ≡ expressionSize called e wanted
-  unfolding expressionSize
+  pub stored-size : (e : Expression) (i : ℕ) → expression_size called e (stored i) ≡ expression_size called e wanted
+  unfolding expression_size
   stored-size (constant v) i = refl
   stored-size (read p) i = refl
   stored-size (minus e) i = refl
@@ -67,8 +67,8 @@ module _ (called : ℕ → ℕ → Bool) where
   stored-size (postfix operator (element array e)) i = refl
   stored-size (call f arguments) i = refl
 
-  pub stored-levels : (e : Expression) (i : ℕ) → expressionLevels called e (stored i) ≡ expressionLevels called e (stored 0)
-  unfolding expressionLevels
+  pub stored-levels : (e : Expression) (i : ℕ) → expression_levels called e (stored i) ≡ expression_levels called e (stored 0)
+  unfolding expression_levels
   stored-levels (constant v) i = refl
   stored-levels (read (variable j)) i = refl
   stored-levels (read (element array e)) i = refl
@@ -87,7 +87,7 @@ module _ (called : ℕ → ℕ → Bool) where
   stored-levels (call f arguments) i = refl
 
 -- a use that is passed on stores nothing
-pub passed-fits : (passes : Bool) (u : Use) → UseFits (usePassed passes u)
+pub passed-fits : (passes : Bool) (u : Use) → UseFits (use_passed passes u)
 passed-fits true dropped = tt
 passed-fits true wanted = tt
 passed-fits true (stored i) = tt
@@ -95,95 +95,95 @@ passed-fits false u = tt
 
 -- ---- the measures of a row, by the use of its value
 
-pub measured-rows : {rows : List ℤ} {table : List ℕ} {row : ℕ} (u : Use) → MeasuredRow rows table row → slot table row (rowsFor u) ≡ limited (expressionSize (calledIn rows) (expressionAt rows row) u)
-measured-rows dropped m = m.expression.dropped-rows-are
+pub measured-rows : {rows : List ℤ} {table : List ℕ} {row : ℕ} (u : Use) → MeasuredRow rows table row → slot table row (rows_for u) ≡ limited (expression_size (called_in rows) (expression_at rows row) u)
+measured-rows dropped m = m.expression.dropped_rows_are
 measured-rows wanted m = m.expression.rows_are
-measured-rows {rows} {table} {row} (stored i) m = m.expression.rows_are ∙ ap limited (sym (stored-size (calledIn rows) (expressionAt rows row) i))
+measured-rows {rows} {table} {row} (stored i) m = m.expression.rows_are ∙ ap limited (sym (stored-size (called_in rows) (expression_at rows row) i))
 
-pub measured-levels : {rows : List ℤ} {table : List ℕ} {row : ℕ} (u : Use) → MeasuredRow rows table row → slot table row (levelsFor u) ≡ limited (expressionLevels (calledIn rows) (expressionAt rows row) u)
-measured-levels dropped m = m.expression.dropped-levels-are
-measured-levels wanted m = m.expression.levels-are
-measured-levels {rows} {table} {row} (stored i) m = m.expression.stored-levels-are ∙ ap limited (sym (stored-levels (calledIn rows) (expressionAt rows row) i))
+pub measured-levels : {rows : List ℤ} {table : List ℕ} {row : ℕ} (u : Use) → MeasuredRow rows table row → slot table row (levels_for u) ≡ limited (expression_levels (called_in rows) (expression_at rows row) u)
+measured-levels dropped m = m.expression.dropped_levels_are
+measured-levels wanted m = m.expression.levels_are
+measured-levels {rows} {table} {row} (stored i) m = m.expression.stored_levels_are ∙ ap limited (sym (stored-levels (called_in rows) (expression_at rows row) i))
 
 module _ (rows : List ℤ) (table : List ℕ) where
   -- a link of this row that leads on leads to a measured row
   pub link-measured : {row : ℕ} (link : ℕ) → MeasuredFrom rows table (row + 1) → Onward rows row link → MeasuredRow rows table link
-  link-measured link m o = m.row-measured link (omega (arith, o.later)) o.inside
+  link-measured link m o = m.row_measured link (omega (arith, o.later)) o.inside
 
   pub link-held : {row : ℕ} (link : ℕ) → MeasuredFrom rows table (row + 1) → OptionalOnward rows row link → 0 < link → width * link + width ≤ length table
   link-held link m o p = omega (arith, m.room, (o p).inside)
 
   module _ {row : ℕ} (m : MeasuredFrom rows table (row + 1)) where
     -- the measures of an expression at a link, by the use of its value
-    pub part-rows : (u : Use) (link : ℕ) → OptionalOnward rows row link → slot_at table link (rowsFor u) ≡ limited (operandSize (calledIn rows) (part_at rows link) u)
+    pub part-rows : (u : Use) (link : ℕ) → OptionalOnward rows row link → slot_at table link (rows_for u) ≡ limited (operand_size (called_in rows) (part_at rows link) u)
     unfolding limited
     part-rows u zero o = refl
     part-rows u (suc link) o = measured-rows u (link-measured (suc link) m (o (omega arith)))
 
-    pub part-levels : (u : Use) (link : ℕ) → OptionalOnward rows row link → slot_at table link (levelsFor u) ≡ limited (operandLevels (calledIn rows) (part_at rows link) u)
+    pub part-levels : (u : Use) (link : ℕ) → OptionalOnward rows row link → slot_at table link (levels_for u) ≡ limited (operand_levels (called_in rows) (part_at rows link) u)
     unfolding limited
     part-levels u zero o = refl
     part-levels u (suc link) o = measured-levels u (link-measured (suc link) m (o (omega arith)))
 
     -- those of a list
-    pub list-rows : (link : ℕ) → OptionalOnward rows row link → slot_at table link listRowsSlot ≡ limited (itemsSize (calledIn rows) (listAt rows link))
-    unfolding limited itemsSize
+    pub list-rows : (link : ℕ) → OptionalOnward rows row link → slot_at table link list_rows_slot ≡ limited (items_size (called_in rows) (list_at rows link))
+    unfolding limited items_size
     list-rows zero o = refl
     list-rows (suc link) o = (link-measured (suc link) m (o (omega arith))).list.rows_are
 
-    pub list-levels : (link : ℕ) → OptionalOnward rows row link → slot_at table link listLevelsSlot ≡ limited (itemsLevels (calledIn rows) (listAt rows link))
-    unfolding limited itemsLevels
+    pub list-levels : (link : ℕ) → OptionalOnward rows row link → slot_at table link list_levels_slot ≡ limited (items_levels (called_in rows) (list_at rows link))
+    unfolding limited items_levels
     list-levels zero o = refl
-    list-levels (suc link) o = (link-measured (suc link) m (o (omega arith))).list.levels-are
+    list-levels (suc link) o = (link-measured (suc link) m (o (omega arith))).list.levels_are
 
-    pub list-labels : (link : ℕ) → OptionalOnward rows row link → slot_at table link listLabelsSlot ≡ limited (itemsLabels (listAt rows link))
-    unfolding limited itemsLabels
+    pub list-labels : (link : ℕ) → OptionalOnward rows row link → slot_at table link list_labels_slot ≡ limited (items_labels (list_at rows link))
+    unfolding limited items_labels
     list-labels zero o = refl
-    list-labels (suc link) o = (link-measured (suc link) m (o (omega arith))).list.labels-are
+    list-labels (suc link) o = (link-measured (suc link) m (o (omega arith))).list.labels_are
 
-    pub list_cases : (link : ℕ) → OptionalOnward rows row link → slot_at table link listCasesSlot ≡ limited (cases (listAt rows link))
+    pub list_cases : (link : ℕ) → OptionalOnward rows row link → slot_at table link list_cases_slot ≡ limited (cases (list_at rows link))
     unfolding limited
     list_cases zero o = refl
-    list_cases (suc link) o = (link-measured (suc link) m (o (omega arith))).list.cases-are
+    list_cases (suc link) o = (link-measured (suc link) m (o (omega arith))).list.cases_are
 
-    pub list-default : (link : ℕ) → OptionalOnward rows row link → slot_at table link listDefaultSlot ≡ limited (defaultPlace (listAt rows link))
-    unfolding limited defaultPlace
+    pub list-default : (link : ℕ) → OptionalOnward rows row link → slot_at table link list_default_slot ≡ limited (default_place (list_at rows link))
+    unfolding limited default_place
     list-default zero o = refl
-    list-default (suc link) o = (link-measured (suc link) m (o (omega arith))).list.default-is
+    list-default (suc link) o = (link-measured (suc link) m (o (omega arith))).list.default_is
 
     -- those of arms
-    pub arms-rows : (link : ℕ) → OptionalOnward rows row link → slot_at table link armsRowsSlot ≡ limited (armsSize (calledIn rows) (armListAt rows link))
-    unfolding limited armsSize
+    pub arms-rows : (link : ℕ) → OptionalOnward rows row link → slot_at table link arms_rows_slot ≡ limited (arms_size (called_in rows) (arm_list_at rows link))
+    unfolding limited arms_size
     arms-rows zero o = refl
     arms-rows (suc link) o = (link-measured (suc link) m (o (omega arith))).arms.rows_are
 
-    pub arms-levels : (link : ℕ) → OptionalOnward rows row link → slot_at table link armsLevelsSlot ≡ limited (armsLevels (calledIn rows) (armListAt rows link))
-    unfolding limited armsLevels
+    pub arms-levels : (link : ℕ) → OptionalOnward rows row link → slot_at table link arms_levels_slot ≡ limited (arms_levels (called_in rows) (arm_list_at rows link))
+    unfolding limited arms_levels
     arms-levels zero o = refl
-    arms-levels (suc link) o = (link-measured (suc link) m (o (omega arith))).arms.levels-are
+    arms-levels (suc link) o = (link-measured (suc link) m (o (omega arith))).arms.levels_are
 
-    pub arms-labels : (link : ℕ) → OptionalOnward rows row link → slot_at table link armsLabelsSlot ≡ limited (armsLabels (armListAt rows link))
-    unfolding limited armsLabels
+    pub arms-labels : (link : ℕ) → OptionalOnward rows row link → slot_at table link arms_labels_slot ≡ limited (arms_labels (arm_list_at rows link))
+    unfolding limited arms_labels
     arms-labels zero o = refl
-    arms-labels (suc link) o = (link-measured (suc link) m (o (omega arith))).arms.labels-are
+    arms-labels (suc link) o = (link-measured (suc link) m (o (omega arith))).arms.labels_are
 
     -- those of a statement
-    pub body-rows : (link : ℕ) → Onward rows row link → slot_at table link statementRowsSlot ≡ limited (statementSize (calledIn rows) (statementAt rows link))
-    body-rows link o = at_some table link statementRowsSlot (omega (arith, o.later)) ∙ (link-measured link m o).statement.rows_are
+    pub body-rows : (link : ℕ) → Onward rows row link → slot_at table link statement_rows_slot ≡ limited (statement_size (called_in rows) (statement_at rows link))
+    body-rows link o = at_some table link statement_rows_slot (omega (arith, o.later)) ∙ (link-measured link m o).statement.rows_are
 
-    pub body-levels : (link : ℕ) → Onward rows row link → slot_at table link statementLevelsSlot ≡ limited (statementLevels (calledIn rows) (statementAt rows link))
-    body-levels link o = at_some table link statementLevelsSlot (omega (arith, o.later)) ∙ (link-measured link m o).statement.levels-are
+    pub body-levels : (link : ℕ) → Onward rows row link → slot_at table link statement_levels_slot ≡ limited (statement_levels (called_in rows) (statement_at rows link))
+    body-levels link o = at_some table link statement_levels_slot (omega (arith, o.later)) ∙ (link-measured link m o).statement.levels_are
 
-    pub body-labels : (link : ℕ) → Onward rows row link → slot_at table link statementLabelsSlot ≡ limited (labels (statementAt rows link))
-    body-labels link o = at_some table link statementLabelsSlot (omega (arith, o.later)) ∙ (link-measured link m o).statement.labels-are
+    pub body-labels : (link : ℕ) → Onward rows row link → slot_at table link statement_labels_slot ≡ limited (labels (statement_at rows link))
+    body-labels link o = at_some table link statement_labels_slot (omega (arith, o.later)) ∙ (link-measured link m o).statement.labels_are
 
 -- ---- an expression's measures, from those of its operands
 
 module _ (called : ℕ → ℕ → Bool) where
   pub size-parts : (e : Expression) (u : Use)
-      → expressionSize called e u
-      ≡ operandSize called (firstOperand called e) (firstUse e) + operandSize called (secondOperand called e) (secondUse e u) + operandSize called (thirdOperand called e) wanted + operandSize called (fourthOperand called e) wanted + ownRows called e u + passedRows called e
-  unfolding expressionSize
+      → expression_size called e u
+      ≡ operand_size called (first_operand called e) (first_use e) + operand_size called (second_operand called e) (second_use e u) + operand_size called (third_operand called e) wanted + operand_size called (fourth_operand called e) wanted + own_rows called e u + passed_rows called e
+  unfolding expression_size
   size-parts (constant v) u = refl
   size-parts (read (variable i)) u = refl
   size-parts (read (element array e)) u = omega arith
@@ -205,10 +205,10 @@ module _ (called : ℕ → ℕ → Bool) where
   size-parts (call f arguments) u = omega arith
 
   pub levels-parts : (e : Expression) (u : Use)
-      → expressionLevels called e u
-      ≡ max (ownLevels called e u)
-      (max (max (operandLevels called (firstOperand called e) (firstUse e)) (aboveFirst called e + operandLevels called (secondOperand called e) (secondUse e u))) (max (operandLevels called (thirdOperand called e) wanted) (operandLevels called (fourthOperand called e) wanted)))
-  unfolding expressionLevels atomOf
+      → expression_levels called e u
+      ≡ max (own_levels called e u)
+      (max (max (operand_levels called (first_operand called e) (first_use e)) (above_first called e + operand_levels called (second_operand called e) (second_use e u))) (max (operand_levels called (third_operand called e) wanted) (operand_levels called (fourth_operand called e) wanted)))
+  unfolding expression_levels atom_of
   levels-parts (constant v) u = refl
   levels-parts (read (variable i)) u = refl
   levels-parts (read (element array e)) u = omega arith
@@ -231,36 +231,36 @@ module _ (called : ℕ → ℕ → Bool) where
 
   -- ---- the value of a choice stands in a temporary
 
-  pub choice-top : (rows : List ℤ) (c : ChoiceShape) → plainAtom called (choiceTree rows c) ≡ top
+  pub choice-top : (rows : List ℤ) (c : ChoiceShape) → plain_atom called (choice_tree rows c) ≡ top
   choice-top rows (And a b) = refl
   choice-top rows (Or a b) = refl
   choice-top rows (Conditional c a b) = refl
 
   -- ---- the copy of the first operand's value
 
-  pub first-copied-most : (e : Expression) → firstCopied called e ≤ 1
+  pub first-copied-most : (e : Expression) → first_copied called e ≤ 1
   first-copied-most (constant v) = omega arith
   first-copied-most (read p) = omega arith
   first-copied-most (minus e) = omega arith
   first-copied-most (not e) = omega arith
-  first-copied-most (binary operator a b) = copied-most (atomOf called b) (writes called a)
+  first-copied-most (binary operator a b) = copied-most (atom_of called b) (writes called a)
   first-copied-most (and a b) = omega arith
   first-copied-most (or a b) = omega arith
   first-copied-most (comma a b) = omega arith
   first-copied-most (conditional c a b) = omega arith
-  first-copied-most (assign p e) = copied-most (atomOf called e) (indexWrites called p)
-  first-copied-most (compound operator p e) = copied-most (atomOf called e) (indexWrites called p)
+  first-copied-most (assign p e) = copied-most (atom_of called e) (index_writes called p)
+  first-copied-most (compound operator p e) = copied-most (atom_of called e) (index_writes called p)
   first-copied-most (prefix operator p) = omega arith
   first-copied-most (postfix operator p) = omega arith
   first-copied-most (call f arguments) = omega arith
 
   -- a value that an assignment stores is copied where its own atom would be: a variable has no index
-  pub landed-copied : (p : Place) (straight : Bool) (h : Atom) → copied (landed p straight h) (indexWrites called p) ≡ copied h (indexWrites called p)
+  pub landed-copied : (p : Place) (straight : Bool) (h : Atom) → copied (landed p straight h) (index_writes called p) ≡ copied h (index_writes called p)
   landed-copied (variable i) straight h = rw (held-variable called (landed (variable i) straight h) i, held-variable called h i) (omega arith)
   landed-copied (element array e) straight h = refl
 
   -- its rows are among the own ones
-  pub own-copies : (e : Expression) (u : Use) → 4 * firstCopied called e ≤ ownRows called e u
+  pub own-copies : (e : Expression) (u : Use) → 4 * first_copied called e ≤ own_rows called e u
   own-copies (constant v) u = omega arith
   own-copies (read p) u = omega arith
   own-copies (minus e) u = omega arith
@@ -270,7 +270,7 @@ module _ (called : ℕ → ℕ → Bool) where
   own-copies (or a b) u = omega arith
   own-copies (comma a b) u = omega arith
   own-copies (conditional c a b) u = omega arith
-  own-copies (assign p e) u = omega (arith, landed-copied p (direct e) (atomOf called e))
+  own-copies (assign p e) u = omega (arith, landed-copied p (direct e) (atom_of called e))
   own-copies (compound operator p e) u = omega arith
   own-copies (prefix operator p) u = omega arith
   own-copies (postfix operator p) u = omega arith
@@ -283,31 +283,31 @@ limited-as {x} n e = omega (arith, limited-most n)
 
 measured-small : {rows : List ℤ} {table : List ℕ} {row : ℕ} → Source rows → MeasuredRow rows table row → (k : ℕ) → k < sums → slot table row k ≤ 65536
 measured-small s m zero h = limited-as _ m.expression.rows_are
-measured-small s m (suc zero) h = limited-as _ m.expression.levels-are
-measured-small s m (suc (suc zero)) h = omega (arith, m.expression.value-inside, s.few-rows)
+measured-small s m (suc zero) h = limited-as _ m.expression.levels_are
+measured-small s m (suc (suc zero)) h = omega (arith, m.expression.value_inside, s.few_rows)
 measured-small s m (suc (suc (suc zero))) h = limited-as _ m.statement.rows_are
-measured-small s m (suc (suc (suc (suc zero)))) h = limited-as _ m.statement.levels-are
-measured-small s m (suc (suc (suc (suc (suc zero))))) h = limited-as _ m.statement.labels-are
+measured-small s m (suc (suc (suc (suc zero)))) h = limited-as _ m.statement.levels_are
+measured-small s m (suc (suc (suc (suc (suc zero))))) h = limited-as _ m.statement.labels_are
 measured-small s m (suc (suc (suc (suc (suc (suc zero)))))) h = limited-as _ m.list.rows_are
-measured-small s m (suc (suc (suc (suc (suc (suc (suc zero))))))) h = limited-as _ m.list.levels-are
-measured-small s m (suc (suc (suc (suc (suc (suc (suc (suc zero)))))))) h = limited-as _ m.list.labels-are
-measured-small s m (suc (suc (suc (suc (suc (suc (suc (suc (suc zero))))))))) h = limited-as _ m.list.cases-are
-measured-small s m (suc (suc (suc (suc (suc (suc (suc (suc (suc (suc zero)))))))))) h = limited-as _ m.list.default-is
-measured-small {rows} {table} {row} s m (suc (suc (suc (suc (suc (suc (suc (suc (suc (suc (suc zero))))))))))) h = omega (arith, m.expression.copied_is, first-copied-most (calledIn rows) (expressionAt rows row))
-measured-small s m (suc (suc (suc (suc (suc (suc (suc (suc (suc (suc (suc (suc zero)))))))))))) h = limited-as _ m.expression.dropped-rows-are
-measured-small s m (suc (suc (suc (suc (suc (suc (suc (suc (suc (suc (suc (suc (suc zero))))))))))))) h = limited-as _ m.expression.dropped-levels-are
-measured-small s m (suc (suc (suc (suc (suc (suc (suc (suc (suc (suc (suc (suc (suc (suc zero)))))))))))))) h = limited-as _ m.expression.stored-levels-are
+measured-small s m (suc (suc (suc (suc (suc (suc (suc zero))))))) h = limited-as _ m.list.levels_are
+measured-small s m (suc (suc (suc (suc (suc (suc (suc (suc zero)))))))) h = limited-as _ m.list.labels_are
+measured-small s m (suc (suc (suc (suc (suc (suc (suc (suc (suc zero))))))))) h = limited-as _ m.list.cases_are
+measured-small s m (suc (suc (suc (suc (suc (suc (suc (suc (suc (suc zero)))))))))) h = limited-as _ m.list.default_is
+measured-small {rows} {table} {row} s m (suc (suc (suc (suc (suc (suc (suc (suc (suc (suc (suc zero))))))))))) h = omega (arith, m.expression.copied_is, first-copied-most (called_in rows) (expression_at rows row))
+measured-small s m (suc (suc (suc (suc (suc (suc (suc (suc (suc (suc (suc (suc zero)))))))))))) h = limited-as _ m.expression.dropped_rows_are
+measured-small s m (suc (suc (suc (suc (suc (suc (suc (suc (suc (suc (suc (suc (suc zero))))))))))))) h = limited-as _ m.expression.dropped_levels_are
+measured-small s m (suc (suc (suc (suc (suc (suc (suc (suc (suc (suc (suc (suc (suc (suc zero)))))))))))))) h = limited-as _ m.expression.stored_levels_are
 measured-small s m (suc (suc (suc (suc (suc (suc (suc (suc (suc (suc (suc (suc (suc (suc (suc zero))))))))))))))) h = limited-as _ m.arms.rows_are
-measured-small s m (suc (suc (suc (suc (suc (suc (suc (suc (suc (suc (suc (suc (suc (suc (suc (suc zero)))))))))))))))) h = limited-as _ m.arms.levels-are
-measured-small s m (suc (suc (suc (suc (suc (suc (suc (suc (suc (suc (suc (suc (suc (suc (suc (suc (suc zero))))))))))))))))) h = limited-as _ m.arms.labels-are
+measured-small s m (suc (suc (suc (suc (suc (suc (suc (suc (suc (suc (suc (suc (suc (suc (suc (suc zero)))))))))))))))) h = limited-as _ m.arms.levels_are
+measured-small s m (suc (suc (suc (suc (suc (suc (suc (suc (suc (suc (suc (suc (suc (suc (suc (suc (suc zero))))))))))))))))) h = limited-as _ m.arms.labels_are
 measured-small s m (suc (suc (suc (suc (suc (suc (suc (suc (suc (suc (suc (suc (suc (suc (suc (suc (suc (suc k)))))))))))))))))) h = absurd (omega arith)
 
 pub measured-less : {rows : List ℤ} {table : List ℕ} {k : ℕ} (j : ℕ) → MeasuredFrom rows table k → k ≤ j → MeasuredFrom rows table j
-measured-less j m h = record { source = m.source; room = m.room; row-measured = λ row l. m.row-measured row (omega arith) }
+measured-less j m h = record { source = m.source; room = m.room; row_measured = λ row l. m.row_measured row (omega arith) }
 
 module _ {rows : List ℤ} {table : List ℕ} {row : ℕ} (m : MeasuredFrom rows table (row + 1)) where
   -- a row that a link leads to
-  pub link-asks : {link : ℕ} → Onward rows row link → Source rows × (link < rowCount rows) × (width * rowCount rows ≤ length table) × MeasuredRow rows table link
+  pub link-asks : {link : ℕ} → Onward rows row link → Source rows × (link < row_count rows) × (width * row_count rows ≤ length table) × MeasuredRow rows table link
   link-asks {link} o = (m.source, o.inside, m.room, link-measured rows table link m o)
 
   pub slot-asks : {link : ℕ} → OptionalOnward rows row link → LinkMeasured table link
@@ -319,8 +319,8 @@ module _ {rows : List ℤ} {table : List ℕ} {row : ℕ} (m : MeasuredFrom rows
 
 -- ---- the pass
 
-pub measured-none : {rows : List ℤ} {table : List ℕ} → Source rows → width * rowCount rows ≤ length table → MeasuredFrom rows table (rowCount rows)
-measured-none s h = record { source = s; room = h; row-measured = λ row l b. absurd (omega arith) }
+pub measured-none : {rows : List ℤ} {table : List ℕ} → Source rows → width * row_count rows ≤ length table → MeasuredFrom rows table (row_count rows)
+measured-none s h = record { source = s; room = h; row_measured = λ row l b. absurd (omega arith) }
 
 pub measured-back : {rows : List ℤ} {table : List ℕ} (row : ℕ) → 1 ≤ row → MeasuredFrom rows table row → MeasuredFrom rows table (row - 1 + 1)
 measured-back row h m = measured-less _ m (omega arith)
@@ -331,44 +331,44 @@ measured-zero row h m = measured-less _ m (omega arith)
 -- ---- the whole table
 
 module _ {rows : List ℤ} {table : List ℕ} (m : Measured rows table) where
-  pub whole_row : {row : ℕ} → row < rowCount rows → MeasuredRow rows table row
-  whole_row {row} h = m.row-measured row (omega arith) h
+  pub whole_row : {row : ℕ} → row < row_count rows → MeasuredRow rows table row
+  whole_row {row} h = m.row_measured row (omega arith) h
 
-  pub whole-asks : {row : ℕ} → row < rowCount rows → Source rows × (row < rowCount rows) × (width * rowCount rows ≤ length table) × MeasuredRow rows table row
+  pub whole-asks : {row : ℕ} → row < row_count rows → Source rows × (row < row_count rows) × (width * row_count rows ≤ length table) × MeasuredRow rows table row
   whole-asks {row} h = (m.source, h, m.room, whole_row h)
 
   -- the rows behind a row
   pub whole-behind : (row : ℕ) → MeasuredFrom rows table (row + 1)
   whole-behind row = measured-less (row + 1) m (omega arith)
 
-  pub whole-slot : (link : ℕ) → link < rowCount rows → LinkMeasured table link
+  pub whole-slot : (link : ℕ) → link < row_count rows → LinkMeasured table link
   whole-slot link h k l = record { held = λ p. omega (arith, m.room); small = by link h }
     where
-      by : (link : ℕ) → link < rowCount rows → slot_at table link k ≤ 65536
+      by : (link : ℕ) → link < row_count rows → slot_at table link k ≤ 65536
       by zero h = omega arith
       by (suc link) h = measured-small m.source (whole_row h) k l
 
-  pub whole_part : (u : Use) (link : ℕ) → link < rowCount rows → slot_at table link (rowsFor u) ≡ limited (operandSize (calledIn rows) (part_at rows link) u)
+  pub whole_part : (u : Use) (link : ℕ) → link < row_count rows → slot_at table link (rows_for u) ≡ limited (operand_size (called_in rows) (part_at rows link) u)
   unfolding limited
   whole_part u zero h = refl
   whole_part u (suc link) h = measured-rows u (whole_row h)
 
-  pub whole-list : (link : ℕ) → link < rowCount rows → slot_at table link listRowsSlot ≡ limited (itemsSize (calledIn rows) (listAt rows link))
-  unfolding limited itemsSize
+  pub whole-list : (link : ℕ) → link < row_count rows → slot_at table link list_rows_slot ≡ limited (items_size (called_in rows) (list_at rows link))
+  unfolding limited items_size
   whole-list zero h = refl
   whole-list (suc link) h = (whole_row h).list.rows_are
 
-  pub whole-cases : (link : ℕ) → link < rowCount rows → slot_at table link listCasesSlot ≡ limited (cases (listAt rows link))
+  pub whole-cases : (link : ℕ) → link < row_count rows → slot_at table link list_cases_slot ≡ limited (cases (list_at rows link))
   unfolding limited
   whole-cases zero h = refl
-  whole-cases (suc link) h = (whole_row h).list.cases-are
+  whole-cases (suc link) h = (whole_row h).list.cases_are
 
-  pub whole-default : (link : ℕ) → link < rowCount rows → slot_at table link listDefaultSlot ≡ limited (defaultPlace (listAt rows link))
-  unfolding limited defaultPlace
+  pub whole-default : (link : ℕ) → link < row_count rows → slot_at table link list_default_slot ≡ limited (default_place (list_at rows link))
+  unfolding limited default_place
   whole-default zero h = refl
-  whole-default (suc link) h = (whole_row h).list.default-is
+  whole-default (suc link) h = (whole_row h).list.default_is
 
-  pub whole-arms : (link : ℕ) → link < rowCount rows → slot_at table link armsRowsSlot ≡ limited (armsSize (calledIn rows) (armListAt rows link))
-  unfolding limited armsSize
+  pub whole-arms : (link : ℕ) → link < row_count rows → slot_at table link arms_rows_slot ≡ limited (arms_size (called_in rows) (arm_list_at rows link))
+  unfolding limited arms_size
   whole-arms zero h = refl
   whole-arms (suc link) h = (whole_row h).arms.rows_are

@@ -3,11 +3,11 @@ use Rattle.std.specs.Prelude.{◌≡◌, refl, Bool, false, ℕ}
 use Rattle.std.proofs.Common.{true≢false}
 use Rattle.language.specs.Trees.{Expression, constant, read, minus, not, binary, and, or, comma, conditional, assign, compound, prefix, postfix, call}
 use Rattle.language_shapes.specs.Functions.{is_call}
-use Rattle.measures_table.specs.Parts.{passedRows}
-use Rattle.measures_table.specs.Arguments.{callCopies}
+use Rattle.measures_table.specs.Parts.{passed_rows}
+use Rattle.measures_table.specs.Arguments.{call_copies}
 
 module _ (called : ℕ → ℕ → Bool) where
-  pub passes_none : (e : Expression) → is_call e ≡ false → passedRows called e ≡ 0
+  pub passes_none : (e : Expression) → is_call e ≡ false → passed_rows called e ≡ 0
   passes_none (constant v) h = refl
   passes_none (read p) h = refl
   passes_none (minus e) h = refl
@@ -23,7 +23,7 @@ module _ (called : ℕ → ℕ → Bool) where
   passes_none (postfix operator p) h = refl
   passes_none (call f arguments) h = absurd (true≢false h)
 
-  pub copies-none : (e : Expression) → is_call e ≡ false → callCopies called e ≡ 0
+  pub copies-none : (e : Expression) → is_call e ≡ false → call_copies called e ≡ 0
   copies-none (constant v) h = refl
   copies-none (read p) h = refl
   copies-none (minus e) h = refl

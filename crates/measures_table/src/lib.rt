@@ -1,4 +1,6 @@
 // The table of measures: its words, the records that fill them, and what goes by the use of a value.
+#![tactic(auto)]
+
 use translation::Use;
 
 pub mod table; // table.rt: the words of the table of measures
@@ -50,7 +52,7 @@ pub const COPIES: usize = 18;
 // second `above` levels above the first, the others in branches; the use of the first one's value, and whether the second one's is used as
 // the expression's is; the kernel rows and the levels of its own code, where the value is wanted, dropped, and stored in a variable, which
 // takes the rows of a wanted one; and the row that its value comes from.
-#[derive(Drop)]
+#[derive(Clone, Copy)]
 pub struct Own {
     pub first: usize,
     pub second: usize,
@@ -68,7 +70,7 @@ pub struct Own {
 }
 
 // What a place's row brings: the row of its index, 0 for a variable; the rows of an index, 1 or 0; the levels of an update.
-#[derive(Drop)]
+#[derive(Clone, Copy)]
 pub struct PlaceOwn {
     pub index: usize,
     pub rows: usize,
@@ -76,7 +78,7 @@ pub struct PlaceOwn {
 }
 
 // What holds a value: the number itself, a variable, or the temporary of its level.
-#[derive(Drop)]
+#[derive(Clone, Copy)]
 pub enum Holder {
     Number(i32),
     Variable(usize),
@@ -86,7 +88,7 @@ pub enum Holder {
 // The measures of an expression: kernel rows, levels, the row that its value comes from, and 1 where the value of its first operand is
 // copied, because the second one can write it, else 0; rows and levels where its value is dropped, and levels where it is stored; and of a
 // call which arguments are copied, as the binary digits of a number, the first argument's lowest.
-#[derive(Drop)]
+#[derive(Clone, Copy)]
 pub struct ExpressionMeasures {
     pub rows: usize,
     pub levels: usize,
@@ -100,7 +102,7 @@ pub struct ExpressionMeasures {
 
 // The measures of a call's arguments from one on: kernel rows, levels, the temporaries that they take, their number, and which are copied, as
 // binary digits.
-#[derive(Drop)]
+#[derive(Clone, Copy)]
 pub struct Passed {
     pub rows: usize,
     pub levels: usize,
@@ -110,7 +112,7 @@ pub struct Passed {
 }
 
 // The measures of a statement, and of the arms from an arm on: kernel rows, levels, labels.
-#[derive(Drop)]
+#[derive(Clone, Copy)]
 pub struct StatementMeasures {
     pub rows: usize,
     pub levels: usize,
@@ -118,7 +120,7 @@ pub struct StatementMeasures {
 }
 
 // The measures of a list from an item on: also its cases, and 1 + the labels before its default, 0 where it has none.
-#[derive(Drop)]
+#[derive(Clone, Copy)]
 pub struct ListMeasures {
     pub rows: usize,
     pub levels: usize,

@@ -1,6 +1,6 @@
 // The words of the table of measures.
 ghost use Rattle.std.specs.Prelude.{◌≡◌, ◌++◌, ◌+◌, ◌*◌, ◌≤◌, max, length, take, drop};
-ghost use Rattle.measures_table.specs.Measures.{limited as limitedTo, width, SlotAsks, SlotIs, rowWords};
+ghost use Rattle.measures_table.specs.Measures.{limited as limited_to, width, SlotAsks, SlotIs, row_words};
 
 use super::{
     ARMS_LABELS, ARMS_LEVELS, ARMS_ROWS, COPIED, COPIES, DROPPED_LEVELS, DROPPED_ROWS,
@@ -11,7 +11,7 @@ use super::{
 
 // A sum, cut off above every limit.
 pub fn limited(sum: usize) -> usize
-    ensures { result ≡ limitedTo sum }
+    ensures { result ≡ limited_to sum }
 {
     if sum > 65536 {
         return 65536;
@@ -49,7 +49,7 @@ pub fn set_measures(
     arms: StatementMeasures,
 )
     requires { width * row + width ≤ length table.old }
-    ensures { table.new ≡ take (width * row) table.old ++ rowWords expression statement list arms ++ drop (width * row + width) table.old }
+    ensures { table.new ≡ take (width * row) table.old ++ row_words expression statement list arms ++ drop (width * row + width) table.old }
 {
     let at = WIDTH * row;
     table[at + ROWS] = expression.rows;

@@ -1,7 +1,7 @@
 // What goes by the use of a value: the words of the table, what an own row brings, and the use of the second operand's value.
 ghost use Rattle.std.specs.Prelude.{◌≡◌};
-ghost use Rattle.translation.specs.Uses.{passedOn};
-ghost use Rattle.measures_table.specs.Parts.{usePassed, rows_by, levelsBy};
+ghost use Rattle.translation.specs.Uses.{passed_on};
+ghost use Rattle.measures_table.specs.Parts.{use_passed, rows_by, levels_by};
 ghost use Rattle.measures_table.specs.Measures.{RowsWord, LevelsWord};
 
 use super::{DROPPED_LEVELS, DROPPED_ROWS, LEVELS, Own, ROWS, STORED_LEVELS};
@@ -31,7 +31,7 @@ pub fn levels_for(usage: Use) -> usize
 
 // The use that a comma passes on to its right side.
 fn passed_on(usage: Use) -> Use
-    ensures { result ≡ passedOn usage }
+    ensures { result ≡ passed_on usage }
 {
     match usage {
         Use::Dropped => Use::Dropped,
@@ -42,7 +42,7 @@ fn passed_on(usage: Use) -> Use
 
 // The use of the second operand's value, where the expression's has this use.
 pub fn second_use(passes: bool, usage: Use) -> Use
-    ensures { result ≡ usePassed passes usage }
+    ensures { result ≡ use_passed passes usage }
 {
     if passes {
         return passed_on(usage);
@@ -63,7 +63,7 @@ pub fn rows_by(own: Own, usage: Use) -> usize
 
 // Its levels.
 pub fn levels_by(own: Own, usage: Use) -> usize
-    ensures { result ≡ levelsBy own usage }
+    ensures { result ≡ levels_by own usage }
 {
     match usage {
         Use::Dropped => own.dropped_levels,

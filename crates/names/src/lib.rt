@@ -1,1 +1,2 @@
 // Names inside a block, Change 11: definitions and laws alone, in specs/.
+#![tactic(auto)]

@@ -4,48 +4,48 @@ use Rattle.std.proofs.Common.{sym, ◌∙◌, arith}
 use Rattle.std.proofs.Math.Path.{ap}
 use Rattle.std.proofs.Math.IntN.{pos}
 use borrow.Author.Tests.{eq-eqb, ne_eqb}
-use Rattle.words.specs.Table.{rowCount, word_at, number_at}
+use Rattle.words.specs.Table.{row_count, word_at, number_at}
 use Rattle.words.specs.Over.{over}
 use Rattle.words.specs.OverLaws.{over-set}
-use Rattle.words.specs.Declarations.{isDeclaration}
-use Rattle.names.specs.Names.{table_of, isName, word_of, meantAt, variableWord, resolvedName, resolvedWord}
-use Rattle.names.specs.TableLaws.{tabulate-more, table-length}
+use Rattle.words.specs.Declarations.{is_declaration}
+use Rattle.names.specs.Names.{table_of, is_name, word_of, meant_at, variable_word, resolved_name, resolved_word}
+use Rattle.names.proofs.TableLaws.{tabulate-more, table-length}
 use Rattle.names_resolver.specs.Passes.{Scanned}
-use Rattle.names_resolver.specs.ScanLaws.{count-is}
+use Rattle.names_resolver.specs.ScanLaws.{count_is}
 
 module _ (S : ℕ) (rows : List ℤ) (row : ℕ) where
-  pub variable-outer : (declaration : ℕ) → declaration ≡ meantAt rows row (number_at rows row 1) → declaration ≡ 0 → variableWord S rows row ≡ word_at rows row 1
-  unfolding variableWord
+  pub variable-outer : (declaration : ℕ) → declaration ≡ meant_at rows row (number_at rows row 1) → declaration ≡ 0 → variable_word S rows row ≡ word_at rows row 1
+  unfolding variable_word
   variable-outer declaration e z = rw (← e, eq-eqb declaration 0 z)
 
-  pub variable-declared : (declaration : ℕ) → declaration ≡ meantAt rows row (number_at rows row 1) → (declaration ≡ 0 → ⊥) → variableWord S rows row ≡ pos (word_of S rows declaration)
-  unfolding variableWord
+  pub variable-declared : (declaration : ℕ) → declaration ≡ meant_at rows row (number_at rows row 1) → (declaration ≡ 0 → ⊥) → variable_word S rows row ≡ pos (word_of S rows declaration)
+  unfolding variable_word
   variable-declared declaration e n = rw (← e, ne_eqb declaration 0 n)
 
-  pub name-declared : isDeclaration rows row ≡ true → resolvedName S rows row ≡ pos (word_of S rows row)
-  unfolding resolvedName
+  pub name-declared : is_declaration rows row ≡ true → resolved_name S rows row ≡ pos (word_of S rows row)
+  unfolding resolved_name
   name-declared d = rw d
 
-  pub name-variable : isDeclaration rows row ≡ false → number_at rows row 0 ≡ 2 → resolvedName S rows row ≡ variableWord S rows row
-  unfolding resolvedName isName
-  name-variable d n = rw (d, eq-eqb _ _ n)
+  pub name_variable : is_declaration rows row ≡ false → number_at rows row 0 ≡ 2 → resolved_name S rows row ≡ variable_word S rows row
+  unfolding resolved_name is_name
+  name_variable d n = rw (d, eq-eqb _ _ n)
 
-  pub name-other : isDeclaration rows row ≡ false → (number_at rows row 0 ≡ 2 → ⊥) → resolvedName S rows row ≡ word_at rows row 1
-  unfolding resolvedName isName
+  pub name-other : is_declaration rows row ≡ false → (number_at rows row 0 ≡ 2 → ⊥) → resolved_name S rows row ≡ word_at rows row 1
+  unfolding resolved_name is_name
   name-other d n = rw (d, ne_eqb _ _ n)
 
-  pub word-named : (field : ℕ) → field ≡ 1 → resolvedWord S rows row field ≡ resolvedName S rows row
-  unfolding resolvedWord
+  pub word-named : (field : ℕ) → field ≡ 1 → resolved_word S rows row field ≡ resolved_name S rows row
+  unfolding resolved_word
   word-named field e = rw (eq-eqb field 1 e)
 
-  pub word_kept : (field : ℕ) → (field ≡ 1 → ⊥) → resolvedWord S rows row field ≡ word_at rows row field
-  unfolding resolvedWord
+  pub word_kept : (field : ℕ) → (field ≡ 1 → ⊥) → resolved_word S rows row field ≡ word_at rows row field
+  unfolding resolved_word
   word_kept field n = rw (ne_eqb field 1 n)
 
   -- the word of a declaration, by its count
-  pub declared-word : {scopes around counts : List ℕ} → Scanned rows scopes around counts → row < rowCount rows → pos (S + get_or counts row 0) ≡ pos (word_of S rows row)
+  pub declared-word : {scopes around counts : List ℕ} → Scanned rows scopes around counts → row < row_count rows → pos (S + get_or counts row 0) ≡ pos (word_of S rows row)
   unfolding word_of
-  declared-word s n = ap (λ (k : ℕ). pos (S + k)) (count-is s row n)
+  declared-word s n = ap (λ (k : ℕ). pos (S + k)) (count_is s row n)
 
 -- one word more of a table that is written over another
 pub fill_more : (word : ℕ → ℕ → ℤ) (start out : List ℤ) (n : ℕ) (v : ℤ) → out ≡ over (table_of word n) start → n < length start → v ≡ word (n / 6) (n % 6) → set out n v ≡ over (table_of word (n + 1)) start

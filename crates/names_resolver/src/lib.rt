@@ -1,5 +1,7 @@
 // The resolved table in code: passes along the links note every row's scope and function, a pass over the rows counts declarations; then each
 // word is written by itself.
+#![tactic(auto)]
+
 pub mod counts; // counts.rt: how many declarations stand before each row
 pub mod store_words; // store_words.rt: what a name means, and its store word
 pub mod scopes; // scopes.rt: the scope of each row, and its function

@@ -3,8 +3,8 @@ ghost use Rattle.std.specs.Prelude.{◌≡◌, ◌/◌, ◌≤◌, length, get_o
 ghost use Rattle.check_grammar.specs.Grammar.{grammar};
 ghost use Rattle.check_structure.specs.Structured.{Tree};
 ghost use Rattle.check_structure.specs.Passes.{Notes};
-ghost use Rattle.check_function_causes.specs.Functions.{functionAround};
-ghost use Rattle.names.specs.Names.{scopeAt};
+ghost use Rattle.check_function_causes.specs.Functions.{function_around};
+ghost use Rattle.names.specs.Names.{scope_at};
 
 use check_grammar::KindTable;
 use check_notes::{Note, write_notes};
@@ -12,7 +12,7 @@ use check_notes::{Note, write_notes};
 // The scopes of all rows.
 pub fn write_scopes(kinds: &KindTable, rows: &[i32], scopes: &mut [u16])
     requires { Tree rows.now × (length rows.now / 6 ≤ length scopes.old) × (get_or scopes.old 0 0 ≡ 0) × (kinds.now ≡ grammar) }
-    ensures { Notes rows.now (scopeAt rows.now) scopes.new }
+    ensures { Notes rows.now (scope_at rows.now) scopes.new }
 {
     write_notes(Note::Behind(58), kinds, rows, scopes);
 }
@@ -20,7 +20,7 @@ pub fn write_scopes(kinds: &KindTable, rows: &[i32], scopes: &mut [u16])
 // The definitions of the functions that the rows stand in.
 pub fn write_around(kinds: &KindTable, rows: &[i32], around: &mut [u16])
     requires { Tree rows.now × (length rows.now / 6 ≤ length around.old) × (get_or around.old 0 0 ≡ 0) × (kinds.now ≡ grammar) }
-    ensures { Notes rows.now (functionAround rows.now) around.new }
+    ensures { Notes rows.now (function_around rows.now) around.new }
 {
     write_notes(Note::Around(59), kinds, rows, around);
 }

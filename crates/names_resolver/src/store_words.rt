@@ -2,7 +2,7 @@
 ghost use Rattle.std.specs.Prelude.{◌≡◌, ◌+◌, ◌/◌, ◌<◌, ◌≤◌, pos, length, get_or};
 ghost use Rattle.check_grammar.specs.Grammar.{grammar};
 ghost use Rattle.check_structure.specs.Structured.{Tree};
-ghost use Rattle.names.specs.Names.{scopeAt, meantFrom, parameterAt, meantAt, variableWord, resolvedName, resolvedWord};
+ghost use Rattle.names.specs.Names.{scope_at, meant_from, parameter_at, meant_at, variable_word, resolved_name, resolved_word};
 ghost use Rattle.names_resolver.specs.Passes.{Scanned};
 
 use check_grammar::{KindTable, link};
@@ -23,7 +23,7 @@ fn declared(
     number: usize,
 ) -> usize
     requires { Scanned rows.now scopes.now around.now counts.now × (row < length rows.now / 6) }
-    ensures { result ≡ meantFrom 64 rows.now (scopeAt rows.now row) number }
+    ensures { result ≡ meant_from 64 rows.now (scope_at rows.now row) number }
 {
     let mut declaration = wide(scopes[row]);
     for _outward in 0..LIMIT {
@@ -41,7 +41,7 @@ fn declared(
 // The parameter with the number in the function that a row defines; 0 where there is none, and where the row is 0.
 fn parameter_named(kinds: &KindTable, rows: &[i32], definition: usize, number: usize) -> usize
     requires { Tree rows.now × (definition < length rows.now / 6) × (kinds.now ≡ grammar) }
-    ensures { result ≡ parameterAt rows.now definition number }
+    ensures { result ≡ parameter_at rows.now definition number }
 {
     if definition == 0 {
         return 0;
@@ -70,7 +70,7 @@ fn meant(
     number: usize,
 ) -> usize
     requires { Scanned rows.now scopes.now around.now counts.now × (row < length rows.now / 6) × (kinds.now ≡ grammar) }
-    ensures { result ≡ meantAt rows.now row number }
+    ensures { result ≡ meant_at rows.now row number }
 {
     let declaration = declared(rows, scopes, around, counts, row, number);
     if declaration != 0 {
@@ -98,7 +98,7 @@ fn variable_word(
     row: usize,
 ) -> i32
     requires { Scanned rows.now scopes.now around.now counts.now × (store ≤ 8192) × (row < length rows.now / 6) × (kinds.now ≡ grammar) }
-    ensures { result ≡ variableWord store rows.now row }
+    ensures { result ≡ variable_word store rows.now row }
 {
     let declaration = meant(
         kinds,
@@ -126,7 +126,7 @@ fn resolved_name(
     row: usize,
 ) -> i32
     requires { Scanned rows.now scopes.now around.now counts.now × (store ≤ 8192) × (row < length rows.now / 6) × (kinds.now ≡ grammar) }
-    ensures { result ≡ resolvedName store rows.now row }
+    ensures { result ≡ resolved_name store rows.now row }
 {
     if is_declaration(rows, row) {
         return store_word(store, counts, row);
@@ -149,7 +149,7 @@ pub fn resolved_word(
     field: usize,
 ) -> i32
     requires { Scanned rows.now scopes.now around.now counts.now × (store ≤ 8192) × (row < length rows.now / 6) × (field < 6) × (kinds.now ≡ grammar) }
-    ensures { result ≡ resolvedWord store rows.now row field }
+    ensures { result ≡ resolved_word store rows.now row field }
 {
     if field == 1 {
         return resolved_name(kinds, store, rows, scopes, around, counts, row);

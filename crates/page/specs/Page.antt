@@ -4,11 +4,11 @@ use Rattle.std.specs.Prelude.{List, [], ◌∷◌, ◌++◌, ℕ, zero, suc, ◌
 use Rattle.words.specs.Word.{pick}
 use Rattle.words.specs.declared.Operator.{Operator}
 use Rattle.words.specs.declared.Operator.TheVariants.{Add, Subtract, Multiply, Divide, Remainder, Less, Greater, LessOrEqual, GreaterOrEqual, Equal, NotEqual}
-use Rattle.text_numbers.specs.Number.{digits, numberBytes}
+use Rattle.text_numbers.specs.Number.{digits, number_bytes}
 use Rattle.text_lines.specs.Line.{newline}
-use Rattle.language.specs.Trees.{Expression, constant, read, minus, not, binary, and, or, comma, conditional, assign, compound, prefix, postfix, call, Place, variable, element, no_more, ◌also◌, absent, present, Mark, case, default, label, Statement, empty, express, block, ifThen, ifElse, while, doWhile, for, switch, break, continue, goto, guardedIf, guardedDo, abort, declare, giveBack, Items}
+use Rattle.language.specs.Trees.{Expression, constant, read, minus, not, binary, and, or, comma, conditional, assign, compound, prefix, postfix, call, Place, variable, element, no_more, ◌also◌, absent, present, Mark, case, default, label, Statement, empty, express, block, if_then, if_else, while, do_while, for, switch, break, continue, goto, guarded_if, guarded_do, abort, declare, give_back, Items}
 use Rattle.page.specs.declared.Sizes.{Sizes}
-use Rattle.page.specs.Lines.{PageLine, single, mark, opens, opensWhile, opensIf, turns, closes, opensCall, argument, lastArgument, opensFunction, opensParameters, parameter, lastParameter, Indented, indented, itemsLines}
+use Rattle.page.specs.Lines.{PageLine, single, mark, opens, opens_while, opens_if, turns, closes, opens_call, argument, last_argument, opens_function, opens_parameters, parameter, last_parameter, Indented, indented, items_lines}
 
 -- ---- bytes and words that are always the same
 
@@ -22,231 +22,231 @@ semicolon = 59
 abbrev pub colon : ℕ
 colon = 58
 
-abbrev pub commaByte : ℕ
-commaByte = 44
+abbrev pub comma_byte : ℕ
+comma_byte = 44
 
-abbrev pub openingBracket : ℕ
-openingBracket = 91
+abbrev pub opening_bracket : ℕ
+opening_bracket = 91
 
-abbrev pub closingBracket : ℕ
-closingBracket = 93
+abbrev pub closing_bracket : ℕ
+closing_bracket = 93
 
-abbrev pub openingParenthesis : ℕ
-openingParenthesis = 40
+abbrev pub opening_parenthesis : ℕ
+opening_parenthesis = 40
 
-abbrev pub closingParenthesis : ℕ
-closingParenthesis = 41
+abbrev pub closing_parenthesis : ℕ
+closing_parenthesis = 41
 
 -- "Names are v, a and t with a number"; "pages name these words l"; a label's begins with L, a function's with f.
-abbrev pub variableLetter : ℕ
-variableLetter = 118
+abbrev pub variable_letter : ℕ
+variable_letter = 118
 
-abbrev pub arrayLetter : ℕ
-arrayLetter = 97
+abbrev pub array_letter : ℕ
+array_letter = 97
 
-abbrev pub declaredLetter : ℕ
-declaredLetter = 108
+abbrev pub declared_letter : ℕ
+declared_letter = 108
 
-abbrev pub temporaryLetter : ℕ
-temporaryLetter = 116
+abbrev pub temporary_letter : ℕ
+temporary_letter = 116
 
-abbrev pub labelLetter : ℕ
-labelLetter = 76
+abbrev pub label_letter : ℕ
+label_letter = 76
 
-abbrev pub functionLetter : ℕ
-functionLetter = 102
+abbrev pub function_letter : ℕ
+function_letter = 102
 
 -- `;` `{` `}` `=` `-` `if` `else` `while` `goto` `abort();` `int` `return`
-abbrev pub emptyWord : List ℕ
-emptyWord = 59 ∷ []
+abbrev pub empty_word : List ℕ
+empty_word = 59 ∷ []
 
-abbrev pub openingWord : List ℕ
-openingWord = 123 ∷ []
+abbrev pub opening_word : List ℕ
+opening_word = 123 ∷ []
 
-abbrev pub closingWord : List ℕ
-closingWord = 125 ∷ []
+abbrev pub closing_word : List ℕ
+closing_word = 125 ∷ []
 
-abbrev pub equalsWord : List ℕ
-equalsWord = 61 ∷ []
+abbrev pub equals_word : List ℕ
+equals_word = 61 ∷ []
 
-abbrev pub minusWord : List ℕ
-minusWord = 45 ∷ []
+abbrev pub minus_word : List ℕ
+minus_word = 45 ∷ []
 
-abbrev pub ifWord : List ℕ
-ifWord = 105 ∷ 102 ∷ []
+abbrev pub if_word : List ℕ
+if_word = 105 ∷ 102 ∷ []
 
-abbrev pub elseWord : List ℕ
-elseWord = 101 ∷ 108 ∷ 115 ∷ 101 ∷ []
+abbrev pub else_word : List ℕ
+else_word = 101 ∷ 108 ∷ 115 ∷ 101 ∷ []
 
-abbrev pub whileWord : List ℕ
-whileWord = 119 ∷ 104 ∷ 105 ∷ 108 ∷ 101 ∷ []
+abbrev pub while_word : List ℕ
+while_word = 119 ∷ 104 ∷ 105 ∷ 108 ∷ 101 ∷ []
 
-abbrev pub gotoWord : List ℕ
-gotoWord = 103 ∷ 111 ∷ 116 ∷ 111 ∷ []
+abbrev pub goto_word : List ℕ
+goto_word = 103 ∷ 111 ∷ 116 ∷ 111 ∷ []
 
-abbrev pub abortWord : List ℕ
-abortWord = 97 ∷ 98 ∷ 111 ∷ 114 ∷ 116 ∷ 40 ∷ 41 ∷ 59 ∷ []
+abbrev pub abort_word : List ℕ
+abort_word = 97 ∷ 98 ∷ 111 ∷ 114 ∷ 116 ∷ 40 ∷ 41 ∷ 59 ∷ []
 
-abbrev pub intWord : List ℕ
-intWord = 105 ∷ 110 ∷ 116 ∷ []
+abbrev pub int_word : List ℕ
+int_word = 105 ∷ 110 ∷ 116 ∷ []
 
-abbrev pub returnWord : List ℕ
-returnWord = 114 ∷ 101 ∷ 116 ∷ 117 ∷ 114 ∷ 110 ∷ []
+abbrev pub return_word : List ℕ
+return_word = 114 ∷ 101 ∷ 116 ∷ 117 ∷ 114 ∷ 110 ∷ []
 
 -- `+` `-` `*` `/` `%` `<` `>` `<=` `>=` `==` `!=`
-abbrev pub operatorWord : Operator → List ℕ
-operatorWord Add = 43 ∷ []
-operatorWord Subtract = 45 ∷ []
-operatorWord Multiply = 42 ∷ []
-operatorWord Divide = 47 ∷ []
-operatorWord Remainder = 37 ∷ []
-operatorWord Less = 60 ∷ []
-operatorWord Greater = 62 ∷ []
-operatorWord LessOrEqual = 60 ∷ 61 ∷ []
-operatorWord GreaterOrEqual = 62 ∷ 61 ∷ []
-operatorWord Equal = 61 ∷ 61 ∷ []
-operatorWord NotEqual = 33 ∷ 61 ∷ []
+abbrev pub operator_word : Operator → List ℕ
+operator_word Add = 43 ∷ []
+operator_word Subtract = 45 ∷ []
+operator_word Multiply = 42 ∷ []
+operator_word Divide = 47 ∷ []
+operator_word Remainder = 37 ∷ []
+operator_word Less = 60 ∷ []
+operator_word Greater = 62 ∷ []
+operator_word LessOrEqual = 60 ∷ 61 ∷ []
+operator_word GreaterOrEqual = 62 ∷ 61 ∷ []
+operator_word Equal = 61 ∷ 61 ∷ []
+operator_word NotEqual = 33 ∷ 61 ∷ []
 
 -- ---- the words of a line
 
 -- A word with a byte behind it.
-abbrev pub endedBy : ℕ → List ℕ → List ℕ
-endedBy byte word = word ++ (byte ∷ [])
+abbrev pub ended_by : ℕ → List ℕ → List ℕ
+ended_by byte word = word ++ (byte ∷ [])
 
 -- Words, the last one with a semicolon behind it.
 unfoldable pub ended : List (List ℕ) → List (List ℕ)
 ended [] = []
-ended (word ∷ []) = endedBy semicolon word ∷ []
+ended (word ∷ []) = ended_by semicolon word ∷ []
 ended (word ∷ (second ∷ words)) = word ∷ ended (second ∷ words)
 
 -- `L7`
-abbrev pub labelWord : ℕ → List ℕ
-labelWord l = labelLetter ∷ digits l
+abbrev pub label_word : ℕ → List ℕ
+label_word l = label_letter ∷ digits l
 
 -- `f7`, `f7(`, `f7()`
-abbrev pub functionWord : ℕ → List ℕ
-functionWord f = functionLetter ∷ digits f
+abbrev pub function_word : ℕ → List ℕ
+function_word f = function_letter ∷ digits f
 
-abbrev pub openedWord : ℕ → List ℕ
-openedWord f = endedBy openingParenthesis (functionWord f)
+abbrev pub opened_word : ℕ → List ℕ
+opened_word f = ended_by opening_parenthesis (function_word f)
 
-abbrev pub calledWord : ℕ → List ℕ
-calledWord f = endedBy closingParenthesis (openedWord f)
+abbrev pub called_word : ℕ → List ℕ
+called_word f = ended_by closing_parenthesis (opened_word f)
 
 -- S and D: variable numbers from S on are the declared words, "l, from 0", and from S+D on the temporaries, "t from 0".
 module _ (sizes : Sizes) where
-  abbrev pub firstTemporary : ℕ
-  firstTemporary = sizes.store + sizes.declared
+  abbrev pub first_temporary : ℕ
+  first_temporary = sizes.store + sizes.declared
 
   -- `v7`, `l7`, `t7`
   unfoldable pub name : ℕ → List ℕ
   name i =
-      pick (ltb i sizes.store) (variableLetter ∷ digits i)
-      (pick (ltb i firstTemporary) (declaredLetter ∷ digits (i - sizes.store)) (temporaryLetter ∷ digits (i - firstTemporary)))
+      pick (ltb i sizes.store) (variable_letter ∷ digits i)
+      (pick (ltb i first_temporary) (declared_letter ∷ digits (i - sizes.store)) (temporary_letter ∷ digits (i - first_temporary)))
 
   -- An atom: a name, or a constant in decimal; "a negative constant" has no blank after its sign.
-  abbrev pub atomWord : Expression → List ℕ
-  atomWord (constant v) = numberBytes v
-  atomWord (read (variable i)) = name i
-  atomWord (read (element array e)) = []
-  atomWord (minus e) = []
-  atomWord (not e) = []
-  atomWord (binary o a b) = []
-  atomWord (and a b) = []
-  atomWord (or a b) = []
-  atomWord (comma a b) = []
-  atomWord (conditional c a b) = []
-  atomWord (assign p e) = []
-  atomWord (compound o p e) = []
-  atomWord (prefix o p) = []
-  atomWord (postfix o p) = []
-  atomWord (call f arguments) = []
+  abbrev pub atom_word : Expression → List ℕ
+  atom_word (constant v) = number_bytes v
+  atom_word (read (variable i)) = name i
+  atom_word (read (element array e)) = []
+  atom_word (minus e) = []
+  atom_word (not e) = []
+  atom_word (binary o a b) = []
+  atom_word (and a b) = []
+  atom_word (or a b) = []
+  atom_word (comma a b) = []
+  atom_word (conditional c a b) = []
+  atom_word (assign p e) = []
+  atom_word (compound o p e) = []
+  atom_word (prefix o p) = []
+  atom_word (postfix o p) = []
+  atom_word (call f arguments) = []
 
   -- `v7`, `a7[X]`
-  abbrev pub placeWord : Place → List ℕ
-  placeWord (variable i) = name i
-  placeWord (element array e) = arrayLetter ∷ (digits array ++ (openingBracket ∷ endedBy closingBracket (atomWord e)))
+  abbrev pub place_word : Place → List ℕ
+  place_word (variable i) = name i
+  place_word (element array e) = array_letter ∷ (digits array ++ (opening_bracket ∷ ended_by closing_bracket (atom_word e)))
 
   -- What is assigned. "Minus has a blank after its sign".
-  abbrev pub valueWords : Expression → List (List ℕ)
-  valueWords (constant v) = numberBytes v ∷ []
-  valueWords (read p) = placeWord p ∷ []
-  valueWords (minus e) = minusWord ∷ (atomWord e ∷ [])
-  valueWords (binary o a b) = atomWord a ∷ (operatorWord o ∷ (atomWord b ∷ []))
-  valueWords (not e) = []
-  valueWords (and a b) = []
-  valueWords (or a b) = []
-  valueWords (comma a b) = []
-  valueWords (conditional c a b) = []
-  valueWords (assign p e) = []
-  valueWords (compound o p e) = []
-  valueWords (prefix o p) = []
-  valueWords (postfix o p) = []
-  valueWords (call f no_more) = calledWord f ∷ []
-  valueWords (call f (e also arguments)) = []
+  abbrev pub value_words : Expression → List (List ℕ)
+  value_words (constant v) = number_bytes v ∷ []
+  value_words (read p) = place_word p ∷ []
+  value_words (minus e) = minus_word ∷ (atom_word e ∷ [])
+  value_words (binary o a b) = atom_word a ∷ (operator_word o ∷ (atom_word b ∷ []))
+  value_words (not e) = []
+  value_words (and a b) = []
+  value_words (or a b) = []
+  value_words (comma a b) = []
+  value_words (conditional c a b) = []
+  value_words (assign p e) = []
+  value_words (compound o p e) = []
+  value_words (prefix o p) = []
+  value_words (postfix o p) = []
+  value_words (call f no_more) = called_word f ∷ []
+  value_words (call f (e also arguments)) = []
 
   -- `P = X;`
-  abbrev pub assignmentWords : Expression → List (List ℕ)
-  assignmentWords (assign p e) = placeWord p ∷ (equalsWord ∷ ended (valueWords e))
-  assignmentWords (constant v) = []
-  assignmentWords (read p) = []
-  assignmentWords (minus e) = []
-  assignmentWords (binary o a b) = []
-  assignmentWords (not e) = []
-  assignmentWords (and a b) = []
-  assignmentWords (or a b) = []
-  assignmentWords (comma a b) = []
-  assignmentWords (conditional c a b) = []
-  assignmentWords (compound o p e) = []
-  assignmentWords (prefix o p) = []
-  assignmentWords (postfix o p) = []
-  assignmentWords (call f arguments) = []
+  abbrev pub assignment_words : Expression → List (List ℕ)
+  assignment_words (assign p e) = place_word p ∷ (equals_word ∷ ended (value_words e))
+  assignment_words (constant v) = []
+  assignment_words (read p) = []
+  assignment_words (minus e) = []
+  assignment_words (binary o a b) = []
+  assignment_words (not e) = []
+  assignment_words (and a b) = []
+  assignment_words (or a b) = []
+  assignment_words (comma a b) = []
+  assignment_words (conditional c a b) = []
+  assignment_words (compound o p e) = []
+  assignment_words (prefix o p) = []
+  assignment_words (postfix o p) = []
+  assignment_words (call f arguments) = []
 
-  abbrev pub singleWords : Statement → List (List ℕ)
-  singleWords empty = emptyWord ∷ []
-  singleWords (express e) = assignmentWords e
-  singleWords (goto l) = gotoWord ∷ (endedBy semicolon (labelWord l) ∷ [])
-  singleWords abort = abortWord ∷ []
-  singleWords (giveBack (present e)) = returnWord ∷ (endedBy semicolon (atomWord e) ∷ [])
-  singleWords (block is) = []
-  singleWords (ifThen e onTrue) = []
-  singleWords (ifElse e onTrue onFalse) = []
-  singleWords (while e body) = []
-  singleWords (doWhile body e) = []
-  singleWords (for first test action body) = []
-  singleWords (switch e is) = []
-  singleWords break = []
-  singleWords continue = []
-  singleWords (guardedIf arms) = []
-  singleWords (guardedDo arms) = []
-  singleWords (declare word e) = []
-  singleWords (giveBack absent) = []
+  abbrev pub single_words : Statement → List (List ℕ)
+  single_words empty = empty_word ∷ []
+  single_words (express e) = assignment_words e
+  single_words (goto l) = goto_word ∷ (ended_by semicolon (label_word l) ∷ [])
+  single_words abort = abort_word ∷ []
+  single_words (give_back (present e)) = return_word ∷ (ended_by semicolon (atom_word e) ∷ [])
+  single_words (block is) = []
+  single_words (if_then e on_true) = []
+  single_words (if_else e on_true on_false) = []
+  single_words (while e body) = []
+  single_words (do_while body e) = []
+  single_words (for first test action body) = []
+  single_words (switch e is) = []
+  single_words break = []
+  single_words continue = []
+  single_words (guarded_if arms) = []
+  single_words (guarded_do arms) = []
+  single_words (declare word e) = []
+  single_words (give_back absent) = []
 
   -- `L7:;`
-  abbrev pub markWords : Mark → List (List ℕ)
-  markWords (label l) = endedBy semicolon (endedBy colon (labelWord l)) ∷ []
-  markWords (case v) = []
-  markWords default = []
+  abbrev pub mark_words : Mark → List (List ℕ)
+  mark_words (label l) = ended_by semicolon (ended_by colon (label_word l)) ∷ []
+  mark_words (case v) = []
+  mark_words default = []
 
   -- `(X)`
-  abbrev pub testWord : Expression → List ℕ
-  testWord e = openingParenthesis ∷ endedBy closingParenthesis (atomWord e)
+  abbrev pub test_word : Expression → List ℕ
+  test_word e = opening_parenthesis ∷ ended_by closing_parenthesis (atom_word e)
 
-  abbrev pub lineWords : PageLine → List (List ℕ)
-  lineWords (single s) = singleWords s
-  lineWords (mark m) = markWords m
-  lineWords opens = openingWord ∷ []
-  lineWords (opensWhile e) = whileWord ∷ (testWord e ∷ (openingWord ∷ []))
-  lineWords (opensIf e) = ifWord ∷ (testWord e ∷ (openingWord ∷ []))
-  lineWords turns = closingWord ∷ (elseWord ∷ (openingWord ∷ []))
-  lineWords closes = closingWord ∷ []
-  lineWords (opensCall p f) = placeWord p ∷ (equalsWord ∷ (openedWord f ∷ []))
-  lineWords (argument e) = endedBy commaByte (atomWord e) ∷ []
-  lineWords (lastArgument e) = endedBy semicolon (endedBy closingParenthesis (atomWord e)) ∷ []
-  lineWords (opensFunction f) = intWord ∷ (calledWord f ∷ (openingWord ∷ []))
-  lineWords (opensParameters f) = intWord ∷ (openedWord f ∷ [])
-  lineWords (parameter word) = intWord ∷ (endedBy commaByte (name word) ∷ [])
-  lineWords (lastParameter word) = intWord ∷ (endedBy closingParenthesis (name word) ∷ (openingWord ∷ []))
+  abbrev pub line_words : PageLine → List (List ℕ)
+  line_words (single s) = single_words s
+  line_words (mark m) = mark_words m
+  line_words opens = opening_word ∷ []
+  line_words (opens_while e) = while_word ∷ (test_word e ∷ (opening_word ∷ []))
+  line_words (opens_if e) = if_word ∷ (test_word e ∷ (opening_word ∷ []))
+  line_words turns = closing_word ∷ (else_word ∷ (opening_word ∷ []))
+  line_words closes = closing_word ∷ []
+  line_words (opens_call p f) = place_word p ∷ (equals_word ∷ (opened_word f ∷ []))
+  line_words (argument e) = ended_by comma_byte (atom_word e) ∷ []
+  line_words (last_argument e) = ended_by semicolon (ended_by closing_parenthesis (atom_word e)) ∷ []
+  line_words (opens_function f) = int_word ∷ (called_word f ∷ (opening_word ∷ []))
+  line_words (opens_parameters f) = int_word ∷ (opened_word f ∷ [])
+  line_words (parameter word) = int_word ∷ (ended_by comma_byte (name word) ∷ [])
+  line_words (last_parameter word) = int_word ∷ (ended_by closing_parenthesis (name word) ∷ (opening_word ∷ []))
 
 -- ---- bytes
 
@@ -260,8 +260,8 @@ parted [] = []
 parted (word ∷ []) = word
 parted (word ∷ (second ∷ words)) = word ++ (blank ∷ parted (second ∷ words))
 
-unfoldable pub rightSet : ℕ → List ℕ → List ℕ
-rightSet columns bytes = blanks (columns - length bytes) ++ bytes
+unfoldable pub right_set : ℕ → List ℕ → List ℕ
+right_set columns bytes = blanks (columns - length bytes) ++ bytes
 
 unfoldable pub padded : ℕ → List ℕ → List ℕ
 padded columns bytes = bytes ++ blanks (columns - length bytes)
@@ -271,14 +271,14 @@ abbrev pub indent : ℕ → ℕ
 indent level = min (2 * level) 36
 
 module _ (sizes : Sizes) where
-  unfoldable pub lineBytes : ℕ → Indented → List ℕ
-  lineBytes number (indented level line) = padded 80 (rightSet 5 (digits number) ++ (blank ∷ (blanks (indent level) ++ parted (lineWords sizes line)))) ++ (newline ∷ [])
+  unfoldable pub line_bytes : ℕ → Indented → List ℕ
+  line_bytes number (indented level line) = padded 80 (right_set 5 (digits number) ++ (blank ∷ (blanks (indent level) ++ parted (line_words sizes line)))) ++ (newline ∷ [])
 
   -- Lines, the first with this number.
-  unfoldable pub linesBytes : ℕ → List Indented → List ℕ
-  linesBytes number [] = []
-  linesBytes number (line ∷ lines) = lineBytes number line ++ linesBytes (number + 1) lines
+  unfoldable pub lines_bytes : ℕ → List Indented → List ℕ
+  lines_bytes number [] = []
+  lines_bytes number (line ∷ lines) = line_bytes number line ++ lines_bytes (number + 1) lines
 
   -- The page of a program with these items: row 0's block has no lines of its own.
-  unfoldable pub pageBytes : Items → List ℕ
-  pageBytes contents = linesBytes 1 (itemsLines 0 contents)
+  unfoldable pub page_bytes : Items → List ℕ
+  page_bytes contents = lines_bytes 1 (items_lines 0 contents)

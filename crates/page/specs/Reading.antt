@@ -5,12 +5,12 @@ use Rattle.std.proofs.Math.Option.{Option, none, some}
 use Rattle.words.specs.Word.{pick}
 use Rattle.words.specs.declared.Operator.{Operator}
 use Rattle.words.specs.declared.Operator.TheVariants.{Add, Subtract, Multiply, Divide, Remainder, Less, Greater, LessOrEqual, GreaterOrEqual, Equal, NotEqual}
-use Rattle.text_numbers.specs.Number.{naturalOf, number_of}
+use Rattle.text_numbers.specs.Number.{natural_of, number_of}
 use Rattle.text_lines.specs.Line.{together, lines_of, TextLine, ended, unended}
-use Rattle.language.specs.Trees.{Expression, constant, read, minus, binary, assign, call, Place, variable, element, no_more, present, label, empty, express, goto, abort, giveBack, Items}
+use Rattle.language.specs.Trees.{Expression, constant, read, minus, binary, assign, call, Place, variable, element, no_more, present, label, empty, express, goto, abort, give_back, Items}
 use Rattle.page.specs.declared.Sizes.{Sizes}
-use Rattle.page.specs.Lines.{PageLine, single, mark, opens, opensWhile, opensIf, turns, closes, opensCall, argument, lastArgument, opensFunction, opensParameters, parameter, lastParameter, readLines}
-use Rattle.page.specs.Page.{blank, semicolon, colon, commaByte, openingBracket, closingBracket, openingParenthesis, closingParenthesis, variableLetter, arrayLetter, declaredLetter, temporaryLetter, labelLetter, functionLetter, emptyWord, openingWord, closingWord, equalsWord, minusWord, ifWord, whileWord, gotoWord, abortWord, intWord, returnWord, operatorWord, firstTemporary, pageBytes}
+use Rattle.page.specs.Lines.{PageLine, single, mark, opens, opens_while, opens_if, turns, closes, opens_call, argument, last_argument, opens_function, opens_parameters, parameter, last_parameter, read_lines}
+use Rattle.page.specs.Page.{blank, semicolon, colon, comma_byte, opening_bracket, closing_bracket, opening_parenthesis, closing_parenthesis, variable_letter, array_letter, declared_letter, temporary_letter, label_letter, function_letter, empty_word, opening_word, closing_word, equals_word, minus_word, if_word, while_word, goto_word, abort_word, int_word, return_word, operator_word, first_temporary, page_bytes}
 
 -- ---- words
 
@@ -52,27 +52,27 @@ without last (byte ∷ (second ∷ bytes)) = bind (without last (second ∷ byte
 
 -- ---- what a word says
 
-unfoldable pub readOperator : List ℕ → Option Operator
-readOperator word =
-    pick (same word (operatorWord Add)) (some Add) (pick (same word (operatorWord Subtract)) (some Subtract) (pick (same word (operatorWord Multiply)) (some Multiply)
-    (pick (same word (operatorWord Divide)) (some Divide) (pick (same word (operatorWord Remainder)) (some Remainder) (pick (same word (operatorWord Less)) (some Less)
-    (pick (same word (operatorWord Greater)) (some Greater) (pick (same word (operatorWord LessOrEqual)) (some LessOrEqual) (pick (same word (operatorWord GreaterOrEqual)) (some GreaterOrEqual)
-    (pick (same word (operatorWord Equal)) (some Equal) (pick (same word (operatorWord NotEqual)) (some NotEqual) none))))))))))
+unfoldable pub read_operator : List ℕ → Option Operator
+read_operator word =
+    pick (same word (operator_word Add)) (some Add) (pick (same word (operator_word Subtract)) (some Subtract) (pick (same word (operator_word Multiply)) (some Multiply)
+    (pick (same word (operator_word Divide)) (some Divide) (pick (same word (operator_word Remainder)) (some Remainder) (pick (same word (operator_word Less)) (some Less)
+    (pick (same word (operator_word Greater)) (some Greater) (pick (same word (operator_word LessOrEqual)) (some LessOrEqual) (pick (same word (operator_word GreaterOrEqual)) (some GreaterOrEqual)
+    (pick (same word (operator_word Equal)) (some Equal) (pick (same word (operator_word NotEqual)) (some NotEqual) none))))))))))
 
-abbrev pub readLabel : List ℕ → Option ℕ
-readLabel [] = none
-readLabel (byte ∷ bytes) = pick (eqb byte labelLetter) (naturalOf bytes) none
+abbrev pub read_label : List ℕ → Option ℕ
+read_label [] = none
+read_label (byte ∷ bytes) = pick (eqb byte label_letter) (natural_of bytes) none
 
-abbrev pub readFunction : List ℕ → Option ℕ
-readFunction [] = none
-readFunction (byte ∷ bytes) = pick (eqb byte functionLetter) (naturalOf bytes) none
+abbrev pub read_function : List ℕ → Option ℕ
+read_function [] = none
+read_function (byte ∷ bytes) = pick (eqb byte function_letter) (natural_of bytes) none
 
 -- `fN(` and `fN()`
-abbrev pub readOpened : List ℕ → Option ℕ
-readOpened word = bind (without openingParenthesis word) readFunction
+abbrev pub read_opened : List ℕ → Option ℕ
+read_opened word = bind (without opening_parenthesis word) read_function
 
-abbrev pub readCalled : List ℕ → Option ℕ
-readCalled word = bind (without closingParenthesis word) readOpened
+abbrev pub read_called : List ℕ → Option ℕ
+read_called word = bind (without closing_parenthesis word) read_opened
 
 -- The first, or else the second.
 abbrev pub or_else : {A : Type 0} → Option A → Option A → Option A
@@ -81,82 +81,82 @@ or_else none other = other
 
 module _ (sizes : Sizes) where
   -- The number of a variable.
-  unfoldable pub readName : List ℕ → Option ℕ
-  readName [] = none
-  readName (byte ∷ bytes) =
-      pick (eqb byte variableLetter) (naturalOf bytes)
-      (pick (eqb byte declaredLetter) (bind (naturalOf bytes) (λ n. some (sizes.store + n)))
-      (pick (eqb byte temporaryLetter) (bind (naturalOf bytes) (λ n. some (firstTemporary sizes + n))) none))
+  unfoldable pub read_name : List ℕ → Option ℕ
+  read_name [] = none
+  read_name (byte ∷ bytes) =
+      pick (eqb byte variable_letter) (natural_of bytes)
+      (pick (eqb byte declared_letter) (bind (natural_of bytes) (λ n. some (sizes.store + n)))
+      (pick (eqb byte temporary_letter) (bind (natural_of bytes) (λ n. some (first_temporary sizes + n))) none))
 
-  unfoldable pub readAtom : List ℕ → Option Expression
-  readAtom word = or_else (bind (readName word) (λ i. some (read (variable i)))) (bind (number_of word) (λ v. some (constant v)))
+  unfoldable pub read_atom : List ℕ → Option Expression
+  read_atom word = or_else (bind (read_name word) (λ i. some (read (variable i)))) (bind (number_of word) (λ v. some (constant v)))
 
   -- An element by the pieces around its opening bracket.
-  abbrev pub readElement : List (List ℕ) → Option Place
-  readElement (array ∷ (index ∷ [])) = bind (naturalOf array) (λ a. bind (without closingBracket index) (λ atom. bind (readAtom atom) (λ e. some (element a e))))
-  readElement [] = none
-  readElement (array ∷ []) = none
-  readElement (array ∷ (index ∷ (other ∷ others))) = none
+  abbrev pub read_element : List (List ℕ) → Option Place
+  read_element (array ∷ (index ∷ [])) = bind (natural_of array) (λ a. bind (without closing_bracket index) (λ atom. bind (read_atom atom) (λ e. some (element a e))))
+  read_element [] = none
+  read_element (array ∷ []) = none
+  read_element (array ∷ (index ∷ (other ∷ others))) = none
 
   unfoldable pub read_place : List ℕ → Option Place
   read_place [] = none
-  read_place (byte ∷ bytes) = pick (eqb byte arrayLetter) (readElement (pieces openingBracket bytes)) (bind (readName (byte ∷ bytes)) (λ i. some (variable i)))
+  read_place (byte ∷ bytes) = pick (eqb byte array_letter) (read_element (pieces opening_bracket bytes)) (bind (read_name (byte ∷ bytes)) (λ i. some (variable i)))
 
   -- What is assigned, by its words up to the semicolon.
-  abbrev pub readValue : List (List ℕ) → Option Expression
-  readValue (x ∷ []) =
-      bind (without semicolon x) (λ word. or_else (bind (read_place word) (λ p. some (read p))) (or_else (readAtom word) (bind (readCalled word) (λ f. some (call f no_more)))))
-  readValue (sign ∷ (x ∷ [])) = pick (same sign minusWord) (bind (without semicolon x) (λ word. bind (readAtom word) (λ e. some (minus e)))) none
-  readValue (x ∷ (operator ∷ (y ∷ []))) =
-      bind (readAtom x) (λ left. bind (readOperator operator) (λ o. bind (without semicolon y) (λ word. bind (readAtom word) (λ right. some (binary o left right)))))
-  readValue [] = none
-  readValue (x ∷ (operator ∷ (y ∷ (other ∷ others)))) = none
+  abbrev pub read_value : List (List ℕ) → Option Expression
+  read_value (x ∷ []) =
+      bind (without semicolon x) (λ word. or_else (bind (read_place word) (λ p. some (read p))) (or_else (read_atom word) (bind (read_called word) (λ f. some (call f no_more)))))
+  read_value (sign ∷ (x ∷ [])) = pick (same sign minus_word) (bind (without semicolon x) (λ word. bind (read_atom word) (λ e. some (minus e)))) none
+  read_value (x ∷ (operator ∷ (y ∷ []))) =
+      bind (read_atom x) (λ left. bind (read_operator operator) (λ o. bind (without semicolon y) (λ word. bind (read_atom word) (λ right. some (binary o left right)))))
+  read_value [] = none
+  read_value (x ∷ (operator ∷ (y ∷ (other ∷ others)))) = none
 
-  abbrev pub readTest : List ℕ → Option Expression
-  readTest [] = none
-  readTest (byte ∷ bytes) = pick (eqb byte openingParenthesis) (bind (without closingParenthesis bytes) readAtom) none
+  abbrev pub read_test : List ℕ → Option Expression
+  read_test [] = none
+  read_test (byte ∷ bytes) = pick (eqb byte opening_parenthesis) (bind (without closing_parenthesis bytes) read_atom) none
 
   -- `P = fN(`
-  abbrev pub readCall : List ℕ → List (List ℕ) → Option PageLine
-  readCall place (x ∷ []) = bind (readOpened x) (λ f. bind (read_place place) (λ p. some (opensCall p f)))
-  readCall place [] = none
-  readCall place (x ∷ (y ∷ words)) = none
+  abbrev pub read_call : List ℕ → List (List ℕ) → Option PageLine
+  read_call place (x ∷ []) = bind (read_opened x) (λ f. bind (read_place place) (λ p. some (opens_call p f)))
+  read_call place [] = none
+  read_call place (x ∷ (y ∷ words)) = none
 
   -- `LN:;`
-  abbrev pub readMark : List ℕ → Option PageLine
-  readMark word = bind (without semicolon word) (λ marked. bind (without colon marked) (λ name. bind (readLabel name) (λ l. some (mark (label l)))))
+  abbrev pub read_mark : List ℕ → Option PageLine
+  read_mark word = bind (without semicolon word) (λ marked. bind (without colon marked) (λ name. bind (read_label name) (λ l. some (mark (label l)))))
 
   -- `X,` and `X);`
-  abbrev pub readArgument : List ℕ → Option PageLine
-  readArgument word =
-      or_else (bind (without commaByte word) (λ atom. bind (readAtom atom) (λ e. some (argument e))))
-      (bind (without semicolon word) (λ ended. bind (without closingParenthesis ended) (λ atom. bind (readAtom atom) (λ e. some (lastArgument e)))))
+  abbrev pub read_argument : List ℕ → Option PageLine
+  read_argument word =
+      or_else (bind (without comma_byte word) (λ atom. bind (read_atom atom) (λ e. some (argument e))))
+      (bind (without semicolon word) (λ ended. bind (without closing_parenthesis ended) (λ atom. bind (read_atom atom) (λ e. some (last_argument e)))))
 
   -- What stands behind `int`: `lN,` or `fN(`; before `{`: `lN)` or `fN()`.
-  abbrev pub readParameter : List ℕ → Option PageLine
-  readParameter word = or_else (bind (without commaByte word) (λ name. bind (readName name) (λ i. some (parameter i)))) (bind (readOpened word) (λ f. some (opensParameters f)))
+  abbrev pub read_parameter : List ℕ → Option PageLine
+  read_parameter word = or_else (bind (without comma_byte word) (λ name. bind (read_name name) (λ i. some (parameter i)))) (bind (read_opened word) (λ f. some (opens_parameters f)))
 
-  abbrev pub readLastParameter : List ℕ → Option PageLine
-  readLastParameter word = or_else (bind (without closingParenthesis word) (λ name. bind (readName name) (λ i. some (lastParameter i)))) (bind (readCalled word) (λ f. some (opensFunction f)))
+  abbrev pub read_last_parameter : List ℕ → Option PageLine
+  read_last_parameter word = or_else (bind (without closing_parenthesis word) (λ name. bind (read_name name) (λ i. some (last_parameter i)))) (bind (read_called word) (λ f. some (opens_function f)))
 
   -- ---- what a line says
 
   abbrev pub line_of : List (List ℕ) → Option PageLine
   line_of [] = none
   line_of (w ∷ []) =
-      pick (same w emptyWord) (some (single empty)) (pick (same w openingWord) (some opens) (pick (same w closingWord) (some closes)
-      (pick (same w abortWord) (some (single abort))
-      (or_else (readMark w) (readArgument w)))))
+      pick (same w empty_word) (some (single empty)) (pick (same w opening_word) (some opens) (pick (same w closing_word) (some closes)
+      (pick (same w abort_word) (some (single abort))
+      (or_else (read_mark w) (read_argument w)))))
   line_of (w ∷ (x ∷ [])) =
-      pick (same w gotoWord) (bind (without semicolon x) (λ name. bind (readLabel name) (λ l. some (single (goto l)))))
-      (pick (same w returnWord) (bind (without semicolon x) (λ word. bind (readAtom word) (λ e. some (single (giveBack (present e))))))
-      (pick (same w intWord) (readParameter x) none))
+      pick (same w goto_word) (bind (without semicolon x) (λ name. bind (read_label name) (λ l. some (single (goto l)))))
+      (pick (same w return_word) (bind (without semicolon x) (λ word. bind (read_atom word) (λ e. some (single (give_back (present e))))))
+      (pick (same w int_word) (read_parameter x) none))
   line_of (w ∷ (x ∷ (y ∷ ys))) =
-      pick (same x equalsWord) (or_else (bind (read_place w) (λ p. bind (readValue (y ∷ ys)) (λ e. some (single (express (assign p e)))))) (readCall w (y ∷ ys)))
-      (pick (same w ifWord) (bind (readTest x) (λ e. some (opensIf e)))
-      (pick (same w whileWord) (bind (readTest x) (λ e. some (opensWhile e)))
-      (pick (same w closingWord) (some turns)
-      (pick (same w intWord) (readLastParameter x) none))))
+      pick (same x equals_word) (or_else (bind (read_place w) (λ p. bind (read_value (y ∷ ys)) (λ e. some (single (express (assign p e)))))) (read_call w (y ∷ ys)))
+      (pick (same w if_word) (bind (read_test x) (λ e. some (opens_if e)))
+      (pick (same w while_word) (bind (read_test x) (λ e. some (opens_while e)))
+      (pick (same w closing_word) (some turns)
+      (pick (same w int_word) (read_last_parameter x) none))))
 
   -- The first word is the line's number.
   abbrev pub numbered : List (List ℕ) → Option PageLine
@@ -165,14 +165,14 @@ module _ (sizes : Sizes) where
 
   -- ---- what a page says
 
-  unfoldable pub pageLines : List TextLine → Option (List PageLine)
-  pageLines [] = some []
-  pageLines (ended line ∷ lines) = together (numbered (words_of line)) (pageLines lines)
-  pageLines (unended line ∷ lines) = none
+  unfoldable pub page_lines : List TextLine → Option (List PageLine)
+  page_lines [] = some []
+  page_lines (ended line ∷ lines) = together (numbered (words_of line)) (page_lines lines)
+  page_lines (unended line ∷ lines) = none
 
-  abbrev pub printedAgain : List ℕ → Items → Option Items
-  printedAgain page contents = pick (same (pageBytes sizes contents) page) (some contents) none
+  abbrev pub printed_again : List ℕ → Items → Option Items
+  printed_again page contents = pick (same (page_bytes sizes contents) page) (some contents) none
 
   -- The items of the program whose page this is.
-  unfoldable pub readPage : List ℕ → Option Items
-  readPage page = bind (pageLines (lines_of page)) (λ lines. bind (readLines lines) (printedAgain page))
+  unfoldable pub read_page : List ℕ → Option Items
+  read_page page = bind (page_lines (lines_of page)) (λ lines. bind (read_lines lines) (printed_again page))

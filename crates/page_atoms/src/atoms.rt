@@ -1,7 +1,7 @@
 // Numbers, atoms and elements by their bytes.
 ghost use Rattle.std.specs.Prelude.{◌≡◌};
-ghost use Rattle.text_numbers.specs.Reader.{fieldNumber};
-ghost use Rattle.page_words.specs.Reads.{numberRead, variableOf, declaredWordOf, temporaryOf, constantOf, atomRead, nameOf, elementOf, elementIn, elementRead};
+ghost use Rattle.text_numbers.specs.Reader.{field_number};
+ghost use Rattle.page_words.specs.Reads.{number_read, variable_of, declared_word_of, temporary_of, constant_of, atom_read, name_of, element_of, element_in, element_read};
 
 use super::compare::is_framed;
 use page_words::{AtomRead, ElementRead, Names, NumberRead, PageAtom};
@@ -10,7 +10,7 @@ use text_numbers::number::{Digits, Field, natural_of, number};
 
 // A number below a bound.
 pub fn number_below(word: &[u8], bound: u32) -> NumberRead
-    ensures { result ≡ numberRead bound word.now }
+    ensures { result ≡ number_read bound word.now }
 {
     let digits = natural_of(word, bound);
     let Digits::Value(value) = digits else {
@@ -23,7 +23,7 @@ pub fn number_below(word: &[u8], bound: u32) -> NumberRead
 }
 
 fn variable_of(number: NumberRead) -> AtomRead
-    ensures { result ≡ variableOf number }
+    ensures { result ≡ variable_of number }
 {
     match number {
         NumberRead::Number(value) => AtomRead::Read(PageAtom::Variable(value)),
@@ -32,7 +32,7 @@ fn variable_of(number: NumberRead) -> AtomRead
 }
 
 fn declared_of(number: NumberRead) -> AtomRead
-    ensures { result ≡ declaredWordOf number }
+    ensures { result ≡ declared_word_of number }
 {
     match number {
         NumberRead::Number(value) => AtomRead::Read(PageAtom::Declared(value)),
@@ -41,7 +41,7 @@ fn declared_of(number: NumberRead) -> AtomRead
 }
 
 fn temporary_of(number: NumberRead) -> AtomRead
-    ensures { result ≡ temporaryOf number }
+    ensures { result ≡ temporary_of number }
 {
     match number {
         NumberRead::Number(value) => AtomRead::Read(PageAtom::Temporary(value)),
@@ -50,7 +50,7 @@ fn temporary_of(number: NumberRead) -> AtomRead
 }
 
 fn constant_of(field: Field) -> AtomRead
-    ensures { result ≡ constantOf (fieldNumber field) }
+    ensures { result ≡ constant_of (field_number field) }
 {
     match field {
         Field::Number(value) => AtomRead::Read(PageAtom::Constant(value)),
@@ -60,7 +60,7 @@ fn constant_of(field: Field) -> AtomRead
 
 // `v7`, `l7`, `t7`, `-7`
 pub fn atom(names: Names, word: &[u8]) -> AtomRead
-    ensures { result ≡ atomRead names word.now }
+    ensures { result ≡ atom_read names word.now }
 {
     if word.len() == 0 {
         return AtomRead::Malformed;
@@ -80,7 +80,7 @@ pub fn atom(names: Names, word: &[u8]) -> AtomRead
 
 // An atom that is a name.
 pub fn name_of(atom: AtomRead) -> AtomRead
-    ensures { result ≡ nameOf atom }
+    ensures { result ≡ name_of atom }
 {
     let AtomRead::Read(named) = atom else {
         return AtomRead::Malformed;
@@ -94,7 +94,7 @@ pub fn name_of(atom: AtomRead) -> AtomRead
 }
 
 fn element_of(array: NumberRead, index: AtomRead) -> ElementRead
-    ensures { result ≡ elementOf array index }
+    ensures { result ≡ element_of array index }
 {
     let NumberRead::Number(number) = array else {
         return ElementRead::Malformed;
@@ -107,7 +107,7 @@ fn element_of(array: NumberRead, index: AtomRead) -> ElementRead
 
 // An element without its letter and its last bracket.
 fn element_in(names: Names, inner: &[u8]) -> ElementRead
-    ensures { result ≡ elementIn names inner.now }
+    ensures { result ≡ element_in names inner.now }
 {
     let end = piece_end(inner, 0, b'[');
     if end == inner.len() {
@@ -121,7 +121,7 @@ fn element_in(names: Names, inner: &[u8]) -> ElementRead
 
 // `a7[X]`
 pub fn element(names: Names, word: &[u8]) -> ElementRead
-    ensures { result ≡ elementRead names word.now }
+    ensures { result ≡ element_read names word.now }
 {
     if !is_framed(b"a", b"]", word) {
         return ElementRead::Malformed;

@@ -1,11 +1,11 @@
 // Whether bytes stand in others: at a place, alone, or around what is between them.
 ghost use Rattle.std.specs.Prelude.{◌≡◌, ◌+◌, ◌≤◌, length, drop};
-ghost use Rattle.page_words.specs.Compare.{isPrefix, isWord, isFramed};
+ghost use Rattle.page_words.specs.Compare.{is_prefix, is_word, is_framed};
 
 // The text has these bytes from `at` on.
 fn stands(bytes: &[u8], text: &[u8], at: usize) -> bool
     requires { at + length bytes.now ≤ length text.now }
-    ensures { result ≡ isPrefix bytes.now (drop at text.now) }
+    ensures { result ≡ is_prefix bytes.now (drop at text.now) }
 {
     let mut i: usize = 0;
     while i < bytes.len() {
@@ -19,7 +19,7 @@ fn stands(bytes: &[u8], text: &[u8], at: usize) -> bool
 
 // The text is this word.
 pub fn is_word(word: &[u8], text: &[u8]) -> bool
-    ensures { result ≡ isWord word.now text.now }
+    ensures { result ≡ is_word word.now text.now }
 {
     if text.len() != word.len() {
         return false;
@@ -30,7 +30,7 @@ pub fn is_word(word: &[u8], text: &[u8]) -> bool
 // The text begins and ends so, and the two do not meet.
 pub fn is_framed(before: &[u8], behind: &[u8], text: &[u8]) -> bool
     requires { (length before.now ≤ 100) × (length behind.now ≤ 100) }
-    ensures { result ≡ isFramed before.now behind.now text.now }
+    ensures { result ≡ is_framed before.now behind.now text.now }
 {
     let length = text.len();
     if length < before.len() + behind.len() {

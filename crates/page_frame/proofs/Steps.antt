@@ -6,37 +6,37 @@ use lib.ListN.{length, take, drop}
 use borrow.Author.Tests.{eq-eqb, ne_eqb, lt-ltb, le-ltb}
 use Rattle.words.specs.OverLaws.{rest_of}
 use Rattle.page.specs.Page.{indent}
-use Rattle.page_words.specs.Reads.{numberRead, lineRead}
+use Rattle.page_words.specs.Reads.{number_read, line_read}
 use Rattle.page_words.specs.declared.Names.{Names}
 use Rattle.page_words.specs.declared.NumberRead.{NumberRead}
 use Rattle.page_words.specs.declared.LineRead.{LineRead}
 use Rattle.page_words.specs.declared.LineRead.TheVariants.{Read, Malformed}
 use Rattle.page_words.specs.declared.LineContent.{LineContent}
-use Rattle.page_frame.specs.Frames.{leadingBlanks, filledSize, levelOf, is_number, isNumbered, levelled, statementRead}
+use Rattle.page_frame.specs.Frames.{leading_blanks, filled_size, level_of, is_number, is_numbered, levelled, statement_read}
 
-pub numbered-by : (number : ℕ) (columns : List ℕ) (start : ℕ) (r : NumberRead) → start ≡ leadingBlanks columns → r ≡ numberRead 100000 (take (length columns - start) (drop start columns))
-    → is_number number r ≡ isNumbered number columns
-unfolding isNumbered
-numbered-by number columns start r e q = ap (is_number number) (q ∙ ap (numberRead 100000) (rest_of columns start ∙ ap (λ (n : ℕ). drop n columns) e))
+pub numbered-by : (number : ℕ) (columns : List ℕ) (start : ℕ) (r : NumberRead) → start ≡ leading_blanks columns → r ≡ number_read 100000 (take (length columns - start) (drop start columns))
+    → is_number number r ≡ is_numbered number columns
+unfolding is_numbered
+numbered-by number columns start r e q = ap (is_number number) (q ∙ ap (number_read 100000) (rest_of columns start ∙ ap (λ (n : ℕ). drop n columns) e))
 
 module _ (depth start : ℕ) (r : LineRead) where
   pub level-none : r ≡ Malformed → Malformed ≡ levelled depth start r
   unfolding levelled
   level-none e = rw e
 
-  pub level-is : (line : LineContent) → r ≡ Read line → start ≡ indent (levelOf depth line) → Read line ≡ levelled depth start r
+  pub level-is : (line : LineContent) → r ≡ Read line → start ≡ indent (level_of depth line) → Read line ≡ levelled depth start r
   unfolding levelled
-  level-is line e h = rw (e, eq-eqb start (indent (levelOf depth line)) h)
+  level-is line e h = rw (e, eq-eqb start (indent (level_of depth line)) h)
 
-  pub level-not : (line : LineContent) → r ≡ Read line → (start ≡ indent (levelOf depth line) → ⊥) → Malformed ≡ levelled depth start r
+  pub level-not : (line : LineContent) → r ≡ Read line → (start ≡ indent (level_of depth line) → ⊥) → Malformed ≡ levelled depth start r
   unfolding levelled
-  level-not line e h = rw (e, ne_eqb start (indent (levelOf depth line)) h)
+  level-not line e h = rw (e, ne_eqb start (indent (level_of depth line)) h)
 
-module _ (names : Names) (body : List ℕ) (start end : ℕ) (s : start ≡ leadingBlanks body) (e : end ≡ filledSize body) where
-  pub statement-short : end < start → Malformed ≡ statementRead names body
-  unfolding statementRead
+module _ (names : Names) (body : List ℕ) (start end : ℕ) (s : start ≡ leading_blanks body) (e : end ≡ filled_size body) where
+  pub statement-short : end < start → Malformed ≡ statement_read names body
+  unfolding statement_read
   statement-short h = rw (← e, ← s, lt-ltb end start h)
 
-  pub statement-long : start ≤ end → lineRead names (take (end - start) (drop start body)) ≡ statementRead names body
-  unfolding statementRead
+  pub statement-long : start ≤ end → line_read names (take (end - start) (drop start body)) ≡ statement_read names body
+  unfolding statement_read
   statement-long h = rw (← e, ← s, le-ltb end start h)

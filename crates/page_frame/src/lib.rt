@@ -1,7 +1,9 @@
 // A line of a page in its frame (docs/PAGES.md): its number in five columns, a blank, the indent, the statement, blanks, and the newline.
+#![tactic(auto)]
+
 ghost use Rattle.std.specs.Prelude.{◌≡◌, ◌-◌, length};
 ghost use Rattle.page.specs.Page.{indent};
-ghost use Rattle.page_frame.specs.Frames.{leadingBlanks, filledSize, levelOf, isNumbered, levelled, statementRead, bodyRead, lineIn, statementIn};
+ghost use Rattle.page_frame.specs.Frames.{leading_blanks, filled_size, level_of, is_numbered, levelled, statement_read, body_read, line_in, statement_in};
 
 use page_atoms::atoms::number_below;
 use page_statements::lines::line;
@@ -9,7 +11,7 @@ use page_words::{LineContent, LineRead, Names, NumberRead};
 
 // How many blanks stand first.
 fn leading_blanks(text: &[u8]) -> usize
-    ensures { result ≡ leadingBlanks text.now }
+    ensures { result ≡ leading_blanks text.now }
 {
     let mut i: usize = 0;
     while i < text.len() {
@@ -23,7 +25,7 @@ fn leading_blanks(text: &[u8]) -> usize
 
 // How many bytes there are up to the last that is no blank.
 fn filled_size(text: &[u8]) -> usize
-    ensures { result ≡ filledSize text.now }
+    ensures { result ≡ filled_size text.now }
 {
     let mut end = text.len();
     while end > 0 {
@@ -55,7 +57,7 @@ fn one_less(n: usize) -> usize
 
 // The level of a line among so many blocks: one that closes or turns stands as its statement's first line.
 fn level_of(depth: usize, line: LineContent) -> usize
-    ensures { result ≡ levelOf depth line }
+    ensures { result ≡ level_of depth line }
 {
     match line {
         LineContent::Closes => one_less(depth),
@@ -82,7 +84,7 @@ fn level_of(depth: usize, line: LineContent) -> usize
 
 // The five columns are this number, right-set.
 fn is_numbered(number: u32, columns: &[u8]) -> bool
-    ensures { result ≡ isNumbered number columns.now }
+    ensures { result ≡ is_numbered number columns.now }
 {
     let start = leading_blanks(columns);
     let read = number_below(&columns[start..], 100000);
@@ -107,7 +109,7 @@ fn at_level(depth: usize, start: usize, read: LineRead) -> LineRead
 
 // The statement between blanks, wherever it begins.
 fn statement(names: Names, text: &[u8]) -> LineRead
-    ensures { result ≡ statementRead names text.now }
+    ensures { result ≡ statement_read names text.now }
 {
     let start = leading_blanks(text);
     let end = filled_size(text);
@@ -119,7 +121,7 @@ fn statement(names: Names, text: &[u8]) -> LineRead
 
 // What stands between a line's number and its newline.
 fn body(names: Names, depth: usize, text: &[u8]) -> LineRead
-    ensures { result ≡ bodyRead names depth text.now }
+    ensures { result ≡ body_read names depth text.now }
 {
     at_level(depth, leading_blanks(text), statement(names, text))
 }
@@ -127,7 +129,7 @@ fn body(names: Names, depth: usize, text: &[u8]) -> LineRead
 // The line that these 81 bytes are, with this number, among so many blocks.
 pub fn line_in(names: Names, number: u32, depth: usize, text: &[u8]) -> LineRead
     requires { length text.now ≡ 81 }
-    ensures { result ≡ lineIn names number depth text.now }
+    ensures { result ≡ line_in names number depth text.now }
 {
     if !is_numbered(number, &text[0..5]) {
         return LineRead::Malformed;
@@ -144,7 +146,7 @@ pub fn line_in(names: Names, number: u32, depth: usize, text: &[u8]) -> LineRead
 // The statement of these 81 bytes, whatever their number and their indent.
 pub fn statement_in(names: Names, text: &[u8]) -> LineRead
     requires { length text.now ≡ 81 }
-    ensures { result ≡ statementIn names text.now }
+    ensures { result ≡ statement_in names text.now }
 {
     statement(names, &text[6..80])
 }

@@ -2,35 +2,35 @@
 use Rattle.std.specs.Prelude.{Bool, true, false, List, [], ◌∷◌, ◌++◌, ℕ, ◌<◌, ℤ}
 use Rattle.words.specs.declared.Operator.{Operator}
 use Rattle.words.specs.declared.Operator.TheVariants.{Add, Subtract, Multiply, Divide, Remainder, Less, Greater, LessOrEqual, GreaterOrEqual, Equal, NotEqual}
-use Rattle.language.specs.Trees.{Expression, Place, Arguments, no_more, ◌also◌, empty, express, goto, abort, giveBack}
-use Rattle.language.specs.Decode.{expressionAt, place_of, part_at}
-use Rattle.language_shapes.specs.Shapes.{markTree}
+use Rattle.language.specs.Trees.{Expression, Place, Arguments, no_more, ◌also◌, empty, express, goto, abort, give_back}
+use Rattle.language.specs.Decode.{expression_at, place_of, part_at}
+use Rattle.language_shapes.specs.Shapes.{mark_tree}
 use Rattle.page.specs.declared.Sizes.{Sizes}
-use Rattle.page.specs.Lines.{PageLine, single, mark, opens, opensWhile, opensIf, turns, closes, opensCall, argument, lastArgument, opensFunction, opensParameters, parameter, lastParameter}
-use Rattle.page.specs.Page.{blank, labelWord, functionWord, name, atomWord, placeWord, parted}
+use Rattle.page.specs.Lines.{PageLine, single, mark, opens, opens_while, opens_if, turns, closes, opens_call, argument, last_argument, opens_function, opens_parameters, parameter, last_parameter}
+use Rattle.page.specs.Page.{blank, label_word, function_word, name, atom_word, place_word, parted}
 use Rattle.page_line.specs.declared.LineAt.{LineAt}
 use Rattle.page_line.specs.declared.LineAt.TheVariants.{Empty, Express, Goto, Abort, Mark, Opens, While, If, Turns, Closes, Return, OpensCall, Argument, LastArgument, OpensFunction, OpensParameters, Parameter, LastParameter}
 
 -- The line of the definition.
-abbrev pub lineTree : List ℤ → LineAt → PageLine
-lineTree rows Empty = single empty
-lineTree rows (Express row) = single (express (expressionAt rows row))
-lineTree rows (Goto l) = single (goto l)
-lineTree rows Abort = single abort
-lineTree rows (Mark m) = mark (markTree [] m)
-lineTree rows Opens = opens
-lineTree rows (While row) = opensWhile (expressionAt rows row)
-lineTree rows (If row) = opensIf (expressionAt rows row)
-lineTree rows Turns = turns
-lineTree rows Closes = closes
-lineTree rows (Return value) = single (giveBack (part_at rows value))
-lineTree rows (OpensCall place f) = opensCall (place_of (expressionAt rows place)) f
-lineTree rows (Argument row) = argument (expressionAt rows row)
-lineTree rows (LastArgument row) = lastArgument (expressionAt rows row)
-lineTree rows (OpensFunction f) = opensFunction f
-lineTree rows (OpensParameters f) = opensParameters f
-lineTree rows (Parameter word) = parameter word
-lineTree rows (LastParameter word) = lastParameter word
+abbrev pub line_tree : List ℤ → LineAt → PageLine
+line_tree rows Empty = single empty
+line_tree rows (Express row) = single (express (expression_at rows row))
+line_tree rows (Goto l) = single (goto l)
+line_tree rows Abort = single abort
+line_tree rows (Mark m) = mark (mark_tree [] m)
+line_tree rows Opens = opens
+line_tree rows (While row) = opens_while (expression_at rows row)
+line_tree rows (If row) = opens_if (expression_at rows row)
+line_tree rows Turns = turns
+line_tree rows Closes = closes
+line_tree rows (Return value) = single (give_back (part_at rows value))
+line_tree rows (OpensCall place f) = opens_call (place_of (expression_at rows place)) f
+line_tree rows (Argument row) = argument (expression_at rows row)
+line_tree rows (LastArgument row) = last_argument (expression_at rows row)
+line_tree rows (OpensFunction f) = opens_function f
+line_tree rows (OpensParameters f) = opens_parameters f
+line_tree rows (Parameter word) = parameter word
+line_tree rows (LastParameter word) = last_parameter word
 
 -- Its expression is a row of the table, of which there are `count`.
 abbrev pub LineInside : ℕ → LineAt → Type 0
@@ -59,60 +59,60 @@ led [] = []
 led (word ∷ words) = blank ∷ parted (word ∷ words)
 
 -- `goto L7;`
-abbrev pub gotoBytes : ℕ → List ℕ
-gotoBytes l = (103 ∷ 111 ∷ 116 ∷ 111 ∷ 32 ∷ []) ++ (labelWord l ++ (59 ∷ []))
+abbrev pub goto_bytes : ℕ → List ℕ
+goto_bytes l = (103 ∷ 111 ∷ 116 ∷ 111 ∷ 32 ∷ []) ++ (label_word l ++ (59 ∷ []))
 
 -- `L7:;`
-abbrev pub labelBytes : ℕ → List ℕ
-labelBytes l = labelWord l ++ (58 ∷ 59 ∷ [])
+abbrev pub label_bytes : ℕ → List ℕ
+label_bytes l = label_word l ++ (58 ∷ 59 ∷ [])
 
 -- `X) {`
-abbrev pub testBytes : Sizes → Expression → List ℕ
-testBytes sizes e = atomWord sizes e ++ (41 ∷ 32 ∷ 123 ∷ [])
+abbrev pub test_bytes : Sizes → Expression → List ℕ
+test_bytes sizes e = atom_word sizes e ++ (41 ∷ 32 ∷ 123 ∷ [])
 
 -- ` f7();`; a call with arguments has lines of its own.
-abbrev pub calledBytes : ℕ → Arguments → List ℕ
-calledBytes f no_more = (32 ∷ []) ++ (functionWord f ++ (40 ∷ 41 ∷ 59 ∷ []))
-calledBytes f (e also arguments) = []
+abbrev pub called_bytes : ℕ → Arguments → List ℕ
+called_bytes f no_more = (32 ∷ []) ++ (function_word f ++ (40 ∷ 41 ∷ 59 ∷ []))
+called_bytes f (e also arguments) = []
 
 -- `return X;`
-abbrev pub returnBytes : Sizes → Expression → List ℕ
-returnBytes sizes e = (114 ∷ 101 ∷ 116 ∷ 117 ∷ 114 ∷ 110 ∷ 32 ∷ []) ++ (atomWord sizes e ++ (59 ∷ []))
+abbrev pub return_bytes : Sizes → Expression → List ℕ
+return_bytes sizes e = (114 ∷ 101 ∷ 116 ∷ 117 ∷ 114 ∷ 110 ∷ 32 ∷ []) ++ (atom_word sizes e ++ (59 ∷ []))
 
 -- `P = f7(`
-abbrev pub callBytes : Sizes → Place → ℕ → List ℕ
-callBytes sizes p f = placeWord sizes p ++ ((32 ∷ 61 ∷ 32 ∷ []) ++ (functionWord f ++ (40 ∷ [])))
+abbrev pub call_bytes : Sizes → Place → ℕ → List ℕ
+call_bytes sizes p f = place_word sizes p ++ ((32 ∷ 61 ∷ 32 ∷ []) ++ (function_word f ++ (40 ∷ [])))
 
 -- `int f7` and `int l7`, with what ends the line.
-abbrev pub functionBytes : ℕ → List ℕ → List ℕ
-functionBytes f ending = (105 ∷ 110 ∷ 116 ∷ 32 ∷ []) ++ (functionWord f ++ ending)
+abbrev pub function_bytes : ℕ → List ℕ → List ℕ
+function_bytes f ending = (105 ∷ 110 ∷ 116 ∷ 32 ∷ []) ++ (function_word f ++ ending)
 
-abbrev pub parameterBytes : Sizes → ℕ → List ℕ → List ℕ
-parameterBytes sizes word ending = (105 ∷ 110 ∷ 116 ∷ 32 ∷ []) ++ (name sizes word ++ ending)
+abbrev pub parameter_bytes : Sizes → ℕ → List ℕ → List ℕ
+parameter_bytes sizes word ending = (105 ∷ 110 ∷ 116 ∷ 32 ∷ []) ++ (name sizes word ++ ending)
 
 -- An operator's first byte, and whether `=` stands behind it.
-abbrev pub operatorByte : Operator → ℕ
-operatorByte Add = 43
-operatorByte Subtract = 45
-operatorByte Multiply = 42
-operatorByte Divide = 47
-operatorByte Remainder = 37
-operatorByte Less = 60
-operatorByte Greater = 62
-operatorByte LessOrEqual = 60
-operatorByte GreaterOrEqual = 62
-operatorByte Equal = 61
-operatorByte NotEqual = 33
+abbrev pub operator_byte : Operator → ℕ
+operator_byte Add = 43
+operator_byte Subtract = 45
+operator_byte Multiply = 42
+operator_byte Divide = 47
+operator_byte Remainder = 37
+operator_byte Less = 60
+operator_byte Greater = 62
+operator_byte LessOrEqual = 60
+operator_byte GreaterOrEqual = 62
+operator_byte Equal = 61
+operator_byte NotEqual = 33
 
-abbrev pub isTwoBytes : Operator → Bool
-isTwoBytes Add = false
-isTwoBytes Subtract = false
-isTwoBytes Multiply = false
-isTwoBytes Divide = false
-isTwoBytes Remainder = false
-isTwoBytes Less = false
-isTwoBytes Greater = false
-isTwoBytes LessOrEqual = true
-isTwoBytes GreaterOrEqual = true
-isTwoBytes Equal = true
-isTwoBytes NotEqual = true
+abbrev pub is_two_bytes : Operator → Bool
+is_two_bytes Add = false
+is_two_bytes Subtract = false
+is_two_bytes Multiply = false
+is_two_bytes Divide = false
+is_two_bytes Remainder = false
+is_two_bytes Less = false
+is_two_bytes Greater = false
+is_two_bytes LessOrEqual = true
+is_two_bytes GreaterOrEqual = true
+is_two_bytes Equal = true
+is_two_bytes NotEqual = true

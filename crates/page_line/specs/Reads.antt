@@ -1,10 +1,10 @@
 -- Reads: tables whose rows can be read, and what stands at a row.
 use Rattle.std.specs.Prelude.{◌≡◌, List, ℕ, zero, suc, ◌<◌, ℤ}
-use Rattle.words.specs.Table.{rowCount, number_at}
+use Rattle.words.specs.Table.{row_count, number_at}
 use Rattle.words.specs.Layout.{Layout}
-use Rattle.language.specs.Decode.{expressionAt, place_of, argumentListAt}
+use Rattle.language.specs.Decode.{expression_at, place_of, argument_list_at}
 use Rattle.language.specs.Sound.{Sound}
-use Rattle.language_shapes.specs.Shapes.{shape_at, expressionIn, argumentIn, placeTree, expressionTree, argumentTree}
+use Rattle.language_shapes.specs.Shapes.{shape_at, expression_in, argument_in, place_tree, expression_tree, argument_tree}
 use Rattle.language_shapes.specs.declared.PlaceShape.{PlaceShape}
 use Rattle.language_shapes.specs.declared.PlaceShape.TheVariants.{Variable, Element}
 use Rattle.language_shapes.specs.declared.OperationShape.{OperationShape}
@@ -15,13 +15,13 @@ use Rattle.language_shapes.specs.declared.ArgumentShape.{ArgumentShape}
 use Rattle.language_shapes.specs.declared.ArgumentShape.TheVariants.{Argument, NoArgument}
 
 -- What stands at a row as an expression.
-unfoldable pub expressionShapeAt : List ℤ → ℕ → ExpressionShape
-expressionShapeAt rows row = expressionIn (shape_at rows row)
+unfoldable pub expression_shape_at : List ℤ → ℕ → ExpressionShape
+expression_shape_at rows row = expression_in (shape_at rows row)
 
 -- The argument that a link leads to; 0 leads to none.
-unfoldable pub argumentAt : List ℤ → ℕ → ArgumentShape
-argumentAt rows zero = NoArgument
-argumentAt rows (suc link) = argumentIn (shape_at rows (suc link))
+unfoldable pub argument_at : List ℤ → ℕ → ArgumentShape
+argument_at rows zero = NoArgument
+argument_at rows (suc link) = argument_in (shape_at rows (suc link))
 
 -- Every link leads on.
 pub record Readable (rows : List ℤ) : Type 0 where
@@ -57,16 +57,16 @@ ArgumentInside count NoArgument = Unit {0}
 
 module _ (rows : List ℤ) (row : ℕ) where
   pub record PlaceRead (shape : PlaceShape) : Type 0 where
-    pub is : place_of (expressionAt rows row) ≡ placeTree rows shape
-    pub inside : PlaceInside (rowCount rows) shape
+    pub is : place_of (expression_at rows row) ≡ place_tree rows shape
+    pub inside : PlaceInside (row_count rows) shape
 
   pub record ExpressionRead (shape : ExpressionShape) : Type 0 where
-    pub is : expressionAt rows row ≡ expressionTree rows shape
-    pub inside : ExpressionInside (rowCount rows) shape
+    pub is : expression_at rows row ≡ expression_tree rows shape
+    pub inside : ExpressionInside (row_count rows) shape
 
   -- What a link leads to among arguments, and the link behind it.
   pub record ArgumentRead (shape : ArgumentShape) : Type 0 where
-    pub is : argumentListAt rows row ≡ argumentTree rows shape (argumentListAt rows (number_at rows row 5))
-    pub inside : ArgumentInside (rowCount rows) shape
-    pub next-inside : number_at rows row 5 < rowCount rows
+    pub is : argument_list_at rows row ≡ argument_tree rows shape (argument_list_at rows (number_at rows row 5))
+    pub inside : ArgumentInside (row_count rows) shape
+    pub next_inside : number_at rows row 5 < row_count rows
     pub next-later : 0 < number_at rows row 5 → row < number_at rows row 5

@@ -1,10 +1,10 @@
 -- Laws of reading: what the functions read at a row, from sound links.
 use Rattle.std.specs.Prelude.{◌≡◌, refl, List, ℕ, zero, suc, ◌+◌, ◌*◌, ◌<◌, ℤ, length}
 use Rattle.std.proofs.Common.{sym, ap, subst, ◌∙◌, arith}
-use Rattle.words.specs.Table.{rowCount, number_at}
-use Rattle.language.specs.Decode.{expressionAt, place_of, argumentsAt, argumentListAt}
+use Rattle.words.specs.Table.{row_count, number_at}
+use Rattle.language.specs.Decode.{expression_at, place_of, arguments_at, argument_list_at}
 use Rattle.language.specs.Trees.{variable}
-use Rattle.language_shapes.specs.Shapes.{expressionIn, place_in, argumentIn, shape_at, placeTree, operationTree, choiceTree, OptionalOnward, OperationOnward, PlaceOnward, ExpressionOnward, ArgumentOnward, ExpressionWithin}
+use Rattle.language_shapes.specs.Shapes.{expression_in, place_in, argument_in, shape_at, place_tree, operation_tree, choice_tree, OptionalOnward, OperationOnward, PlaceOnward, ExpressionOnward, ArgumentOnward, ExpressionWithin}
 use Rattle.language_shapes.specs.ShapeLaws.{expression-found, item-found, argument-found}
 use Rattle.language_shapes.specs.declared.PlaceShape.{PlaceShape}
 use Rattle.language_shapes.specs.declared.PlaceShape.TheVariants.{Variable, Element}
@@ -17,18 +17,18 @@ use Rattle.language_shapes.specs.declared.ExpressionShape.TheVariants.{Number, R
 use Rattle.language_shapes.specs.declared.ArgumentShape.{ArgumentShape}
 use Rattle.language_shapes.specs.declared.ArgumentShape.TheVariants.{Argument, NoArgument}
 use Rattle.language_shapes.specs.declared.Shape.{Shape}
-use Rattle.page_line.specs.Reads.{argumentAt, Readable, PlaceInside, OperationInside, ExpressionInside, ArgumentInside, PlaceRead, ExpressionRead, ArgumentRead}
+use Rattle.page_line.specs.Reads.{argument_at, Readable, PlaceInside, OperationInside, ExpressionInside, ArgumentInside, PlaceRead, ExpressionRead, ArgumentRead}
 
-module _ (rows : List ℤ) (row : ℕ) (inside : row < rowCount rows) where
-  pub optional-inside : (link : ℕ) → OptionalOnward rows row link → link < rowCount rows
+module _ (rows : List ℤ) (row : ℕ) (inside : row < row_count rows) where
+  pub optional-inside : (link : ℕ) → OptionalOnward rows row link → link < row_count rows
   optional-inside zero o = omega arith
   optional-inside (suc link) o = (o (omega arith)).inside
 
-  place_inside : (name : ℕ → Type 0) (arrays : ℕ) (p : PlaceShape) → PlaceOnward rows row name arrays p → PlaceInside (rowCount rows) p
+  place_inside : (name : ℕ → Type 0) (arrays : ℕ) (p : PlaceShape) → PlaceOnward rows row name arrays p → PlaceInside (row_count rows) p
   place_inside name arrays (Variable i) o = tt
   place_inside name arrays (Element array index) o = o.1.inside
 
-  operation-inside : (o : OperationShape) → OperationOnward rows row o → OperationInside (rowCount rows) o
+  operation-inside : (o : OperationShape) → OperationOnward rows row o → OperationInside (row_count rows) o
   operation-inside (Minus a) o = o.inside
   operation-inside (Not a) o = o.inside
   operation-inside (Binary operator a b) o = (o.0.inside, o.1.inside)
@@ -38,62 +38,62 @@ module _ (rows : List ℤ) (row : ℕ) (inside : row < rowCount rows) where
   operation-inside (Prefix operator p) o = o.inside
   operation-inside (Postfix operator p) o = o.inside
 
-  expression-inside : (name : ℕ → Type 0) (arrays : ℕ) (s : ExpressionShape) → ExpressionOnward rows row name arrays s → ExpressionInside (rowCount rows) s
+  expression-inside : (name : ℕ → Type 0) (arrays : ℕ) (s : ExpressionShape) → ExpressionOnward rows row name arrays s → ExpressionInside (row_count rows) s
   expression-inside name arrays (Number v) o = tt
   expression-inside name arrays (Read p) o = place_inside name arrays p o
   expression-inside name arrays (Operation s) o = operation-inside s o
   expression-inside name arrays (Choice c) o = tt
   expression-inside name arrays (Call f arguments) o = optional-inside arguments o
 
-  argument-inside : (s : ArgumentShape) → ArgumentOnward rows row s → ArgumentInside (rowCount rows) s
+  argument-inside : (s : ArgumentShape) → ArgumentOnward rows row s → ArgumentInside (row_count rows) s
   argument-inside (Argument e) o = o.inside
   argument-inside NoArgument o = tt
 
 module _ {rows : List ℤ} {row : ℕ} where
-  module _ (readable : Readable rows) (inside : row < rowCount rows) where
+  module _ (readable : Readable rows) (inside : row < row_count rows) where
     -- any number is a name here
     abbrev Any : ℕ → Type 0
     Any i = Unit {0}
 
-    found : ExpressionWithin rows row Any (length readable.layout.lengths) (expressionIn (shape_at rows row))
+    found : ExpressionWithin rows row Any (length readable.layout.lengths) (expression_in (shape_at rows row))
     found = expression-found readable.sound inside Any (λ k. tt) (omega arith)
 
-    pub expression-read : {shape : Shape} {e : ExpressionShape} → shape ≡ shape_at rows row → e ≡ expressionIn shape → ExpressionRead rows row e
+    pub expression-read : {shape : Shape} {e : ExpressionShape} → shape ≡ shape_at rows row → e ≡ expression_in shape → ExpressionRead rows row e
     expression-read {shape} {e} h g =
-        subst (λ (x : ExpressionShape). ExpressionRead rows row x) (sym (g ∙ ap expressionIn h))
-        (record { is = found.is; inside = expression-inside rows row inside Any (length readable.layout.lengths) (expressionIn (shape_at rows row)) found.onward })
+        subst (λ (x : ExpressionShape). ExpressionRead rows row x) (sym (g ∙ ap expression_in h))
+        (record { is = found.is; inside = expression-inside rows row inside Any (length readable.layout.lengths) (expression_in (shape_at rows row)) found.onward })
 
     -- a row has six words
-    pub row_words : 6 * row + 5 < length rows
-    row_words = omega (arith, readable.sound.whole)
+    pub row-words : 6 * row + 5 < length rows
+    row-words = omega (arith, readable.sound.whole)
 
   -- ---- arguments
 
   -- The link 0 leads to no argument, whatever row 0 is.
-  no-argument : Readable rows → row < rowCount rows → row ≡ 0 → ArgumentRead rows row NoArgument
+  no-argument : Readable rows → row < row_count rows → row ≡ 0 → ArgumentRead rows row NoArgument
   no-argument readable inside z =
       let next = (item-found readable.sound inside).onward in
-      record { is = ap (argumentListAt rows) z; inside = tt; next-inside = optional-inside rows row inside (number_at rows row 5) next; next-later = λ h. (next h).later }
+      record { is = ap (argument_list_at rows) z; inside = tt; next_inside = optional-inside rows row inside (number_at rows row 5) next; next-later = λ h. (next h).later }
 
-  argument-some : Readable rows → row < rowCount rows → (row ≡ 0 → ⊥) → ArgumentRead rows row (argumentIn (shape_at rows row))
+  argument-some : Readable rows → row < row_count rows → (row ≡ 0 → ⊥) → ArgumentRead rows row (argument_in (shape_at rows row))
   argument-some readable inside some =
       let found = argument-found readable.sound inside in
       record {
         is = some-arguments row some ∙ found.is;
-        inside = argument-inside rows row inside (argumentIn (shape_at rows row)) found.onward;
-        next-inside = optional-inside rows row inside (number_at rows row 5) found.behind;
+        inside = argument-inside rows row inside (argument_in (shape_at rows row)) found.onward;
+        next_inside = optional-inside rows row inside (number_at rows row 5) found.behind;
         next-later = λ h. (found.behind h).later;
       }
     where
-      some-arguments : (link : ℕ) → (link ≡ 0 → ⊥) → argumentListAt rows link ≡ argumentsAt rows link
+      some-arguments : (link : ℕ) → (link ≡ 0 → ⊥) → argument_list_at rows link ≡ arguments_at rows link
       some-arguments zero some = absurd (some refl)
       some-arguments (suc link) some = refl
 
-  pub argument-none : {s : ArgumentShape} → Readable rows → row < rowCount rows → row ≡ 0 → s ≡ NoArgument → ArgumentRead rows row s
+  pub argument-none : {s : ArgumentShape} → Readable rows → row < row_count rows → row ≡ 0 → s ≡ NoArgument → ArgumentRead rows row s
   argument-none {s} readable inside z e = subst (λ (x : ArgumentShape). ArgumentRead rows row x) (sym e) (no-argument readable inside z)
 
-  pub argument-read : {shape : Shape} {s : ArgumentShape} → Readable rows → row < rowCount rows → (row ≡ 0 → ⊥) → shape ≡ shape_at rows row → s ≡ argumentIn shape → ArgumentRead rows row s
-  argument-read {shape} {s} readable inside some h g = subst (λ (x : ArgumentShape). ArgumentRead rows row x) (sym (g ∙ ap argumentIn h)) (argument-some readable inside some)
+  pub argument-read : {shape : Shape} {s : ArgumentShape} → Readable rows → row < row_count rows → (row ≡ 0 → ⊥) → shape ≡ shape_at rows row → s ≡ argument_in shape → ArgumentRead rows row s
+  argument-read {shape} {s} readable inside some h g = subst (λ (x : ArgumentShape). ArgumentRead rows row x) (sym (g ∙ ap argument_in h)) (argument-some readable inside some)
 
   -- A row that is no place counts as variable 0.
   place-in-read : (e : ExpressionShape) → ExpressionRead rows row e → PlaceRead rows row (place_in e)
@@ -101,7 +101,7 @@ module _ {rows : List ℤ} {row : ℕ} where
   place-in-read (Read p) r = record { is = ap place_of r.is; inside = r.inside }
   place-in-read (Operation o) r = record { is = ap place_of r.is ∙ no_place o; inside = tt }
     where
-      no_place : (o : OperationShape) → place_of (operationTree rows o) ≡ variable 0
+      no_place : (o : OperationShape) → place_of (operation_tree rows o) ≡ variable 0
       no_place (Minus a) = refl
       no_place (Not a) = refl
       no_place (Binary operator a b) = refl
@@ -112,7 +112,7 @@ module _ {rows : List ℤ} {row : ℕ} where
       no_place (Postfix operator p) = refl
   place-in-read (Choice c) r = record { is = ap place_of r.is ∙ no-choice c; inside = tt }
     where
-      no-choice : (c : ChoiceShape) → place_of (choiceTree rows c) ≡ variable 0
+      no-choice : (c : ChoiceShape) → place_of (choice_tree rows c) ≡ variable 0
       no-choice (And a b) = refl
       no-choice (Or a b) = refl
       no-choice (Conditional c a b) = refl
@@ -127,20 +127,20 @@ pub read_as : {rows : List ℤ} {row : ℕ} {s t : ExpressionShape} → Expressi
 read_as {rows} {row} found e = subst (λ (s : ExpressionShape). ExpressionRead rows row s) e found
 
 -- The argument that a link leads to.
-pub argument-found-at : {rows : List ℤ} → Readable rows → (link : ℕ) → link < rowCount rows → ArgumentRead rows link (argumentAt rows link)
-unfolding argumentAt
+pub argument-found-at : {rows : List ℤ} → Readable rows → (link : ℕ) → link < row_count rows → ArgumentRead rows link (argument_at rows link)
+unfolding argument_at
 argument-found-at readable zero inside = argument-none readable inside refl refl
 argument-found-at readable (suc link) inside = argument-read readable inside (λ e. omega arith) refl refl
 
-pub no-argument-at : (rows : List ℤ) (link : ℕ) → link ≡ 0 → NoArgument ≡ argumentAt rows link
-unfolding argumentAt
+pub no-argument-at : (rows : List ℤ) (link : ℕ) → link ≡ 0 → NoArgument ≡ argument_at rows link
+unfolding argument_at
 no-argument-at rows zero z = refl
 no-argument-at rows (suc link) z = absurd (omega arith)
 
-pub some-argument-at : (rows : List ℤ) (link : ℕ) {shape : Shape} {s : ArgumentShape} → (link ≡ 0 → ⊥) → shape ≡ shape_at rows link → s ≡ argumentIn shape → s ≡ argumentAt rows link
-unfolding argumentAt
+pub some-argument-at : (rows : List ℤ) (link : ℕ) {shape : Shape} {s : ArgumentShape} → (link ≡ 0 → ⊥) → shape ≡ shape_at rows link → s ≡ argument_in shape → s ≡ argument_at rows link
+unfolding argument_at
 some-argument-at rows zero some h g = absurd (some refl)
-some-argument-at rows (suc link) some h g = g ∙ ap argumentIn h
+some-argument-at rows (suc link) some h g = g ∙ ap argument_in h
 
 pub argument-as : {rows : List ℤ} {row : ℕ} {s t : ArgumentShape} → ArgumentRead rows row s → s ≡ t → ArgumentRead rows row t
 argument-as {rows} {row} found e = subst (λ (s : ArgumentShape). ArgumentRead rows row s) e found

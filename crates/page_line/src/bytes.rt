@@ -1,7 +1,7 @@
 // Bytes, blanks, numbers and names. Each function lays its bytes into `text` from `at` on, and answers the place behind them.
 ghost use Rattle.std.specs.Prelude.{◌≡◌, [], ◌∷◌, ◌+◌, ◌≤◌, ◌<◌, length};
-ghost use Rattle.text_numbers.specs.Number.{digits, numberBytes};
-ghost use Rattle.page.specs.Page.{blanks, name, rightSet};
+ghost use Rattle.text_numbers.specs.Number.{digits, number_bytes};
+ghost use Rattle.page.specs.Page.{blanks, name, right_set};
 ghost use Rattle.page_line.specs.Laid.{Laid};
 
 use page::Sizes;
@@ -44,8 +44,8 @@ fn lay_digits(number: usize, at: usize, text: &mut [u8]) -> usize
 
 // A constant.
 pub fn lay_constant(value: i32, at: usize, text: &mut [u8]) -> usize
-    requires { at + length (numberBytes value) ≤ length text.old }
-    ensures { Laid (numberBytes value) text.old at result text.new }
+    requires { at + length (number_bytes value) ≤ length text.old }
+    ensures { Laid (number_bytes value) text.old at result text.new }
 {
     at + put_number(value, &mut text[at..])
 }
@@ -97,7 +97,7 @@ fn columns(number: usize) -> usize
 // "LineAt number from 1 in five columns, right-set".
 pub fn lay_line_number(number: usize, at: usize, text: &mut [u8]) -> usize
     requires { (number < 100000) × (at + 5 ≤ length text.old) }
-    ensures { Laid (rightSet 5 (digits number)) text.old at result text.new }
+    ensures { Laid (right_set 5 (digits number)) text.old at result text.new }
 {
     let count = columns(number);
     let start = lay_blanks(5 - count, at, text);

@@ -1,13 +1,13 @@
 // What each line says.
 ghost use Rattle.std.specs.Prelude.{[], ◌++◌, ◌+◌, ◌≤◌, ◌<◌, length};
-ghost use Rattle.words.specs.Table.{rowCount};
-ghost use Rattle.language.specs.Trees.{giveBack};
-ghost use Rattle.language.specs.Decode.{expressionAt, part_at};
-ghost use Rattle.language_shapes.specs.Shapes.{markTree};
-ghost use Rattle.page.specs.Page.{singleWords, markWords, lineWords, parted};
+ghost use Rattle.words.specs.Table.{row_count};
+ghost use Rattle.language.specs.Trees.{give_back};
+ghost use Rattle.language.specs.Decode.{expression_at, part_at};
+ghost use Rattle.language_shapes.specs.Shapes.{mark_tree};
+ghost use Rattle.page.specs.Page.{single_words, mark_words, line_words, parted};
 ghost use Rattle.page_line.specs.Laid.{Laid};
 ghost use Rattle.page_line.specs.Reads.{Readable};
-ghost use Rattle.page_line.specs.Contents.{lineTree, LineInside, gotoBytes, labelBytes, testBytes};
+ghost use Rattle.page_line.specs.Contents.{line_tree, LineInside, goto_bytes, label_bytes, test_bytes};
 
 use super::LineAt;
 use super::bytes::{lay_byte, lay_bytes, lay_lettered};
@@ -18,8 +18,8 @@ use page::Sizes;
 
 // `goto L7;`
 fn lay_goto(number: usize, at: usize, text: &mut [u8]) -> usize
-    requires { at + length (gotoBytes number) ≤ length text.old }
-    ensures { Laid (gotoBytes number) text.old at result text.new }
+    requires { at + length (goto_bytes number) ≤ length text.old }
+    ensures { Laid (goto_bytes number) text.old at result text.new }
 {
     let start = lay_bytes(b"goto ", at, text);
     let end = lay_lettered(b'L', number, start, text);
@@ -28,16 +28,16 @@ fn lay_goto(number: usize, at: usize, text: &mut [u8]) -> usize
 
 // `L7:;`
 fn lay_label(number: usize, at: usize, text: &mut [u8]) -> usize
-    requires { at + length (labelBytes number) ≤ length text.old }
-    ensures { Laid (labelBytes number) text.old at result text.new }
+    requires { at + length (label_bytes number) ≤ length text.old }
+    ensures { Laid (label_bytes number) text.old at result text.new }
 {
     let end = lay_lettered(b'L', number, at, text);
     lay_bytes(b":;", end, text)
 }
 
 fn lay_mark(sizes: Sizes, mark: MarkShape, at: usize, text: &mut [u8]) -> usize
-    requires { at + length (parted (markWords sizes (markTree [] mark))) ≤ length text.old }
-    ensures { Laid (parted (markWords sizes (markTree [] mark))) text.old at result text.new }
+    requires { at + length (parted (mark_words sizes (mark_tree [] mark))) ≤ length text.old }
+    ensures { Laid (parted (mark_words sizes (mark_tree [] mark))) text.old at result text.new }
 {
     match mark {
         MarkShape::Case(_) => at,
@@ -55,9 +55,9 @@ fn lay_test(
     at: usize,
     text: &mut [u8],
 ) -> usize
-    requires readable { Readable rows.now × (row < rowCount rows.now) }
-    requires row_in_bounds { at + length (opening.now ++ testBytes sizes (expressionAt rows.now row)) ≤ length text.old }
-    ensures { Laid (opening.now ++ testBytes sizes (expressionAt rows.now row)) text.old at result text.new }
+    requires readable { Readable rows.now × (row < row_count rows.now) }
+    requires row_in_bounds { at + length (opening.now ++ test_bytes sizes (expression_at rows.now row)) ≤ length text.old }
+    ensures { Laid (opening.now ++ test_bytes sizes (expression_at rows.now row)) text.old at result text.new }
 {
     let start = lay_bytes(opening, at, text);
     let end = lay_atom(sizes, rows, row, start, text);
@@ -66,9 +66,9 @@ fn lay_test(
 
 // A return; one without an expression is none of the kernel's.
 fn lay_given(sizes: Sizes, rows: &[i32], value: usize, at: usize, text: &mut [u8]) -> usize
-    requires readable { Readable rows.now × (value < rowCount rows.now) }
-    requires value_in_bounds { at + length (parted (singleWords sizes (giveBack (part_at rows.now value)))) ≤ length text.old }
-    ensures { Laid (parted (singleWords sizes (giveBack (part_at rows.now value)))) text.old at result text.new }
+    requires readable { Readable rows.now × (value < row_count rows.now) }
+    requires value_in_bounds { at + length (parted (single_words sizes (give_back (part_at rows.now value)))) ≤ length text.old }
+    ensures { Laid (parted (single_words sizes (give_back (part_at rows.now value)))) text.old at result text.new }
 {
     if value == 0 {
         return at;
@@ -78,9 +78,9 @@ fn lay_given(sizes: Sizes, rows: &[i32], value: usize, at: usize, text: &mut [u8
 
 // What a line says, its words parted by blanks.
 pub fn lay_content(sizes: Sizes, rows: &[i32], line: LineAt, at: usize, text: &mut [u8]) -> usize
-    requires readable { Readable rows.now × LineInside (rowCount rows.now) line }
-    requires line_in_bounds { at + length (parted (lineWords sizes (lineTree rows.now line))) ≤ length text.old }
-    ensures { Laid (parted (lineWords sizes (lineTree rows.now line))) text.old at result text.new }
+    requires readable { Readable rows.now × LineInside (row_count rows.now) line }
+    requires line_in_bounds { at + length (parted (line_words sizes (line_tree rows.now line))) ≤ length text.old }
+    ensures { Laid (parted (line_words sizes (line_tree rows.now line))) text.old at result text.new }
 {
     match line {
         LineAt::Empty => lay_byte(b';', at, text),

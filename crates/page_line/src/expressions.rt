@@ -1,14 +1,14 @@
 // Atoms, places and values, told by their row. Each function lays the bytes of its definition; what the kernel does not have has none.
 ghost use Rattle.std.specs.Prelude.{◌≡◌, ◌∷◌, [], ◌+◌, ◌≤◌, ◌<◌, length};
-ghost use Rattle.words.specs.Table.{rowCount};
-ghost use Rattle.text_numbers.specs.Number.{numberBytes};
+ghost use Rattle.words.specs.Table.{row_count};
+ghost use Rattle.text_numbers.specs.Number.{number_bytes};
 ghost use Rattle.language.specs.Trees.{minus, binary, assign, element, no_more};
-ghost use Rattle.language.specs.Decode.{expressionAt, place_of, argumentListAt};
-ghost use Rattle.language_shapes.specs.Shapes.{placeTree, operationTree};
-ghost use Rattle.page.specs.Page.{blank, semicolon, endedBy, operatorWord, atomWord, placeWord, ended, valueWords, assignmentWords, parted};
+ghost use Rattle.language.specs.Decode.{expression_at, place_of, argument_list_at};
+ghost use Rattle.language_shapes.specs.Shapes.{place_tree, operation_tree};
+ghost use Rattle.page.specs.Page.{blank, semicolon, ended_by, operator_word, atom_word, place_word, ended, value_words, assignment_words, parted};
 ghost use Rattle.page_line.specs.Laid.{Laid};
 ghost use Rattle.page_line.specs.Reads.{Readable, PlaceInside, OperationInside};
-ghost use Rattle.page_line.specs.Contents.{led, calledBytes, operatorByte, isTwoBytes};
+ghost use Rattle.page_line.specs.Contents.{led, called_bytes, operator_byte, is_two_bytes};
 
 use super::bytes::{lay_byte, lay_bytes, lay_constant, lay_lettered, lay_name};
 use super::shapes_at::{argument_at, expression_at, place_at};
@@ -17,9 +17,9 @@ use page::Sizes;
 use words::Operator;
 
 pub fn lay_atom(sizes: Sizes, rows: &[i32], row: usize, at: usize, text: &mut [u8]) -> usize
-    requires readable { Readable rows.now × (row < rowCount rows.now) }
-    requires row_in_bounds { at + length (atomWord sizes (expressionAt rows.now row)) ≤ length text.old }
-    ensures { Laid (atomWord sizes (expressionAt rows.now row)) text.old at result text.new }
+    requires readable { Readable rows.now × (row < row_count rows.now) }
+    requires row_in_bounds { at + length (atom_word sizes (expression_at rows.now row)) ≤ length text.old }
+    ensures { Laid (atom_word sizes (expression_at rows.now row)) text.old at result text.new }
 {
     let shape = expression_at(rows, row);
     match shape {
@@ -43,9 +43,9 @@ fn lay_element(
     at: usize,
     text: &mut [u8],
 ) -> usize
-    requires readable { Readable rows.now × (index < rowCount rows.now) }
-    requires index_in_bounds { at + length (placeWord sizes (element array (expressionAt rows.now index))) ≤ length text.old }
-    ensures { Laid (placeWord sizes (element array (expressionAt rows.now index))) text.old at result text.new }
+    requires readable { Readable rows.now × (index < row_count rows.now) }
+    requires index_in_bounds { at + length (place_word sizes (element array (expression_at rows.now index))) ≤ length text.old }
+    ensures { Laid (place_word sizes (element array (expression_at rows.now index))) text.old at result text.new }
 {
     let named = lay_lettered(b'a', array, at, text);
     let opened = lay_byte(b'[', named, text);
@@ -55,9 +55,9 @@ fn lay_element(
 
 // A place, as it is read.
 pub fn lay_read(sizes: Sizes, rows: &[i32], place: PlaceShape, at: usize, text: &mut [u8]) -> usize
-    requires readable { Readable rows.now × PlaceInside (rowCount rows.now) place }
-    requires place_in_bounds { at + length (placeWord sizes (placeTree rows.now place)) ≤ length text.old }
-    ensures { Laid (placeWord sizes (placeTree rows.now place)) text.old at result text.new }
+    requires readable { Readable rows.now × PlaceInside (row_count rows.now) place }
+    requires place_in_bounds { at + length (place_word sizes (place_tree rows.now place)) ≤ length text.old }
+    ensures { Laid (place_word sizes (place_tree rows.now place)) text.old at result text.new }
 {
     match place {
         PlaceShape::Variable(number) => lay_name(sizes, number, at, text),
@@ -67,7 +67,7 @@ pub fn lay_read(sizes: Sizes, rows: &[i32], place: PlaceShape, at: usize, text: 
 
 // The first byte of an operator, and whether there is another, which then is `=`.
 fn operator_byte(operator: Operator) -> u8
-    ensures { result ≡ operatorByte operator }
+    ensures { result ≡ operator_byte operator }
 {
     match operator {
         Operator::Add => b'+',
@@ -85,7 +85,7 @@ fn operator_byte(operator: Operator) -> u8
 }
 
 fn is_two_bytes(operator: Operator) -> bool
-    ensures { result ≡ isTwoBytes operator }
+    ensures { result ≡ is_two_bytes operator }
 {
     match operator {
         Operator::Add => false,
@@ -103,8 +103,8 @@ fn is_two_bytes(operator: Operator) -> bool
 }
 
 fn lay_operator(operator: Operator, at: usize, text: &mut [u8]) -> usize
-    requires { at + length (operatorWord operator) ≤ length text.old }
-    ensures { Laid (operatorWord operator) text.old at result text.new }
+    requires { at + length (operator_word operator) ≤ length text.old }
+    ensures { Laid (operator_word operator) text.old at result text.new }
 {
     let two = is_two_bytes(operator);
     let first = lay_byte(operator_byte(operator), at, text);
@@ -124,9 +124,9 @@ fn lay_binary(
     at: usize,
     text: &mut [u8],
 ) -> usize
-    requires readable { Readable rows.now × (left < rowCount rows.now) × (right < rowCount rows.now) }
-    requires right_in_bounds { at + length (led (ended (valueWords sizes (binary operator (expressionAt rows.now left) (expressionAt rows.now right))))) ≤ length text.old }
-    ensures { Laid (led (ended (valueWords sizes (binary operator (expressionAt rows.now left) (expressionAt rows.now right))))) text.old at result text.new }
+    requires readable { Readable rows.now × (left < row_count rows.now) × (right < row_count rows.now) }
+    requires right_in_bounds { at + length (led (ended (value_words sizes (binary operator (expression_at rows.now left) (expression_at rows.now right))))) ≤ length text.old }
+    ensures { Laid (led (ended (value_words sizes (binary operator (expression_at rows.now left) (expression_at rows.now right))))) text.old at result text.new }
 {
     let start = lay_byte(b' ', at, text);
     let first = lay_atom(sizes, rows, left, start, text);
@@ -139,9 +139,9 @@ fn lay_binary(
 
 // ` - X;`
 fn lay_minus(sizes: Sizes, rows: &[i32], operand: usize, at: usize, text: &mut [u8]) -> usize
-    requires readable { Readable rows.now × (operand < rowCount rows.now) }
-    requires operand_in_bounds { at + length (led (ended (valueWords sizes (minus (expressionAt rows.now operand))))) ≤ length text.old }
-    ensures { Laid (led (ended (valueWords sizes (minus (expressionAt rows.now operand))))) text.old at result text.new }
+    requires readable { Readable rows.now × (operand < row_count rows.now) }
+    requires operand_in_bounds { at + length (led (ended (value_words sizes (minus (expression_at rows.now operand))))) ≤ length text.old }
+    ensures { Laid (led (ended (value_words sizes (minus (expression_at rows.now operand))))) text.old at result text.new }
 {
     let start = lay_bytes(b" - ", at, text);
     let end = lay_atom(sizes, rows, operand, start, text);
@@ -155,9 +155,9 @@ fn lay_operation(
     at: usize,
     text: &mut [u8],
 ) -> usize
-    requires readable { Readable rows.now × OperationInside (rowCount rows.now) operation }
-    requires operation_in_bounds { at + length (led (ended (valueWords sizes (operationTree rows.now operation)))) ≤ length text.old }
-    ensures { Laid (led (ended (valueWords sizes (operationTree rows.now operation)))) text.old at result text.new }
+    requires readable { Readable rows.now × OperationInside (row_count rows.now) operation }
+    requires operation_in_bounds { at + length (led (ended (value_words sizes (operation_tree rows.now operation)))) ≤ length text.old }
+    ensures { Laid (led (ended (value_words sizes (operation_tree rows.now operation)))) text.old at result text.new }
 {
     match operation {
         OperationShape::Minus(operand) => lay_minus(sizes, rows, operand, at, text),
@@ -175,8 +175,8 @@ fn lay_operation(
 
 // ` X;` of a constant.
 fn lay_constant_value(value: i32, at: usize, text: &mut [u8]) -> usize
-    requires { at + length (blank ∷ endedBy semicolon (numberBytes value)) ≤ length text.old }
-    ensures { Laid (blank ∷ endedBy semicolon (numberBytes value)) text.old at result text.new }
+    requires { at + length (blank ∷ ended_by semicolon (number_bytes value)) ≤ length text.old }
+    ensures { Laid (blank ∷ ended_by semicolon (number_bytes value)) text.old at result text.new }
 {
     let start = lay_byte(b' ', at, text);
     let end = lay_constant(value, start, text);
@@ -191,9 +191,9 @@ fn lay_read_value(
     at: usize,
     text: &mut [u8],
 ) -> usize
-    requires readable { Readable rows.now × PlaceInside (rowCount rows.now) place }
-    requires place_in_bounds { at + length (blank ∷ endedBy semicolon (placeWord sizes (placeTree rows.now place))) ≤ length text.old }
-    ensures { Laid (blank ∷ endedBy semicolon (placeWord sizes (placeTree rows.now place))) text.old at result text.new }
+    requires readable { Readable rows.now × PlaceInside (row_count rows.now) place }
+    requires place_in_bounds { at + length (blank ∷ ended_by semicolon (place_word sizes (place_tree rows.now place))) ≤ length text.old }
+    ensures { Laid (blank ∷ ended_by semicolon (place_word sizes (place_tree rows.now place))) text.old at result text.new }
 {
     let start = lay_byte(b' ', at, text);
     let end = lay_read(sizes, rows, place, start, text);
@@ -202,8 +202,8 @@ fn lay_read_value(
 
 // ` fN();`
 fn lay_alone(number: usize, at: usize, text: &mut [u8]) -> usize
-    requires { at + length (calledBytes number no_more) ≤ length text.old }
-    ensures { Laid (calledBytes number no_more) text.old at result text.new }
+    requires { at + length (called_bytes number no_more) ≤ length text.old }
+    ensures { Laid (called_bytes number no_more) text.old at result text.new }
 {
     let start = lay_byte(b' ', at, text);
     let named = lay_lettered(b'f', number, start, text);
@@ -212,9 +212,9 @@ fn lay_alone(number: usize, at: usize, text: &mut [u8]) -> usize
 
 // A call; one with arguments has lines of its own.
 fn lay_called(rows: &[i32], number: usize, arguments: usize, at: usize, text: &mut [u8]) -> usize
-    requires readable { Readable rows.now × (arguments < rowCount rows.now) }
-    requires arguments_in_bounds { at + length (calledBytes number (argumentListAt rows.now arguments)) ≤ length text.old }
-    ensures { Laid (calledBytes number (argumentListAt rows.now arguments)) text.old at result text.new }
+    requires readable { Readable rows.now × (arguments < row_count rows.now) }
+    requires arguments_in_bounds { at + length (called_bytes number (argument_list_at rows.now arguments)) ≤ length text.old }
+    ensures { Laid (called_bytes number (argument_list_at rows.now arguments)) text.old at result text.new }
 {
     let first = argument_at(rows, arguments);
     match first {
@@ -225,9 +225,9 @@ fn lay_called(rows: &[i32], number: usize, arguments: usize, at: usize, text: &m
 
 // What is assigned, with the blank before it and the semicolon behind it.
 fn lay_value(sizes: Sizes, rows: &[i32], row: usize, at: usize, text: &mut [u8]) -> usize
-    requires readable { Readable rows.now × (row < rowCount rows.now) }
-    requires row_in_bounds { at + length (led (ended (valueWords sizes (expressionAt rows.now row)))) ≤ length text.old }
-    ensures { Laid (led (ended (valueWords sizes (expressionAt rows.now row)))) text.old at result text.new }
+    requires readable { Readable rows.now × (row < row_count rows.now) }
+    requires row_in_bounds { at + length (led (ended (value_words sizes (expression_at rows.now row)))) ≤ length text.old }
+    ensures { Laid (led (ended (value_words sizes (expression_at rows.now row)))) text.old at result text.new }
 {
     let shape = expression_at(rows, row);
     match shape {
@@ -250,9 +250,9 @@ fn lay_stored(
     at: usize,
     text: &mut [u8],
 ) -> usize
-    requires readable { Readable rows.now × (place < rowCount rows.now) × (value < rowCount rows.now) }
-    requires value_in_bounds { at + length (parted (assignmentWords sizes (assign (place_of (expressionAt rows.now place)) (expressionAt rows.now value)))) ≤ length text.old }
-    ensures { Laid (parted (assignmentWords sizes (assign (place_of (expressionAt rows.now place)) (expressionAt rows.now value)))) text.old at result text.new }
+    requires readable { Readable rows.now × (place < row_count rows.now) × (value < row_count rows.now) }
+    requires value_in_bounds { at + length (parted (assignment_words sizes (assign (place_of (expression_at rows.now place)) (expression_at rows.now value)))) ≤ length text.old }
+    ensures { Laid (parted (assignment_words sizes (assign (place_of (expression_at rows.now place)) (expression_at rows.now value)))) text.old at result text.new }
 {
     let named = lay_read(sizes, rows, place_at(rows, place), at, text);
     let equals = lay_bytes(b" =", named, text);
@@ -267,9 +267,9 @@ fn lay_operated(
     at: usize,
     text: &mut [u8],
 ) -> usize
-    requires readable { Readable rows.now × OperationInside (rowCount rows.now) operation }
-    requires operation_in_bounds { at + length (parted (assignmentWords sizes (operationTree rows.now operation))) ≤ length text.old }
-    ensures { Laid (parted (assignmentWords sizes (operationTree rows.now operation))) text.old at result text.new }
+    requires readable { Readable rows.now × OperationInside (row_count rows.now) operation }
+    requires operation_in_bounds { at + length (parted (assignment_words sizes (operation_tree rows.now operation))) ≤ length text.old }
+    ensures { Laid (parted (assignment_words sizes (operation_tree rows.now operation))) text.old at result text.new }
 {
     match operation {
         OperationShape::Assign(place, value) => lay_stored(sizes, rows, place, value, at, text),
@@ -285,9 +285,9 @@ fn lay_operated(
 
 // An expression statement's line.
 pub fn lay_assignment(sizes: Sizes, rows: &[i32], row: usize, at: usize, text: &mut [u8]) -> usize
-    requires readable { Readable rows.now × (row < rowCount rows.now) }
-    requires row_in_bounds { at + length (parted (assignmentWords sizes (expressionAt rows.now row))) ≤ length text.old }
-    ensures { Laid (parted (assignmentWords sizes (expressionAt rows.now row))) text.old at result text.new }
+    requires readable { Readable rows.now × (row < row_count rows.now) }
+    requires row_in_bounds { at + length (parted (assignment_words sizes (expression_at rows.now row))) ≤ length text.old }
+    ensures { Laid (parted (assignment_words sizes (expression_at rows.now row))) text.old at result text.new }
 {
     let shape = expression_at(rows, row);
     match shape {

@@ -1,4 +1,6 @@
 // One line of a page, laid into the page at its place: its number, its indent, what it says, blanks and the newline.
+#![tactic(auto)]
+
 pub mod bytes; // bytes.rt: bytes, blanks, numbers and names
 pub mod contents; // contents.rt: what each line says
 pub mod expressions; // expressions.rt: atoms, places and values
@@ -10,7 +12,7 @@ use language_shapes::MarkShape;
 
 // What a line says. Expressions and places are told by their row, functions by their number, parameters by their word; 0 is no expression
 // of a return.
-#[derive(Drop)]
+#[derive(Clone, Copy)]
 pub enum LineAt {
     Empty,
     Express(usize),

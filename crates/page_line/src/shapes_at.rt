@@ -1,14 +1,14 @@
 // What stands at a row of a table of either form. The readers of crate language_shapes ask for a source table; these ask for sound links alone.
 ghost use Rattle.std.specs.Prelude.{◌≡◌, ◌<◌};
-ghost use Rattle.words.specs.Table.{rowCount};
-ghost use Rattle.language_shapes.specs.Shapes.{expressionIn, place_in, argumentIn};
-ghost use Rattle.page_line.specs.Reads.{expressionShapeAt, argumentAt, Readable, ExpressionRead, PlaceRead, ArgumentRead};
+ghost use Rattle.words.specs.Table.{row_count};
+ghost use Rattle.language_shapes.specs.Shapes.{expression_in, place_in, argument_in};
+ghost use Rattle.page_line.specs.Reads.{expression_shape_at, argument_at, Readable, ExpressionRead, PlaceRead, ArgumentRead};
 
 use language_shapes::rows::shape_at;
 use language_shapes::{ArgumentShape, ExpressionShape, PlaceShape, Shape};
 
 fn expression_of(shape: Shape) -> ExpressionShape
-    ensures { result ≡ expressionIn shape }
+    ensures { result ≡ expression_in shape }
 {
     match shape {
         Shape::OfExpression(expression) => expression,
@@ -34,7 +34,7 @@ fn place_of(expression: ExpressionShape) -> PlaceShape
 }
 
 fn argument_of(shape: Shape) -> ArgumentShape
-    ensures { result ≡ argumentIn shape }
+    ensures { result ≡ argument_in shape }
 {
     match shape {
         Shape::OfExpression(_) => ArgumentShape::NoArgument,
@@ -48,14 +48,14 @@ fn argument_of(shape: Shape) -> ArgumentShape
 }
 
 pub fn expression_at(rows: &[i32], row: usize) -> ExpressionShape
-    requires { Readable rows.now × (row < rowCount rows.now) }
-    ensures { ExpressionRead rows.now row result × (result ≡ expressionShapeAt rows.now row) }
+    requires { Readable rows.now × (row < row_count rows.now) }
+    ensures { ExpressionRead rows.now row result × (result ≡ expression_shape_at rows.now row) }
 {
     expression_of(shape_at(rows, row))
 }
 
 pub fn place_at(rows: &[i32], row: usize) -> PlaceShape
-    requires { Readable rows.now × (row < rowCount rows.now) }
+    requires { Readable rows.now × (row < row_count rows.now) }
     ensures { PlaceRead rows.now row result }
 {
     place_of(expression_at(rows, row))
@@ -63,8 +63,8 @@ pub fn place_at(rows: &[i32], row: usize) -> PlaceShape
 
 // The argument that a link leads to; 0 leads to none.
 pub fn argument_at(rows: &[i32], link: usize) -> ArgumentShape
-    requires { Readable rows.now × (link < rowCount rows.now) }
-    ensures { ArgumentRead rows.now link result × (result ≡ argumentAt rows.now link) }
+    requires { Readable rows.now × (link < row_count rows.now) }
+    ensures { ArgumentRead rows.now link result × (result ≡ argument_at rows.now link) }
 {
     if link == 0 {
         return ArgumentShape::NoArgument;

@@ -2,7 +2,7 @@
 ghost use Rattle.std.specs.Prelude.{◌≡◌, [], ◌∷◌};
 ghost use Rattle.page.specs.Lines.{indented};
 ghost use Rattle.page.specs.Page.{indent};
-ghost use Rattle.page_line.specs.Contents.{lineTree};
+ghost use Rattle.page_line.specs.Contents.{line_tree};
 ghost use Rattle.page_line.specs.Printed.{LineRoom, Printed};
 
 use super::LineAt;
@@ -30,7 +30,7 @@ pub fn print_line(
     page: &mut [u8],
 ) -> usize
     requires { LineRoom sizes rows.now line done page.old }
-    ensures { Printed sizes (indented level (lineTree rows.now line) ∷ []) page.old done result page.new }
+    ensures { Printed sizes (indented level (line_tree rows.now line) ∷ []) page.old done result page.new }
 {
     let at = 81 * done;
     let end = at + 80;

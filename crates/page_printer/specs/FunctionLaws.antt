@@ -5,19 +5,19 @@ use Rattle.std.specs.Prelude.{Bool, true, false, ltb, ℤ, length}
 use mathlib.Core.List.{List, [], ◌∷◌, ◌++◌, append_assoc}
 use Prim.Native.Nat.{ℕ, zero, suc, ◌+◌, ◌*◌, ◌≤◌, ◌<◌}
 use Rattle.words.specs.Word.{pick}
-use Rattle.words.specs.Table.{rowCount, number_at}
-use Rattle.words.specs.Declarations.{isDeclaration}
-use Rattle.language.specs.Decode.{later, parametersAt, parameterListAt, argumentListAt, expressionAt}
+use Rattle.words.specs.Table.{row_count, number_at}
+use Rattle.words.specs.Declarations.{is_declaration}
+use Rattle.language.specs.Decode.{later, parameters_at, parameter_list_at, argument_list_at, expression_at}
 use Rattle.language.specs.DecodeLaws.{parameters-at}
-use Rattle.language.specs.Calls.{argumentCount}
+use Rattle.language.specs.Calls.{argument_count}
 use Rattle.language_shapes.specs.declared.ArgumentShape.TheVariants.{Argument, NoArgument}
 use Rattle.page.specs.declared.Sizes.{Sizes}
-use Rattle.page.specs.Lines.{Indented, indented, argument, lastArgument, parameter, lastParameter, opensFunction, opensParameters, argumentLines, parameterLines, definitionLines}
+use Rattle.page.specs.Lines.{Indented, indented, argument, last_argument, parameter, last_parameter, opens_function, opens_parameters, argument_lines, parameter_lines, definition_lines}
 use Rattle.page_line.specs.Reads.{Readable, ArgumentRead}
 use Rattle.page_line.specs.LaidLaws.{laid-length}
 use Rattle.page_line.specs.Printed.{Printed}
 use Rattle.page_line.specs.PrintedLaws.{printed-none, printed-next}
-use Rattle.page_printer.specs.Outlines.{isParameter}
+use Rattle.page_printer.specs.Outlines.{is_parameter}
 use Rattle.page_printer.specs.Ready.{Ready}
 use Rattle.page_printer.specs.ReadyLaws.{ready-first, ready-behind}
 use Rattle.page_printer.specs.OutlineLaws.{next-later}
@@ -25,68 +25,68 @@ use Rattle.page_printer.specs.OutlineLaws.{next-later}
 -- ---- arguments
 
 module _ {rows : List ℤ} {link : ℕ} where
-  pub argument-more : (e : ℕ) → ArgumentRead rows link (Argument e) → argumentCount (argumentListAt rows link) ≡ suc (argumentCount (argumentListAt rows (number_at rows link 5)))
-  unfolding argumentCount
-  argument-more e r = ap argumentCount r.is
+  pub argument-more : (e : ℕ) → ArgumentRead rows link (Argument e) → argument_count (argument_list_at rows link) ≡ suc (argument_count (argument_list_at rows (number_at rows link 5)))
+  unfolding argument_count
+  argument-more e r = ap argument_count r.is
 
-  pub argument-end : ArgumentRead rows link NoArgument → argumentCount (argumentListAt rows link) ≡ 0
-  unfolding argumentCount
-  argument-end r = ap argumentCount r.is
+  pub argument-end : ArgumentRead rows link NoArgument → argument_count (argument_list_at rows link) ≡ 0
+  unfolding argument_count
+  argument-end r = ap argument_count r.is
 
   module _ (level row : ℕ) where
     pub argument-line : (e : ℕ) → ArgumentRead rows link (Argument e)
-        → argumentLines level (expressionAt rows row) (argumentListAt rows link) ≡ indented level (argument (expressionAt rows row)) ∷ argumentLines level (expressionAt rows e) (argumentListAt rows (number_at rows link 5))
-    unfolding argumentLines
-    argument-line e r = ap (argumentLines level (expressionAt rows row)) r.is
+        → argument_lines level (expression_at rows row) (argument_list_at rows link) ≡ indented level (argument (expression_at rows row)) ∷ argument_lines level (expression_at rows e) (argument_list_at rows (number_at rows link 5))
+    unfolding argument_lines
+    argument-line e r = ap (argument_lines level (expression_at rows row)) r.is
 
-    pub last-argument-line : ArgumentRead rows link NoArgument → argumentLines level (expressionAt rows row) (argumentListAt rows link) ≡ indented level (lastArgument (expressionAt rows row)) ∷ []
-    unfolding argumentLines
-    last-argument-line r = ap (argumentLines level (expressionAt rows row)) r.is
+    pub last-argument-line : ArgumentRead rows link NoArgument → argument_lines level (expression_at rows row) (argument_list_at rows link) ≡ indented level (last_argument (expression_at rows row)) ∷ []
+    unfolding argument_lines
+    last-argument-line r = ap (argument_lines level (expression_at rows row)) r.is
 
 -- ---- parameters
 
-pub parameter-flag : (rows : List ℤ) (link : ℕ) {flag : Bool} → (link ≡ 0 → ⊥) → flag ≡ isDeclaration rows link → flag ≡ isParameter rows link
-unfolding isParameter
+pub parameter-flag : (rows : List ℤ) (link : ℕ) {flag : Bool} → (link ≡ 0 → ⊥) → flag ≡ is_declaration rows link → flag ≡ is_parameter rows link
+unfolding is_parameter
 parameter-flag rows zero some e = absurd (some refl)
 parameter-flag rows (suc link) some e = e
 
-pub no-parameter-flag : (rows : List ℤ) (link : ℕ) → link ≡ 0 → false ≡ isParameter rows link
-unfolding isParameter
+pub no-parameter-flag : (rows : List ℤ) (link : ℕ) → link ≡ 0 → false ≡ is_parameter rows link
+unfolding is_parameter
 no-parameter-flag rows zero z = refl
 no-parameter-flag rows (suc link) z = absurd (omega arith)
 
 module _ {rows : List ℤ} (readable : Readable rows) where
-  onward-list : (link next : ℕ) → (0 < next → link < next) → later [] link (parametersAt rows) next ≡ parameterListAt rows next
+  onward-list : (link next : ℕ) → (0 < next → link < next) → later [] link (parameters_at rows) next ≡ parameter_list_at rows next
   onward-list link zero later-on = rw (le-ltb link 0 (omega arith))
   onward-list link (suc next) later-on = rw (lt-ltb link (suc next) (later-on (omega arith)))
 
-  pub parameter-more : (link : ℕ) → link < rowCount rows → isParameter rows link ≡ true → parameterListAt rows link ≡ number_at rows link 1 ∷ parameterListAt rows (number_at rows link 5)
-  unfolding isParameter
+  pub parameter-more : (link : ℕ) → link < row_count rows → is_parameter rows link ≡ true → parameter_list_at rows link ≡ number_at rows link 1 ∷ parameter_list_at rows (number_at rows link 5)
+  unfolding is_parameter
   parameter-more zero inside e = absurd (let z : ◌≡◌ {A = ℕ} 0 1 = cc in omega arith)
   parameter-more (suc link) inside e =
       rw (parameters-at rows readable.sound.whole (suc link), e) (ap (λ (l : List ℕ). number_at rows (suc link) 1 ∷ l) (onward-list (suc link) (number_at rows (suc link) 5) (next-later readable inside)))
 
-  pub parameter-none : (link : ℕ) → isParameter rows link ≡ false → parameterListAt rows link ≡ []
-  unfolding isParameter
+  pub parameter-none : (link : ℕ) → is_parameter rows link ≡ false → parameter_list_at rows link ≡ []
+  unfolding is_parameter
   parameter-none zero e = refl
   parameter-none (suc link) e = rw (parameters-at rows readable.sound.whole (suc link), e)
 
   module _ (level word : ℕ) (next : ℕ) where
-    pub parameter-line : next < rowCount rows → isParameter rows next ≡ true
-        → parameterLines level word (parameterListAt rows next) ≡ indented level (parameter word) ∷ parameterLines level (number_at rows next 1) (parameterListAt rows (number_at rows next 5))
-    unfolding parameterLines
-    parameter-line inside e = ap (parameterLines level word) (parameter-more next inside e)
+    pub parameter-line : next < row_count rows → is_parameter rows next ≡ true
+        → parameter_lines level word (parameter_list_at rows next) ≡ indented level (parameter word) ∷ parameter_lines level (number_at rows next 1) (parameter_list_at rows (number_at rows next 5))
+    unfolding parameter_lines
+    parameter-line inside e = ap (parameter_lines level word) (parameter-more next inside e)
 
-    pub last-parameter-line : isParameter rows next ≡ false → parameterLines level word (parameterListAt rows next) ≡ indented level (lastParameter word) ∷ []
-    unfolding parameterLines
-    last-parameter-line e = ap (parameterLines level word) (parameter-none next e)
+    pub last-parameter-line : is_parameter rows next ≡ false → parameter_lines level word (parameter_list_at rows next) ≡ indented level (last_parameter word) ∷ []
+    unfolding parameter_lines
+    last-parameter-line e = ap (parameter_lines level word) (parameter-none next e)
 
-  pub definition-alone : (level f link : ℕ) → isParameter rows link ≡ false → definitionLines level f (parameterListAt rows link) ≡ indented level (opensFunction f) ∷ []
-  definition-alone level f link e = ap (definitionLines level f) (parameter-none link e)
+  pub definition-alone : (level f link : ℕ) → is_parameter rows link ≡ false → definition_lines level f (parameter_list_at rows link) ≡ indented level (opens_function f) ∷ []
+  definition-alone level f link e = ap (definition_lines level f) (parameter-none link e)
 
-  pub definition-more : (level f link : ℕ) → link < rowCount rows → isParameter rows link ≡ true
-      → definitionLines level f (parameterListAt rows link) ≡ indented level (opensParameters f) ∷ parameterLines level (number_at rows link 1) (parameterListAt rows (number_at rows link 5))
-  definition-more level f link inside e = ap (definitionLines level f) (parameter-more link inside e)
+  pub definition-more : (level f link : ℕ) → link < row_count rows → is_parameter rows link ≡ true
+      → definition_lines level f (parameter_list_at rows link) ≡ indented level (opens_parameters f) ∷ parameter_lines level (number_at rows link 1) (parameter_list_at rows (number_at rows link 5))
+  definition-more level f link inside e = ap (definition_lines level f) (parameter-more link inside e)
 
 -- ---- lines printed behind others
 

@@ -1,11 +1,11 @@
 -- Laws of readiness: for the first of some lines, and for those behind.
 use Rattle.std.specs.Prelude.{◌≡◌, List, [], ◌∷◌, ◌++◌, ℕ, ◌+◌, ◌*◌, ◌≤◌, ◌<◌, ℤ, length}
 use Rattle.std.proofs.Common.{arith, length-append}
-use Rattle.words.specs.Table.{rowCount}
+use Rattle.words.specs.Table.{row_count}
 use Rattle.page.specs.declared.Sizes.{Sizes}
 use Rattle.page.specs.Lines.{Indented, indented}
 use Rattle.page_line.specs.declared.LineAt.{LineAt}
-use Rattle.page_line.specs.Contents.{lineTree, LineInside}
+use Rattle.page_line.specs.Contents.{line_tree, LineInside}
 use Rattle.page_line.specs.LaidLaws.{laid-length}
 use Rattle.page_line.specs.Printed.{LineRoom, Printed}
 use Rattle.page_printer.specs.Ready.{Narrow, Ready}
@@ -46,7 +46,7 @@ module _ {sizes : Sizes} {rows : List ℤ} {level done : ℕ} {page : List ℕ} 
       let behind = ready-behind (x ∷ []) ys r p in
       record { readable = behind.readable; narrow = behind.narrow; few = behind.few; shallow = omega (arith, r.shallow); room = behind.room }
 
-  pub ready-line : (line : LineAt) → Ready sizes rows (indented level (lineTree rows line) ∷ []) level done page → LineInside (rowCount rows) line → LineRoom sizes rows line done page
+  pub ready-line : (line : LineAt) → Ready sizes rows (indented level (line_tree rows line) ∷ []) level done page → LineInside (row_count rows) line → LineRoom sizes rows line done page
   unfolding Narrow
   ready-line line r inside = record {
     readable = r.readable;

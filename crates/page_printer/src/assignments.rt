@@ -1,8 +1,8 @@
 // Which lines an expression statement has: one, or those of a call with arguments.
 ghost use Rattle.std.specs.Prelude.{◌≡◌, ◌<◌};
-ghost use Rattle.words.specs.Table.{rowCount};
-ghost use Rattle.page_line.specs.Reads.{expressionShapeAt, argumentAt, Readable, OperationInside};
-ghost use Rattle.page_printer.specs.Outlines.{calledOutline, valueOutline, operationOutline, expressOutline};
+ghost use Rattle.words.specs.Table.{row_count};
+ghost use Rattle.page_line.specs.Reads.{expression_shape_at, argument_at, Readable, OperationInside};
+ghost use Rattle.page_printer.specs.Outlines.{called_outline, value_outline, operation_outline, express_outline};
 
 use super::Outline;
 use language_shapes::{ArgumentShape, ExpressionShape, OperationShape};
@@ -18,8 +18,8 @@ fn called_outline(
     number: usize,
     link: usize,
 ) -> Outline
-    requires { Readable rows.now × (link < rowCount rows.now) }
-    ensures { result ≡ calledOutline rows.now expression place number link (argumentAt rows.now link) }
+    requires { Readable rows.now × (link < row_count rows.now) }
+    ensures { result ≡ called_outline rows.now expression place number link (argument_at rows.now link) }
 {
     let first = argument_at(rows, link);
     match first {
@@ -34,8 +34,8 @@ fn called_outline(
 
 // An assignment, by the row of its value.
 fn value_outline(rows: &[i32], expression: usize, place: usize, value: usize) -> Outline
-    requires { Readable rows.now × (value < rowCount rows.now) }
-    ensures { result ≡ valueOutline rows.now expression place (expressionShapeAt rows.now value) }
+    requires { Readable rows.now × (value < row_count rows.now) }
+    ensures { result ≡ value_outline rows.now expression place (expression_shape_at rows.now value) }
 {
     let shape = expression_at(rows, value);
     match shape {
@@ -50,8 +50,8 @@ fn value_outline(rows: &[i32], expression: usize, place: usize, value: usize) ->
 }
 
 fn operation_outline(rows: &[i32], expression: usize, operation: OperationShape) -> Outline
-    requires { Readable rows.now × OperationInside (rowCount rows.now) operation }
-    ensures { result ≡ operationOutline rows.now expression operation }
+    requires { Readable rows.now × OperationInside (row_count rows.now) operation }
+    ensures { result ≡ operation_outline rows.now expression operation }
 {
     match operation {
         OperationShape::Assign(place, value) => value_outline(rows, expression, place, value),
@@ -67,8 +67,8 @@ fn operation_outline(rows: &[i32], expression: usize, operation: OperationShape)
 
 // The lines of an expression statement, by the row of its expression.
 pub fn express_outline(rows: &[i32], expression: usize) -> Outline
-    requires { Readable rows.now × (expression < rowCount rows.now) }
-    ensures { result ≡ expressOutline rows.now expression }
+    requires { Readable rows.now × (expression < row_count rows.now) }
+    ensures { result ≡ express_outline rows.now expression }
 {
     let shape = expression_at(rows, expression);
     match shape {

@@ -1,12 +1,12 @@
 // The lines of arguments and parameters: one each, the last of which closes the parentheses. Counted, and printed behind those that are done.
 ghost use Rattle.std.specs.Prelude.{◌≡◌, ◌<◌, ◌+◌, length};
-ghost use Rattle.words.specs.Table.{rowCount, number_at};
-ghost use Rattle.language.specs.Decode.{expressionAt, argumentListAt, parameterListAt};
-ghost use Rattle.language.specs.Calls.{argumentCount};
-ghost use Rattle.page.specs.Lines.{argumentLines, parameterLines, definitionLines};
+ghost use Rattle.words.specs.Table.{row_count, number_at};
+ghost use Rattle.language.specs.Decode.{expression_at, argument_list_at, parameter_list_at};
+ghost use Rattle.language.specs.Calls.{argument_count};
+ghost use Rattle.page.specs.Lines.{argument_lines, parameter_lines, definition_lines};
 ghost use Rattle.page_line.specs.Reads.{Readable};
 ghost use Rattle.page_line.specs.Printed.{Printed};
-ghost use Rattle.page_printer.specs.Outlines.{isParameter};
+ghost use Rattle.page_printer.specs.Outlines.{is_parameter};
 ghost use Rattle.page_printer.specs.Ready.{Ready};
 
 use language_shapes::ArgumentShape;
@@ -19,8 +19,8 @@ use words::table::number_at;
 
 // The arguments that a link leads to.
 pub fn count_arguments(rows: &[i32], link: usize) -> usize
-    requires { Readable rows.now × (link < rowCount rows.now) × (argumentCount (argumentListAt rows.now link) < 100000) }
-    ensures { result ≡ argumentCount (argumentListAt rows.now link) }
+    requires { Readable rows.now × (link < row_count rows.now) × (argument_count (argument_list_at rows.now link) < 100000) }
+    ensures { result ≡ argument_count (argument_list_at rows.now link) }
 {
     let mut along = link;
     let mut count: usize = 0;
@@ -36,8 +36,8 @@ pub fn count_arguments(rows: &[i32], link: usize) -> usize
 
 // A link that leads to a parameter.
 fn is_parameter(rows: &[i32], link: usize) -> bool
-    requires { Readable rows.now × (link < rowCount rows.now) }
-    ensures { result ≡ isParameter rows.now link }
+    requires { Readable rows.now × (link < row_count rows.now) }
+    ensures { result ≡ is_parameter rows.now link }
 {
     if link == 0 {
         return false;
@@ -47,8 +47,8 @@ fn is_parameter(rows: &[i32], link: usize) -> bool
 
 // The parameters that a link leads to.
 pub fn count_parameters(rows: &[i32], link: usize) -> usize
-    requires { Readable rows.now × (link < rowCount rows.now) × (length (parameterListAt rows.now link) < 100000) }
-    ensures { result ≡ length (parameterListAt rows.now link) }
+    requires { Readable rows.now × (link < row_count rows.now) × (length (parameter_list_at rows.now link) < 100000) }
+    ensures { result ≡ length (parameter_list_at rows.now link) }
 {
     let mut along = link;
     let mut count: usize = 0;
@@ -69,8 +69,8 @@ pub fn print_arguments(
     done: usize,
     page: &mut [u8],
 ) -> usize
-    requires { Ready sizes rows.now (argumentLines level (expressionAt rows.now first) (argumentListAt rows.now link)) level done page.old × (first < rowCount rows.now) × (link < rowCount rows.now) }
-    ensures { Printed sizes (argumentLines level (expressionAt rows.now first) (argumentListAt rows.now link)) page.old done result page.new }
+    requires { Ready sizes rows.now (argument_lines level (expression_at rows.now first) (argument_list_at rows.now link)) level done page.old × (first < row_count rows.now) × (link < row_count rows.now) }
+    ensures { Printed sizes (argument_lines level (expression_at rows.now first) (argument_list_at rows.now link)) page.old done result page.new }
 {
     let mut row = first;
     let mut along = link;
@@ -95,8 +95,8 @@ fn print_parameters(
     done: usize,
     page: &mut [u8],
 ) -> usize
-    requires { Ready sizes rows.now (parameterLines level (number_at rows.now first 1) (parameterListAt rows.now (number_at rows.now first 5))) level done page.old × (first < rowCount rows.now) }
-    ensures { Printed sizes (parameterLines level (number_at rows.now first 1) (parameterListAt rows.now (number_at rows.now first 5))) page.old done result page.new }
+    requires { Ready sizes rows.now (parameter_lines level (number_at rows.now first 1) (parameter_list_at rows.now (number_at rows.now first 5))) level done page.old × (first < row_count rows.now) }
+    ensures { Printed sizes (parameter_lines level (number_at rows.now first 1) (parameter_list_at rows.now (number_at rows.now first 5))) page.old done result page.new }
 {
     let mut row = first;
     let mut lines = done;
@@ -121,8 +121,8 @@ pub fn print_definition(
     done: usize,
     page: &mut [u8],
 ) -> usize
-    requires { Ready sizes rows.now (definitionLines level number (parameterListAt rows.now link)) level done page.old × (link < rowCount rows.now) }
-    ensures { Printed sizes (definitionLines level number (parameterListAt rows.now link)) page.old done result page.new }
+    requires { Ready sizes rows.now (definition_lines level number (parameter_list_at rows.now link)) level done page.old × (link < row_count rows.now) }
+    ensures { Printed sizes (definition_lines level number (parameter_list_at rows.now link)) page.old done result page.new }
 {
     if !is_parameter(rows, link) {
         return print_line(

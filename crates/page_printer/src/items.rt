@@ -1,8 +1,8 @@
 // Which lines an item has of its own, and where a block's list begins.
 ghost use Rattle.std.specs.Prelude.{◌≡◌, ◌+◌, ◌*◌, ◌<◌, length};
-ghost use Rattle.words.specs.Table.{rowCount};
+ghost use Rattle.words.specs.Table.{row_count};
 ghost use Rattle.page_line.specs.Reads.{Readable};
-ghost use Rattle.page_printer.specs.Outlines.{ifOutline, statementOutline, outlineAt, list_of, blockList, ExpressInside};
+ghost use Rattle.page_printer.specs.Outlines.{if_outline, statement_outline, outline_at, list_of, block_list, ExpressInside};
 
 use super::Outline;
 use super::assignments::express_outline;
@@ -11,7 +11,7 @@ use language_shapes::{Shape, StatementShape};
 use page_line::LineAt;
 
 fn if_outline(test: usize, first: usize, second: usize) -> Outline
-    ensures { result ≡ ifOutline test first second }
+    ensures { result ≡ if_outline test first second }
 {
     if second == 0 {
         return Outline::Nothing;
@@ -20,8 +20,8 @@ fn if_outline(test: usize, first: usize, second: usize) -> Outline
 }
 
 fn statement_outline(rows: &[i32], row: usize, statement: StatementShape) -> Outline
-    requires { Readable rows.now × ExpressInside (rowCount rows.now) statement }
-    ensures { result ≡ statementOutline rows.now row statement }
+    requires { Readable rows.now × ExpressInside (row_count rows.now) statement }
+    ensures { result ≡ statement_outline rows.now row statement }
 {
     match statement {
         StatementShape::Empty => Outline::Single(LineAt::Empty),
@@ -45,8 +45,8 @@ fn statement_outline(rows: &[i32], row: usize, statement: StatementShape) -> Out
 
 // The lines of the item at a row. A row that is no item counts as an empty statement.
 pub fn outline_at(rows: &[i32], row: usize) -> Outline
-    requires { Readable rows.now × (row < rowCount rows.now) }
-    ensures { result ≡ outlineAt rows.now row }
+    requires { Readable rows.now × (row < row_count rows.now) }
+    ensures { result ≡ outline_at rows.now row }
 {
     let shape = shape_at(rows, row);
     match shape {
@@ -88,7 +88,7 @@ fn list_of(statement: StatementShape) -> usize
 // The first item of the block at a row, or 0.
 pub fn block_list(rows: &[i32], row: usize) -> usize
     requires { 6 * row + 5 < length rows.now }
-    ensures { result ≡ blockList rows.now row }
+    ensures { result ≡ block_list rows.now row }
 {
     let shape = shape_at(rows, row);
     match shape {

@@ -1,4 +1,6 @@
 // The printer of kernel pages: how many lines a table has, and the page.
+#![tactic(auto)]
+
 pub mod assignments; // assignments.rt: which lines an expression statement has
 pub mod functions; // functions.rt: the lines of arguments and parameters
 pub mod items; // items.rt: which lines an item has of its own
@@ -12,7 +14,7 @@ use page_line::LineAt;
 // one, and those of arguments; those of a definition, before its block and the closing one. A block is told by its row; arguments by the row
 // of the first one's expression and the link behind it; a definition by its number, the link to its parameters and its block. What the kernel
 // does not have has no lines.
-#[derive(Drop)]
+#[derive(Clone, Copy)]
 pub enum Outline {
     Single(LineAt),
     Enclosed(LineAt, usize),

@@ -1,12 +1,12 @@
 // The lines of lists, printed behind those that are done: lists and items call each other, as deep as the program. Each function
 // answers how many lines are done then.
 ghost use Rattle.std.specs.Prelude.{◌+◌, ◌<◌};
-ghost use Rattle.words.specs.Table.{rowCount};
-ghost use Rattle.language.specs.Decode.{listAt};
-ghost use Rattle.page.specs.Lines.{itemsLines};
+ghost use Rattle.words.specs.Table.{row_count};
+ghost use Rattle.language.specs.Decode.{list_at};
+ghost use Rattle.page.specs.Lines.{items_lines};
 ghost use Rattle.page_line.specs.Contents.{LineInside};
 ghost use Rattle.page_line.specs.Printed.{Printed};
-ghost use Rattle.page_printer.specs.Outlines.{enclosed, outlined, outlineAt};
+ghost use Rattle.page_printer.specs.Outlines.{enclosed, outlined, outline_at};
 ghost use Rattle.page_printer.specs.Ready.{Ready};
 
 use super::Outline;
@@ -18,7 +18,7 @@ use page_line::whole::print_line;
 use words::table::number_at;
 
 // The list from a first item on; 0 is the empty list.
-#[cycle(print_enclosed_print_item_print_list)]
+#[cycle(print_items)]
 pub fn print_list(
     sizes: Sizes,
     rows: &[i32],
@@ -27,8 +27,8 @@ pub fn print_list(
     done: usize,
     page: &mut [u8],
 ) -> usize
-    requires { Ready sizes rows.now (itemsLines level (listAt rows.now first)) level done page.old × (first < rowCount rows.now) }
-    ensures { Printed sizes (itemsLines level (listAt rows.now first)) page.old done result page.new }
+    requires { Ready sizes rows.now (items_lines level (list_at rows.now first)) level done page.old × (first < row_count rows.now) }
+    ensures { Printed sizes (items_lines level (list_at rows.now first)) page.old done result page.new }
 {
     let mut row = first;
     let mut lines = done;
@@ -40,7 +40,7 @@ pub fn print_list(
 }
 
 // An item.
-#[cycle(print_enclosed_print_item_print_list)]
+#[cycle(print_items)]
 fn print_item(
     sizes: Sizes,
     rows: &[i32],
@@ -49,8 +49,8 @@ fn print_item(
     done: usize,
     page: &mut [u8],
 ) -> usize
-    requires { Ready sizes rows.now (outlined rows.now level (outlineAt rows.now row)) level done page.old × (row < rowCount rows.now) }
-    ensures { Printed sizes (outlined rows.now level (outlineAt rows.now row)) page.old done result page.new }
+    requires { Ready sizes rows.now (outlined rows.now level (outline_at rows.now row)) level done page.old × (row < row_count rows.now) }
+    ensures { Printed sizes (outlined rows.now level (outline_at rows.now row)) page.old done result page.new }
 {
     let outline = outline_at(rows, row);
     match outline {
@@ -79,7 +79,7 @@ fn print_item(
 }
 
 // A line, and the list of a block a level deeper.
-#[cycle(print_enclosed_print_item_print_list)]
+#[cycle(print_items)]
 fn print_enclosed(
     sizes: Sizes,
     rows: &[i32],
@@ -89,7 +89,7 @@ fn print_enclosed(
     done: usize,
     page: &mut [u8],
 ) -> usize
-    requires { Ready sizes rows.now (enclosed rows.now level line block) level done page.old × LineInside (rowCount rows.now) line × (block < rowCount rows.now) }
+    requires { Ready sizes rows.now (enclosed rows.now level line block) level done page.old × LineInside (row_count rows.now) line × (block < row_count rows.now) }
     ensures { Printed sizes (enclosed rows.now level line block) page.old done result page.new }
 {
     let opened = print_line(sizes, rows, line, level, done, page);

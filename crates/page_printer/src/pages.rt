@@ -1,7 +1,7 @@
 // The page of an accepted kernel table.
 ghost use Rattle.text_form.specs.Answers.{Writes};
 ghost use Rattle.check_kernel.specs.Legal.{Legal};
-ghost use Rattle.page_printer.specs.Pages.{Worded, printAccepted, PageReads};
+ghost use Rattle.page_printer.specs.Pages.{Worded, print_accepted, PageReads};
 
 use super::items::block_list;
 use super::lists::print_list;
@@ -27,7 +27,7 @@ fn pass_words(words: &[i32])
 // what was printed gives back the table.
 pub fn print_accepted(header: &[i32], rows: &[i32], page: &mut [u8]) -> WriteAnswer
     requires { Legal header.now rows.now }
-    ensures writes { Writes (printAccepted header.now rows.now page.old) result page.new }
+    ensures writes { Writes (print_accepted header.now rows.now page.old) result page.new }
     ensures page_reads { PageReads header.now rows.now result page.new }
 {
     pass_words(rows);

@@ -1,8 +1,8 @@
 // How many lines a list has: lists and items call each other, as deep as the program.
 ghost use Rattle.std.specs.Prelude.{◌≡◌, length};
-ghost use Rattle.language.specs.Decode.{listAt};
-ghost use Rattle.page.specs.Lines.{itemsLines};
-ghost use Rattle.page_printer.specs.Outlines.{outlined, outlineAt};
+ghost use Rattle.language.specs.Decode.{list_at};
+ghost use Rattle.page.specs.Lines.{items_lines};
+ghost use Rattle.page_printer.specs.Outlines.{outlined, outline_at};
 ghost use Rattle.page_printer.specs.Ready.{Sized};
 
 use super::Outline;
@@ -11,10 +11,10 @@ use super::items::{block_list, outline_at};
 use words::table::number_at;
 
 // The lines of the list from a first item on; 0 is the empty list.
-#[cycle(count_item_count_list)]
+#[cycle(count_items)]
 pub fn count_list(rows: &[i32], first: usize) -> usize
-    requires { Sized rows.now (itemsLines 0 (listAt rows.now first)) first }
-    ensures { result ≡ length (itemsLines 0 (listAt rows.now first)) }
+    requires { Sized rows.now (items_lines 0 (list_at rows.now first)) first }
+    ensures { result ≡ length (items_lines 0 (list_at rows.now first)) }
 {
     let mut row = first;
     let mut lines: usize = 0;
@@ -26,10 +26,10 @@ pub fn count_list(rows: &[i32], first: usize) -> usize
 }
 
 // The lines of an item.
-#[cycle(count_item_count_list)]
+#[cycle(count_items)]
 fn count_item(rows: &[i32], row: usize) -> usize
-    requires { Sized rows.now (outlined rows.now 0 (outlineAt rows.now row)) row }
-    ensures { result ≡ length (outlined rows.now 0 (outlineAt rows.now row)) }
+    requires { Sized rows.now (outlined rows.now 0 (outline_at rows.now row)) row }
+    ensures { result ≡ length (outlined rows.now 0 (outline_at rows.now row)) }
 {
     let outline = outline_at(rows, row);
     match outline {

@@ -16,13 +16,13 @@ use Rattle.page_words.specs.declared.Names.{Names}
 use Rattle.page_words.specs.declared.LineContent.{LineContent}
 use Rattle.page_words.specs.declared.LineRead.{LineRead}
 use Rattle.page_words.specs.declared.LineRead.TheVariants.{Read, Malformed}
-use Rattle.page_frame.specs.Frames.{statementIn}
-use Rattle.page_blocks.specs.Scans.{lineRows, withLine, lines_from, linesIn}
-use Rattle.page_blocks.specs.ScanLaws.{linesRows, AllFit}
+use Rattle.page_frame.specs.Frames.{statement_in}
+use Rattle.page_blocks.specs.Scans.{line_rows, with_line, lines_from, lines_in}
+use Rattle.page_blocks.proofs.ScanLaws.{lines_rows, AllFit}
 use Rattle.page_scan.specs.Stacks.{stack_of}
-use Rattle.page_rows.specs.Rows.{Left, leftBefore, block_row, lineTable, leftBy, linesTable, pageTable}
-use Rattle.page_rows.specs.Fits.{mostNames, line-fits-most}
-use Rattle.page_rows.specs.SizeLaws.{by_two, length-line, length-page}
+use Rattle.page_rows.specs.Rows.{Left, left_before, block_row, line_table, left_by, lines_table, page_table}
+use Rattle.page_rows.specs.Fits.{most_names, line-fits-most}
+use Rattle.page_rows.proofs.SizeLaws.{by_two, length-line, length-page}
 use Rattle.page_reader.specs.Stacks.{Counted}
 use Rattle.page_reader.proofs.Suffixes.{one_more, rows-within, fit-within}
 
@@ -49,9 +49,9 @@ pub record Passing (names : Names) (sizes : Sizes) (page : List ℕ) (total : �
   pub all : count ≡ min (length page / 81) 81958
   pub inside : k ≤ count
   pub deep : depth + k ≤ count
-  pub placed : base + linesRows (lines_from names page (count - k) k) ≡ total
-  pub left : record { follows = follows; waiting = stack_of depth waiting } ≡ leftBy (lines_from names page (count - k) k) base
-  pub words : drop (6 * base) rows ≡ linesTable sizes (lines_from names page (count - k) k) base ++ drop (6 * total) old
+  pub placed : base + lines_rows (lines_from names page (count - k) k) ≡ total
+  pub left : record { follows = follows; waiting = stack_of depth waiting } ≡ left_by (lines_from names page (count - k) k) base
+  pub words : drop (6 * base) rows ≡ lines_table sizes (lines_from names page (count - k) k) base ++ drop (6 * total) old
   pub long : length rows ≡ length old
 
 pub slice-long : (page : List ℕ) (k : ℕ) → 81 * k + 81 ≤ length page → length (take (81 * k + 81 - 81 * k) (drop (81 * k) page)) ≡ 81
@@ -59,7 +59,7 @@ slice-long page k h = length-take (81 * k + 81 - 81 * k) (drop (81 * k) page) �
 
 pub passing-start : (names : Names) (sizes : Sizes) (page : List ℕ) (total : ℕ) (old : List ℤ) (waiting : List ℕ) (k : ℕ) → Counted names sizes page total old → k ≡ min (length page / 81) 81958
     → Passing names sizes page total old old waiting 0 false total k
-unfolding lines_from leftBy linesTable stack_of
+unfolding lines_from left_by lines_table stack_of
 passing-start names sizes page total old waiting k c e =
     let none_left : k - k ≡ 0 = omega arith in
     record {
@@ -79,8 +79,8 @@ module _ {names : Names} {sizes : Sizes} {page : List ℕ} {total : ℕ} {old ro
   abbrev rest : List LineContent
   rest = lines_from names page (p.count - k) k
 
-  everything : lines_from names page p.count 0 ≡ linesIn names page
-  unfolding linesIn
+  everything : lines_from names page p.count 0 ≡ lines_in names page
+  unfolding lines_in
   everything = ap (λ (n : ℕ). lines_from names page n 0) p.all
 
   -- ---- no line is left
@@ -88,18 +88,18 @@ module _ {names : Names} {sizes : Sizes} {page : List ℕ} {total : ℕ} {old ro
   pub passing-room : k ≡ 0 → Room 1 0 (length rows)
   passing-room e = record { inside = omega (arith, p.long, p.counted.room, p.counted.all); low = omega arith }
 
-  pub passing-end : k ≡ 0 → (m : List ℤ) → m ≡ over (block_row 0 follows 0) rows → m ≡ over (pageTable sizes (linesIn names page)) old
-  unfolding over pageTable
+  pub passing-end : k ≡ 0 → (m : List ℤ) → m ≡ over (block_row 0 follows 0) rows → m ≡ over (page_table sizes (lines_in names page)) old
+  unfolding over page_table
   passing-end e m h =
       let none_done : p.count - k ≡ p.count = omega arith in
-      let lines : lines_from names page (p.count - k) k ≡ linesIn names page = ap₂ (lines_from names page) none_done e ∙ everything in
-      let placed : base + linesRows (linesIn names page) ≡ total = rw lines at p.placed in
+      let lines : lines_from names page (p.count - k) k ≡ lines_in names page = ap₂ (lines_from names page) none_done e ∙ everything in
+      let placed : base + lines_rows (lines_in names page) ≡ total = rw lines at p.placed in
       let first : base ≡ 1 = omega (arith, p.counted.all) in
-      let left : record { follows = follows; waiting = stack_of depth waiting } ≡ leftBy (linesIn names page) 1 = rw (lines, first) at p.left in
-      let goes : follows ≡ (leftBy (linesIn names page) 1).follows = ap (λ (l : Left). l.follows) left in
-      let words : drop 6 rows ≡ linesTable sizes (linesIn names page) 1 ++ drop (6 * total) old = rw (lines, first) at p.words in
-      let size : 6 * total ≡ length (pageTable sizes (linesIn names page)) = ap (λ (n : ℕ). 6 * n) p.counted.all ∙ sym (length-page sizes (linesIn names page)) in
-      h ∙ ap₂ (λ (f : Bool) (l : List ℤ). block_row 0 f 0 ++ l) goes (words ∙ ap (λ (n : ℕ). linesTable sizes (linesIn names page) 1 ++ drop n old) size)
+      let left : record { follows = follows; waiting = stack_of depth waiting } ≡ left_by (lines_in names page) 1 = rw (lines, first) at p.left in
+      let goes : follows ≡ (left_by (lines_in names page) 1).follows = ap (λ (l : Left). l.follows) left in
+      let words : drop 6 rows ≡ lines_table sizes (lines_in names page) 1 ++ drop (6 * total) old = rw (lines, first) at p.words in
+      let size : 6 * total ≡ length (page_table sizes (lines_in names page)) = ap (λ (n : ℕ). 6 * n) p.counted.all ∙ sym (length-page sizes (lines_in names page)) in
+      h ∙ ap₂ (λ (f : Bool) (l : List ℤ). block_row 0 f 0 ++ l) goes (words ∙ ap (λ (n : ℕ). lines_table sizes (lines_in names page) 1 ++ drop n old) size)
 
   -- ---- one line before those that are done
 
@@ -110,19 +110,19 @@ module _ {names : Names} {sizes : Sizes} {page : List ℕ} {total : ℕ} {old ro
     pub shallow : depth < 81958
     shallow = omega (arith, p.deep, p.all)
 
-    module _ (read : LineRead) (e : read ≡ statementIn names (take (81 * (k - 1) + 81 - 81 * (k - 1)) (drop (81 * (k - 1)) page))) where
-      lines_are : lines_from names page (p.count - (k - 1)) (k - 1) ≡ withLine read rest
+    module _ (read : LineRead) (e : read ≡ statement_in names (take (81 * (k - 1) + 81 - 81 * (k - 1)) (drop (81 * (k - 1)) page))) where
+      lines_are : lines_from names page (p.count - (k - 1)) (k - 1) ≡ with_line read rest
       lines_are =
           let left : p.count - (k - 1) ≡ suc (p.count - k) = omega (arith, p.inside) in
           let next : suc (k - 1) ≡ k = omega arith in
           let size : 81 * (k - 1) + 81 - 81 * (k - 1) ≡ 81 = omega arith in
           ap (λ (n : ℕ). lines_from names page n (k - 1)) left ∙ one_more names page (p.count - k) (k - 1)
-          ∙ ap₂ (λ (r : LineRead) (n : ℕ). withLine r (lines_from names page (p.count - k) n)) (sym (e ∙ ap (λ (n : ℕ). statementIn names (take n (drop (81 * (k - 1)) page))) size)) next
+          ∙ ap₂ (λ (r : LineRead) (n : ℕ). with_line r (lines_from names page (p.count - k) n)) (sym (e ∙ ap (λ (n : ℕ). statement_in names (take n (drop (81 * (k - 1)) page))) size)) next
 
       -- No line.
       pub passing-skip : read ≡ Malformed → Passing names sizes page total old rows waiting depth follows base (k - 1)
       passing-skip q =
-          let same : lines_from names page (p.count - (k - 1)) (k - 1) ≡ rest = lines_are ∙ ap (λ (r : LineRead). withLine r rest) q in
+          let same : lines_from names page (p.count - (k - 1)) (k - 1) ≡ rest = lines_are ∙ ap (λ (r : LineRead). with_line r rest) q in
           record {
             counted = p.counted;
             count = p.count;
@@ -137,54 +137,54 @@ module _ {names : Names} {sizes : Sizes} {page : List ℕ} {total : ℕ} {old ro
 
       module _ (line : LineContent) (q : read ≡ Read line) where
         begins : lines_from names page (p.count - (k - 1)) (k - 1) ≡ line ∷ rest
-        begins = lines_are ∙ ap (λ (r : LineRead). withLine r rest) q
+        begins = lines_are ∙ ap (λ (r : LineRead). with_line r rest) q
 
         all_lines : p.count - (k - 1) + (k - 1) ≡ p.count
         all_lines = omega (arith, p.inside)
 
         -- The line's rows have room before those of the lines behind it.
-        pub rows_left : lineRows line < base
-        rows_left =
+        pub rows-left : line_rows line < base
+        rows-left =
             let most = rows-within names page (k - 1) (p.count - (k - 1)) in
-            let bound : linesRows (line ∷ rest) ≤ linesRows (linesIn names page) = rw (begins, all_lines, everything) at most in
+            let bound : lines_rows (line ∷ rest) ≤ lines_rows (lines_in names page) = rw (begins, all_lines, everything) at most in
             omega (arith, p.placed, p.counted.all)
 
-        pub line-fits : LineFits mostNames line
+        pub line-fits : LineFits most_names line
         unfolding AllFit
         line-fits =
             let whole : AllFit names (lines_from names page (p.count - (k - 1) + (k - 1)) 0) = rw (all_lines, everything) p.counted.fit in
             let own : AllFit names (line ∷ rest) = rw begins at (fit-within names page (k - 1) (p.count - (k - 1)) whole) in
-            line-fits-most names p.counted.few-variables p.counted.few-behind p.counted.few-arrays line own.0
+            line-fits-most names p.counted.few_variables p.counted.few_behind p.counted.few_arrays line own.0
 
-        module _ (n : ℕ) (counted : n ≡ lineRows line) where
+        module _ (n : ℕ) (counted : n ≡ line_rows line) where
           pub row_low : base - n + 2 < 65536
           row_low = omega (arith, p.placed, p.counted.few)
 
           pub row_inside : 6 * (base - n) ≤ length rows
           row_inside = omega (arith, p.placed, p.counted.room, p.long)
 
-          pub line-room : Room (lineRows line) (base - n) (length (part (6 * (base - n)) rows))
+          pub line-room : Room (line_rows line) (base - n) (length (part (6 * (base - n)) rows))
           line-room = record {
-            inside = rw (part-is (6 * (base - n)) rows, length-drop) (omega (arith, rows_left, p.placed, p.counted.room, p.long));
-            low = omega (arith, rows_left, p.placed, p.counted.few);
+            inside = rw (part-is (6 * (base - n)) rows, length-drop) (omega (arith, rows-left, p.placed, p.counted.room, p.long));
+            low = omega (arith, rows-left, p.placed, p.counted.few);
           }
 
           pub passing-next : (out : List ℤ) (first second : ℕ) (others : List ℕ) (deeper : ℕ) (goes : Bool)
-              → out ≡ over (lineTable sizes line (base - n) (record { follows = follows; waiting = first ∷ second ∷ [] })) (part (6 * (base - n)) rows)
+              → out ≡ over (line_table sizes line (base - n) (record { follows = follows; waiting = first ∷ second ∷ [] })) (part (6 * (base - n)) rows)
               → first ≡ get_or (stack_of depth waiting) 0 0 → second ≡ get_or (stack_of depth waiting) 1 0
-              → record { follows = goes; waiting = stack_of deeper others } ≡ leftBefore line (base - n) (record { follows = follows; waiting = stack_of depth waiting }) → deeper ≤ depth + 1
+              → record { follows = goes; waiting = stack_of deeper others } ≡ left_before line (base - n) (record { follows = follows; waiting = stack_of depth waiting }) → deeper ≤ depth + 1
               → Passing names sizes page total old (back_in (6 * (base - n)) rows out) others deeper goes (base - n) (k - 1)
-          unfolding leftBy linesTable
+          unfolding left_by lines_table
           passing-next out first second others deeper goes w f s l d =
               let now : Left = record { follows = follows; waiting = stack_of depth waiting } in
-              let behind : base - n + lineRows line ≡ base = omega (arith, rows_left) in
-              let held : now ≡ leftBy rest (base - n + lineRows line) = p.left ∙ ap (leftBy rest) (sym behind) in
-              let own = lineTable sizes line (base - n) (leftBy rest (base - n + lineRows line)) in
-              let said : lineTable sizes line (base - n) (record { follows = follows; waiting = first ∷ second ∷ [] }) ≡ own =
-              ap₂ (λ (x y : ℕ). lineTable sizes line (base - n) (record { follows = follows; waiting = x ∷ y ∷ [] })) f s ∙ by_two sizes line (base - n) follows (stack_of depth waiting)
-              ∙ ap (lineTable sizes line (base - n)) held in
+              let behind : base - n + line_rows line ≡ base = omega (arith, rows-left) in
+              let held : now ≡ left_by rest (base - n + line_rows line) = p.left ∙ ap (left_by rest) (sym behind) in
+              let own = line_table sizes line (base - n) (left_by rest (base - n + line_rows line)) in
+              let said : line_table sizes line (base - n) (record { follows = follows; waiting = first ∷ second ∷ [] }) ≡ own =
+              ap₂ (λ (x y : ℕ). line_table sizes line (base - n) (record { follows = follows; waiting = x ∷ y ∷ [] })) f s ∙ by_two sizes line (base - n) follows (stack_of depth waiting)
+              ∙ ap (line_table sizes line (base - n)) held in
               let own-words : out ≡ over own (part (6 * (base - n)) rows) = w ∙ ap (λ (t : List ℤ). over t (part (6 * (base - n)) rows)) said in
-              let size : length own ≡ 6 * lineRows line = length-line sizes line (base - n) (leftBy rest (base - n + lineRows line)) in
+              let size : length own ≡ 6 * line_rows line = length-line sizes line (base - n) (left_by rest (base - n + line_rows line)) in
               let end : 6 * (base - n) + length own ≡ 6 * base = omega (arith, size, behind) in
               let room = line-room.inside in
               let span : length (part (6 * (base - n)) rows) ≡ length rows - 6 * (base - n) = ap length (part-is (6 * (base - n)) rows) ∙ length-drop (6 * (base - n)) rows in
@@ -195,10 +195,10 @@ module _ {names : Names} {sizes : Sizes} {page : List ℕ} {total : ℕ} {old ro
                 inside = omega (arith, p.inside);
                 deep = omega (arith, p.deep);
                 placed = rw begins (omega (arith, p.placed, behind));
-                left = rw begins (l ∙ ap (leftBefore line (base - n)) held);
+                left = rw begins (l ∙ ap (left_before line (base - n)) held);
                 words = rw begins
                     (put-behind (6 * (base - n)) own rows out row_inside own-words ∙ ap (λ (m : ℕ). own ++ drop m rows) end
-                    ∙ ap (λ (t : List ℤ). own ++ t) (p.words ∙ ap (λ (b : ℕ). linesTable sizes rest b ++ drop (6 * total) old) (sym behind))
-                    ∙ sym (append_assoc own (linesTable sizes rest (base - n + lineRows line)) (drop (6 * total) old)));
+                    ∙ ap (λ (t : List ℤ). own ++ t) (p.words ∙ ap (λ (b : ℕ). lines_table sizes rest b ++ drop (6 * total) old) (sym behind))
+                    ∙ sym (append_assoc own (lines_table sizes rest (base - n + line_rows line)) (drop (6 * total) old)));
                 long = back_long (6 * (base - n)) own rows out row_inside own-words (omega (arith, size, room, span)) ∙ p.long;
               }

@@ -9,32 +9,32 @@ use Rattle.page_words.specs.declared.Names.{Names}
 use Rattle.page_words.specs.declared.LineContent.{LineContent}
 use Rattle.page_words.specs.declared.LineRead.{LineRead}
 use Rattle.page_words.specs.declared.LineRead.TheVariants.{Read, Malformed}
-use Rattle.page_frame.specs.Frames.{statementIn}
-use Rattle.page_blocks.specs.Scans.{lineRows, withLine, lines_from, linesIn}
-use Rattle.page_blocks.specs.ScanLaws.{linesRows, AllFit}
+use Rattle.page_frame.specs.Frames.{statement_in}
+use Rattle.page_blocks.specs.Scans.{line_rows, with_line, lines_from, lines_in}
+use Rattle.page_blocks.proofs.ScanLaws.{lines_rows, AllFit}
 
 module _ (names : Names) (page : List ℕ) where
-  abbrev statementAt : ℕ → LineRead
-  statementAt k = statementIn names (take 81 (drop (81 * k) page))
+  abbrev statement_at : ℕ → LineRead
+  statement_at k = statement_in names (take 81 (drop (81 * k) page))
 
   -- One line more.
-  pub one_more : (left k : ℕ) → lines_from names page (suc left) k ≡ withLine (statementAt k) (lines_from names page left (suc k))
+  pub one_more : (left k : ℕ) → lines_from names page (suc left) k ≡ with_line (statement_at k) (lines_from names page left (suc k))
   unfolding lines_from
-  one_more left k = ap (λ (n : ℕ). withLine (statementAt k) (lines_from names page left n)) (add-one k)
+  one_more left k = ap (λ (n : ℕ). with_line (statement_at k) (lines_from names page left n)) (add-one k)
 
-  more_rows : (read : LineRead) (lines : List LineContent) → linesRows lines ≤ linesRows (withLine read lines)
-  more_rows Malformed lines = omega arith
-  more_rows (Read line) lines = omega arith
+  more-rows : (read : LineRead) (lines : List LineContent) → lines_rows lines ≤ lines_rows (with_line read lines)
+  more-rows Malformed lines = omega arith
+  more-rows (Read line) lines = omega arith
 
-  pub rows-within : (k left : ℕ) → linesRows (lines_from names page left k) ≤ linesRows (lines_from names page (left + k) 0)
+  pub rows-within : (k left : ℕ) → lines_rows (lines_from names page left k) ≤ lines_rows (lines_from names page (left + k) 0)
   rows-within zero left = let all : left + 0 ≡ left = omega arith in rw all (omega arith)
   rows-within (suc k) left =
       let sum : suc left + k ≡ left + suc k = omega arith in
       let step = rows-within k (suc left) in
-      let first : linesRows (withLine (statementAt k) (lines_from names page left (suc k))) ≤ linesRows (lines_from names page (left + suc k) 0) = rw (one_more left k, sum) at step in
-      omega (arith, more_rows (statementAt k) (lines_from names page left (suc k)))
+      let first : lines_rows (with_line (statement_at k) (lines_from names page left (suc k))) ≤ lines_rows (lines_from names page (left + suc k) 0) = rw (one_more left k, sum) at step in
+      omega (arith, more-rows (statement_at k) (lines_from names page left (suc k)))
 
-  less-fit : (read : LineRead) (lines : List LineContent) → AllFit names (withLine read lines) → AllFit names lines
+  less-fit : (read : LineRead) (lines : List LineContent) → AllFit names (with_line read lines) → AllFit names lines
   unfolding AllFit
   less-fit Malformed lines h = h
   less-fit (Read line) lines h = h.1
@@ -44,4 +44,4 @@ module _ (names : Names) (page : List ℕ) where
   fit-within (suc k) left h =
       let sum : left + suc k ≡ suc left + k = omega arith in
       let step = fit-within k (suc left) (rw sum at h) in
-      less-fit (statementAt k) (lines_from names page left (suc k)) (rw (one_more left k) at step)
+      less-fit (statement_at k) (lines_from names page left (suc k)) (rw (one_more left k) at step)

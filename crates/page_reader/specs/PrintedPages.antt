@@ -5,21 +5,21 @@ use Rattle.std.proofs.Common.{arith}
 use Rattle.std.specs.Int.Signed.{mag}
 use borrow.Author.Tests.{le-leb}
 use Rattle.words.specs.Word.{pick}
-use Rattle.words.specs.Table.{rowCount}
-use Rattle.words.specs.Laws.{countFits-facts}
+use Rattle.words.specs.Table.{row_count}
+use Rattle.words.specs.Laws.{count_fits-facts}
 use Rattle.words.specs.Over.{over}
 use Rattle.words.specs.declared.Form.TheVariants.{Kernel}
 use Rattle.check_kernel.specs.Legal.{Legal}
-use Rattle.page.specs.Tables.{tablePage, readTable}
+use Rattle.page.specs.Tables.{table_page, read_table}
 use Rattle.page_reader.specs.TableScans.{table-scans}
-use Rattle.page_reader.specs.Reads.{PageResult, rows_of, refusedAs, answerAndRows, pageResult}
+use Rattle.page_reader.specs.Reads.{PageResult, rows_of, refused_as, answer_and_rows, page_result}
 use Rattle.page_reader.specs.declared.PageAnswer.TheVariants.{Read}
 
 module _ (header rows : List ℤ) (legal : Legal header rows) (words : (i : ℕ) → mag (get_or rows i (pos 0)) < 2 ^ 31) where
-  few : rowCount rows ≤ 40980
-  few = omega (arith, (countFits-facts Kernel (length rows) legal.structured.count-fits).most)
+  few : row_count rows ≤ 40980
+  few = omega (arith, (count_fits-facts Kernel (length rows) legal.structured.count-fits).most)
 
-  pub printed-page-read : (out : List ℤ) → pageResult header (tablePage header rows) out
-      ≡ pick (leb (6 * rowCount rows) (length out)) (answerAndRows (Read (6 * rowCount rows)) (over (rows_of (readTable header (tablePage header rows))) out)) (answerAndRows (refusedAs 10 0) out)
-  unfolding pageResult
-  printed-page-read out = rw (legal.header-fits, table-scans header rows legal words, le-leb (rowCount rows) 40980 few)
+  pub printed-page-read : (out : List ℤ) → page_result header (table_page header rows) out
+      ≡ pick (leb (6 * row_count rows) (length out)) (answer_and_rows (Read (6 * row_count rows)) (over (rows_of (read_table header (table_page header rows))) out)) (answer_and_rows (refused_as 10 0) out)
+  unfolding page_result
+  printed-page-read out = rw (legal.header-fits, table-scans header rows legal words, le-leb (row_count rows) 40980 few)

@@ -2,11 +2,11 @@
 use Rattle.std.specs.Prelude.{◌≡◌, List, [], ℕ, ◌*◌, ◌≤◌, leb, ℤ, length, take}
 use Rattle.std.proofs.Math.Option.{Option, none, some}
 use Rattle.words.specs.Word.{pick}
-use Rattle.words.specs.Layout.{headerFits, rowLimit}
+use Rattle.words.specs.Layout.{header_fits, row_limit}
 use Rattle.words.specs.Numbers.{Numbers, done, refused}
 use Rattle.words.specs.Over.{over}
 use Rattle.words.specs.declared.Form.TheVariants.{Kernel}
-use Rattle.page.specs.Tables.{readTable}
+use Rattle.page.specs.Tables.{read_table}
 use Rattle.page_blocks.specs.Scans.{scan, names_of}
 use Rattle.page_blocks.specs.declared.Scan.{Scan}
 use Rattle.page_blocks.specs.declared.Scan.TheVariants.{Whole, Wrong}
@@ -14,12 +14,12 @@ use Rattle.page_reader.specs.declared.PageAnswer.{PageAnswer}
 use Rattle.page_reader.specs.declared.PageAnswer.TheVariants.{Read, Refused}
 
 -- The words of the rows, or the refusal.
-abbrev pub pageNumbers : PageAnswer → Numbers
-pageNumbers (Read words) = done words 0
-pageNumbers (Refused refusal) = refused refusal.number refusal.place
+abbrev pub page_numbers : PageAnswer → Numbers
+page_numbers (Read words) = done words 0
+page_numbers (Refused refusal) = refused refusal.number refusal.place
 
-abbrev pub refusedAs : (number place : ℕ) → PageAnswer
-refusedAs number place = Refused (record { number = number; place = place })
+abbrev pub refused_as : (number place : ℕ) → PageAnswer
+refused_as number place = Refused (record { number = number; place = place })
 
 -- What reading a page gives: its answer, that answer in numbers, and the table that it leaves.
 pub record PageResult : Type 0 where
@@ -27,8 +27,8 @@ pub record PageResult : Type 0 where
   pub numbers : Numbers
   pub rows : List ℤ
 
-abbrev pub answerAndRows : PageAnswer → List ℤ → PageResult
-answerAndRows answer rows = record { answer = answer; numbers = pageNumbers answer; rows = rows }
+abbrev pub answer_and_rows : PageAnswer → List ℤ → PageResult
+answer_and_rows answer rows = record { answer = answer; numbers = page_numbers answer; rows = rows }
 
 -- The rows that a page is read as; none where it is no page.
 abbrev pub rows_of : Option (List ℤ) → List ℤ
@@ -36,21 +36,21 @@ rows_of none = []
 rows_of (some rows) = rows
 
 -- "Up to 40,980 rows" have room, or 2 and 10. Words beyond the rows keep their content; a refusal changes none.
-abbrev pub readScanned : Scan → (header : List ℤ) (page : List ℕ) (rows : List ℤ) → PageResult
-readScanned (Wrong line) header page rows = answerAndRows (refusedAs 14 line) rows
-readScanned (Whole count) header page rows =
-    pick (leb count (rowLimit Kernel))
-    (pick (leb (6 * count) (length rows)) (answerAndRows (Read (6 * count)) (over (rows_of (readTable header page)) rows)) (answerAndRows (refusedAs 10 0) rows))
-    (answerAndRows (refusedAs 2 0) rows)
+abbrev pub read_scanned : Scan → (header : List ℤ) (page : List ℕ) (rows : List ℤ) → PageResult
+read_scanned (Wrong line) header page rows = answer_and_rows (refused_as 14 line) rows
+read_scanned (Whole count) header page rows =
+    pick (leb count (row_limit Kernel))
+    (pick (leb (6 * count) (length rows)) (answer_and_rows (Read (6 * count)) (over (rows_of (read_table header page)) rows)) (answer_and_rows (refused_as 10 0) rows))
+    (answer_and_rows (refused_as 2 0) rows)
 
 -- 1, then 14 with the first wrong line, 2, 10.
-unfoldable pub pageResult : (header : List ℤ) (page : List ℕ) (rows : List ℤ) → PageResult
-pageResult header page rows = pick (headerFits Kernel header) (readScanned (scan (names_of header) page) header page rows) (answerAndRows (refusedAs 1 0) rows)
+unfoldable pub page_result : (header : List ℤ) (page : List ℕ) (rows : List ℤ) → PageResult
+page_result header page rows = pick (header_fits Kernel header) (read_scanned (scan (names_of header) page) header page rows) (answer_and_rows (refused_as 1 0) rows)
 
 -- The first words of the table, as many as the answer says, are the rows that page/Tables reads from the page.
 pub record GaveRows (header : List ℤ) (page : List ℕ) (words : ℕ) (left : List ℤ) : Type 0 where
   pub inside : words ≤ length left
-  pub read : readTable header page ≡ some (take words left)
+  pub read : read_table header page ≡ some (take words left)
 
 -- The same by the answer; a refusal writes nothing.
 abbrev pub GivesRows : (header : List ℤ) (page : List ℕ) → PageAnswer → (left : List ℤ) → Type 0

@@ -1,15 +1,17 @@
 // The reader of pages: with a header, the rows of the program whose page it is (docs/PAGES.md). One pass from the first line to the last counts
 // the rows (page_scan); one from the last to the first writes them, with a stack of row numbers.
+#![tactic(auto)]
+
 pub mod names; // names.rt: the names that a header gives
 pub mod rows; // rows.rt: the pass that writes the rows
 pub mod waiting; // waiting.rt: the rows that wait for the lines that open their blocks
 
 ghost use Rattle.std.specs.Prelude.{◌≡◌, true};
-ghost use Rattle.words.specs.Layout.{headerFits};
+ghost use Rattle.words.specs.Layout.{header_fits};
 ghost use Rattle.words.specs.declared.Form.TheVariants.{Kernel};
-ghost use Rattle.page_blocks.specs.Scans.{scan as scanOf, names_of};
+ghost use Rattle.page_blocks.specs.Scans.{scan as scan_of, names_of};
 ghost use Rattle.page_blocks.specs.declared.Scan.TheVariants.{Whole};
-ghost use Rattle.page_reader.specs.Reads.{answerAndRows, refusedAs, readScanned, pageResult, GivesRows};
+ghost use Rattle.page_reader.specs.Reads.{answer_and_rows, refused_as, read_scanned, page_result, GivesRows};
 
 use self::names::names_of;
 use self::rows::write_rows;
@@ -21,14 +23,14 @@ use words::layout::header_fits;
 use words::{Form, Refusal};
 
 // What reading a page answers: how many words its rows have.
-#[derive(Drop)]
+#[derive(Clone, Copy)]
 pub enum PageAnswer {
     Read(usize),
     Refused(Refusal),
 }
 
 fn refused(number: u32, place: usize) -> PageAnswer
-    ensures { result ≡ refusedAs number place }
+    ensures { result ≡ refused_as number place }
 {
     PageAnswer::Refused(Refusal {
         number: number,
@@ -44,8 +46,8 @@ fn read_whole(
     page: &[u8],
     rows: &mut [i32],
 ) -> PageAnswer
-    requires { (headerFits Kernel header.now ≡ true) × (names ≡ names_of header.now) × (scanOf names page.now ≡ Whole count) }
-    ensures rows_after { answerAndRows result rows.new ≡ readScanned (Whole count) header.now page.now rows.old }
+    requires { (header_fits Kernel header.now ≡ true) × (names ≡ names_of header.now) × (scan_of names page.now ≡ Whole count) }
+    ensures rows_after { answer_and_rows result rows.new ≡ read_scanned (Whole count) header.now page.now rows.old }
     ensures gives_rows { GivesRows header.now page.now result rows.new }
 {
     if count > 40980 {
@@ -63,7 +65,7 @@ fn read_whole(
 // Reads a page with a header: 1, then 14 with the first wrong line, 2, 10. The second promise: the rows that were written are those that
 // page/Tables reads from the page.
 pub fn read_page(header: &[i32], page: &[u8], rows: &mut [i32]) -> PageAnswer
-    ensures rows_after { answerAndRows result rows.new ≡ pageResult header.now page.now rows.old }
+    ensures rows_after { answer_and_rows result rows.new ≡ page_result header.now page.now rows.old }
     ensures gives_rows { GivesRows header.now page.now result rows.new }
 {
     if !header_fits(Form::Kernel, header) {

@@ -1,6 +1,6 @@
 // The names that a header gives.
 ghost use Rattle.std.specs.Prelude.{◌≡◌, true};
-ghost use Rattle.words.specs.Layout.{headerFits};
+ghost use Rattle.words.specs.Layout.{header_fits};
 ghost use Rattle.words.specs.declared.Form.TheVariants.{Kernel};
 ghost use Rattle.page_blocks.specs.Scans.{names_of};
 
@@ -10,7 +10,7 @@ use words::Form;
 use words::layout::{declared, temporaries};
 
 pub fn names_of(header: &[i32]) -> Names
-    requires { headerFits Kernel header.now ≡ true }
+    requires { header_fits Kernel header.now ≡ true }
     ensures { result ≡ names_of header.now }
 {
     let bounds = bounds_of(Form::Kernel, header);

@@ -1,8 +1,8 @@
 // The pass that writes the rows of a page, from its last line to its first.
 ghost use Rattle.std.specs.Prelude.{◌≡◌};
 ghost use Rattle.words.specs.Over.{over};
-ghost use Rattle.page_blocks.specs.Scans.{linesIn};
-ghost use Rattle.page_rows.specs.Rows.{pageTable};
+ghost use Rattle.page_blocks.specs.Scans.{lines_in};
+ghost use Rattle.page_rows.specs.Rows.{page_table};
 ghost use Rattle.page_reader.specs.Stacks.{Counted};
 
 use super::waiting::{left_before, waiting_row};
@@ -15,7 +15,7 @@ use page_words::{LineRead, Names};
 // Writes the rows of a page, of which `total` were counted, at the start of the table.
 pub fn write_rows(names: Names, sizes: Sizes, page: &[u8], total: usize, rows: &mut [i32])
     requires { Counted names sizes page.now total rows.old }
-    ensures { rows.new ≡ over (pageTable sizes (linesIn names page.now)) rows.old }
+    ensures { rows.new ≡ over (page_table sizes (lines_in names page.now)) rows.old }
 {
     let mut waiting = [0u16; 81958];
     let mut depth: usize = 0;

@@ -1,15 +1,15 @@
 // The rows that wait for the lines that open their blocks or parentheses, in an array, the innermost last.
 ghost use Rattle.std.specs.Prelude.{◌≡◌, false, ◌∷◌, ◌+◌, ◌-◌, ◌≤◌, ◌<◌, length, get_or};
 ghost use Rattle.page_scan.specs.Stacks.{stack_of};
-ghost use Rattle.page_rows.specs.Rows.{leftBefore};
-ghost use Rattle.page_reader.specs.Stacks.{leftIn};
+ghost use Rattle.page_rows.specs.Rows.{left_before};
+ghost use Rattle.page_reader.specs.Stacks.{left_in};
 
 use check_structure::row_number::{narrow, wide};
 use page_words::LineContent;
 use writers_rows::rows::behind;
 
 // What the lines that are done leave to the line before them: whether an item follows in its list, and how many rows wait.
-#[derive(Drop)]
+#[derive(Clone, Copy)]
 pub struct Pending {
     pub follows: bool,
     pub depth: usize,
@@ -46,7 +46,7 @@ fn less(depth: usize, n: usize) -> usize
 // One row more waits, and a list begins.
 fn set_aside(row: usize, depth: usize, waiting: &mut [u16; 81958]) -> Pending
     requires { (row < 65536) × (depth < 81958) × (length waiting.old ≡ 81958) }
-    ensures waiting_after { leftIn result waiting.new ≡ record { follows = false; waiting = row ∷ stack_of depth waiting.old } }
+    ensures waiting_after { left_in result waiting.new ≡ record { follows = false; waiting = row ∷ stack_of depth waiting.old } }
     ensures depth_bound { (result.depth ≤ depth + 1) × (length waiting.new ≡ 81958) }
 {
     waiting[depth] = narrow(row);
@@ -65,7 +65,7 @@ pub fn left_before(
     waiting: &mut [u16; 81958],
 ) -> Pending
     requires { (base + 2 < 65536) × (depth < 81958) × (length waiting.old ≡ 81958) }
-    ensures waiting_after { leftIn result waiting.new ≡ leftBefore line base (record { follows = follows; waiting = stack_of depth waiting.old }) }
+    ensures waiting_after { left_in result waiting.new ≡ left_before line base (record { follows = follows; waiting = stack_of depth waiting.old }) }
     ensures depth_bound { (result.depth ≤ depth + 1) × (length waiting.new ≡ 81958) }
 {
     match line {

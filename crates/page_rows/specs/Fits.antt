@@ -13,33 +13,33 @@ use Rattle.page_words.specs.declared.LineContent.TheVariants.{Empty, Abort, Goto
 
 -- "V variables (0 to 256) and up to 32 array lengths"; D at most 64 and "T temporaries (0 to 8,192)".
 pub record SmallSizes (sizes : Sizes) : Type 0 where
-  pub small-store : sizes.store ≤ 8192
-  pub few-declared : sizes.declared ≤ 64
+  pub small_store : sizes.store ≤ 8192
+  pub few_declared : sizes.declared ≤ 64
 
-abbrev pub mostNames : Names
-mostNames = record { variables = 256; declared = 8256; temporaries = 8256; arrays = 32 }
+abbrev pub most_names : Names
+most_names = record { variables = 256; declared = 8256; temporaries = 8256; arrays = 32 }
 
-module _ (names : Names) (few-variables : names.variables ≤ 256) (few-behind : names.declared + names.temporaries ≤ 8256) (few-arrays : names.arrays ≤ 32) where
-  atom-fits-most : (a : PageAtom) → AtomFits names a → AtomFits mostNames a
+module _ (names : Names) (few_variables : names.variables ≤ 256) (few_behind : names.declared + names.temporaries ≤ 8256) (few_arrays : names.arrays ≤ 32) where
+  atom-fits-most : (a : PageAtom) → AtomFits names a → AtomFits most_names a
   atom-fits-most (Constant v) h = h
   atom-fits-most (Variable n) h = omega arith
   atom-fits-most (Declared n) h = omega arith
   atom-fits-most (Temporary n) h = omega arith
 
-  name-fits-most : (a : PageAtom) → NameFits names a → NameFits mostNames a
+  name-fits-most : (a : PageAtom) → NameFits names a → NameFits most_names a
   name-fits-most (Constant v) h = h
   name-fits-most (Variable n) h = omega arith
   name-fits-most (Declared n) h = omega arith
   name-fits-most (Temporary n) h = omega arith
 
-  value-fits-most : (v : Value) → ValueFits names v → ValueFits mostNames v
+  value-fits-most : (v : Value) → ValueFits names v → ValueFits most_names v
   value-fits-most (Single a) h = atom-fits-most a h
   value-fits-most (Element array index) h = (omega (arith, h.0), atom-fits-most index h.1)
   value-fits-most (Minus a) h = atom-fits-most a h
   value-fits-most (Binary o a b) h = (atom-fits-most a h.0, atom-fits-most b h.1)
   value-fits-most (Call f) h = h
 
-  pub line-fits-most : (line : LineContent) → LineFits names line → LineFits mostNames line
+  pub line-fits-most : (line : LineContent) → LineFits names line → LineFits most_names line
   line-fits-most Empty h = tt
   line-fits-most Abort h = tt
   line-fits-most (Goto l) h = h

@@ -2,14 +2,14 @@
 ghost use Rattle.std.specs.Prelude.{◌≡◌, ◌+◌, ◌≤◌, ◌<◌, length};
 ghost use Rattle.words.specs.Over.{over};
 ghost use Rattle.language.specs.Trees.{assign, call, variable, no_more, express, none, ◌then◌};
-ghost use Rattle.language_emission.specs.Emission.{emitItems};
+ghost use Rattle.language_emission.specs.Emission.{emit_items};
 ghost use Rattle.writers_rows.specs.Room.{Room};
 ghost use Rattle.page_words.specs.Texts.{AtomFits, NameFits, ElementFits, ValueFits};
-ghost use Rattle.page_words.specs.Trees.{valueTree};
+ghost use Rattle.page_words.specs.Trees.{value_tree};
 ghost use Rattle.page_words.specs.declared.LineContent.TheVariants.{Store, Put};
-ghost use Rattle.page_blocks.specs.Scans.{valueRows};
-ghost use Rattle.page_rows.specs.Rows.{lineItem};
-ghost use Rattle.page_rows.specs.Fits.{mostNames, SmallSizes};
+ghost use Rattle.page_blocks.specs.Scans.{value_rows};
+ghost use Rattle.page_rows.specs.Rows.{line_item};
+ghost use Rattle.page_rows.specs.Fits.{most_names, SmallSizes};
 
 use super::atoms::{kernel_atom, variable_number};
 use page::Sizes;
@@ -22,7 +22,7 @@ use writers_rows::rows::put_row;
 // A call without arguments, assigned to the variable of this number.
 fn put_called(number: usize, function: usize, base: usize, follows: bool, out: &mut [i32])
     requires { Room 4 base (length out.old) × (number < 65536) × (function < 65536) }
-    ensures { out.new ≡ over (emitItems follows (express (assign (variable number) (call function no_more)) then none) base) out.old }
+    ensures { out.new ≡ over (emit_items follows (express (assign (variable number) (call function no_more)) then none) base) out.old }
 {
     put_target(2, number, 0, base + 3, 4, base, follows, out);
     put_row(31, function, 0, 0, 0, &mut out[18..]);
@@ -30,8 +30,8 @@ fn put_called(number: usize, function: usize, base: usize, follows: bool, out: &
 
 // A value assigned to the variable of this number.
 fn put_value(sizes: Sizes, number: usize, value: Value, base: usize, follows: bool, out: &mut [i32])
-    requires { Room (3 + valueRows value) base (length out.old) × SmallSizes sizes × (number < 65536) × ValueFits mostNames value }
-    ensures { out.new ≡ over (emitItems follows (express (assign (variable number) (valueTree sizes value)) then none) base) out.old }
+    requires { Room (3 + value_rows value) base (length out.old) × SmallSizes sizes × (number < 65536) × ValueFits most_names value }
+    ensures { out.new ≡ over (emit_items follows (express (assign (variable number) (value_tree sizes value)) then none) base) out.old }
 {
     match value {
         Value::Single(atom) => put_copy(number, kernel_atom(sizes, atom), base, follows, out),
@@ -66,8 +66,8 @@ pub fn put_named(
     follows: bool,
     out: &mut [i32],
 )
-    requires { Room (3 + valueRows value) base (length out.old) × SmallSizes sizes × NameFits mostNames name × ValueFits mostNames value }
-    ensures { out.new ≡ over (emitItems follows (lineItem sizes (Store name value)) base) out.old }
+    requires { Room (3 + value_rows value) base (length out.old) × SmallSizes sizes × NameFits most_names name × ValueFits most_names value }
+    ensures { out.new ≡ over (emit_items follows (line_item sizes (Store name value)) base) out.old }
 {
     put_value(
         sizes,
@@ -89,8 +89,8 @@ pub fn put_element(
     follows: bool,
     out: &mut [i32],
 )
-    requires { Room 5 base (length out.old) × SmallSizes sizes × ElementFits mostNames array index × AtomFits mostNames atom }
-    ensures { out.new ≡ over (emitItems follows (lineItem sizes (Put array index atom)) base) out.old }
+    requires { Room 5 base (length out.old) × SmallSizes sizes × ElementFits most_names array index × AtomFits most_names atom }
+    ensures { out.new ≡ over (emit_items follows (line_item sizes (Put array index atom)) base) out.old }
 {
     put_store(
         array as usize,

@@ -1,8 +1,8 @@
 // The rows of the lines of calls and definitions.
 ghost use Rattle.std.specs.Prelude.{◌≡◌, ◌++◌, ◌+◌, ◌≤◌, ◌<◌, pos, length};
 ghost use Rattle.words.specs.Over.{over};
-ghost use Rattle.language_emission.specs.Emission.{row_of, emitExpression};
-ghost use Rattle.writers_rows.specs.Atoms.{atomTree as kernelTree, AtomFits as KernelFits};
+ghost use Rattle.language_emission.specs.Emission.{row_of, emit_expression};
+ghost use Rattle.writers_rows.specs.Atoms.{atom_tree as kernel_tree, AtomFits as KernelFits};
 ghost use Rattle.writers_rows.specs.Room.{Room};
 ghost use Rattle.page_rows.specs.Rows.{block_row};
 
@@ -24,7 +24,7 @@ pub fn put_call(number: usize, function: usize, base: usize, next: usize, out: &
 // `X,` and `X);`: the argument, before the row `next` of the argument behind it or 0, and its atom.
 pub fn put_argument(value: KernelAtom, base: usize, next: usize, out: &mut [i32])
     requires { Room 2 base (length out.old) × (next < 65536) × KernelFits value }
-    ensures { out.new ≡ over (row_of 32 (pos (base + 1)) 0 0 0 next ++ emitExpression (kernelTree value) (base + 1)) out.old }
+    ensures { out.new ≡ over (row_of 32 (pos (base + 1)) 0 0 0 next ++ emit_expression (kernel_tree value) (base + 1)) out.old }
 {
     put_row(32, base + 1, 0, 0, next, out);
     put_atom(value, &mut out[6..]);

@@ -1,13 +1,13 @@
 // The rows of each line.
 ghost use Rattle.std.specs.Prelude.{◌≡◌, [], ◌∷◌, ◌++◌, ◌+◌, ◌≤◌, ◌<◌, pos, length};
 ghost use Rattle.words.specs.Over.{over};
-ghost use Rattle.language_emission.specs.Emission.{row_of, emitExpression};
-ghost use Rattle.writers_rows.specs.Atoms.{atomTree as kernelTree, AtomFits as KernelFits};
+ghost use Rattle.language_emission.specs.Emission.{row_of, emit_expression};
+ghost use Rattle.writers_rows.specs.Atoms.{atom_tree as kernel_tree, AtomFits as KernelFits};
 ghost use Rattle.writers_rows.specs.Room.{Room};
 ghost use Rattle.page_words.specs.Texts.{LineFits};
-ghost use Rattle.page_blocks.specs.Scans.{lineRows};
-ghost use Rattle.page_rows.specs.Rows.{block_row, lineTable};
-ghost use Rattle.page_rows.specs.Fits.{mostNames, SmallSizes};
+ghost use Rattle.page_blocks.specs.Scans.{line_rows};
+ghost use Rattle.page_rows.specs.Rows.{block_row, line_table};
+ghost use Rattle.page_rows.specs.Fits.{most_names, SmallSizes};
 
 use super::assignments::{put_element, put_named};
 use super::atoms::{kernel_atom, variable_number};
@@ -38,7 +38,7 @@ fn put_while(
     out: &mut [i32],
 )
     requires { Room 3 base (length out.old) × (next < 65536) × KernelFits test }
-    ensures { out.new ≡ over ((row_of 44 (pos (base + 1)) (base + 2) 0 0 next ++ emitExpression (kernelTree test) (base + 1)) ++ block_row (base + 2) follows 0) out.old }
+    ensures { out.new ≡ over ((row_of 44 (pos (base + 1)) (base + 2) 0 0 next ++ emit_expression (kernel_tree test) (base + 1)) ++ block_row (base + 2) follows 0) out.old }
 {
     put_row(44, base + 1, base + 2, 0, next, out);
     put_atom(test, &mut out[6..]);
@@ -55,7 +55,7 @@ fn put_branch(
     out: &mut [i32],
 )
     requires { Room 3 base (length out.old) × (second < 65536) × (next < 65536) × KernelFits test }
-    ensures { out.new ≡ over ((row_of 43 (pos (base + 1)) (base + 2) second 0 next ++ emitExpression (kernelTree test) (base + 1)) ++ block_row (base + 2) follows 0) out.old }
+    ensures { out.new ≡ over ((row_of 43 (pos (base + 1)) (base + 2) second 0 next ++ emit_expression (kernel_tree test) (base + 1)) ++ block_row (base + 2) follows 0) out.old }
 {
     put_if(test, base, second, next, out);
     put_block_row(base + 2, follows, 0, &mut out[12..]);
@@ -71,8 +71,8 @@ pub fn put_line(
     second: usize,
     out: &mut [i32],
 )
-    requires { Room (lineRows line) base (length out.old) × SmallSizes sizes × (first < 65536) × (second < 65536) × LineFits mostNames line }
-    ensures { out.new ≡ over (lineTable sizes line base (record { follows = follows; waiting = first ∷ second ∷ [] })) out.old }
+    requires { Room (line_rows line) base (length out.old) × SmallSizes sizes × (first < 65536) × (second < 65536) × LineFits most_names line }
+    ensures { out.new ≡ over (line_table sizes line base (record { follows = follows; waiting = first ∷ second ∷ [] })) out.old }
 {
     match line {
         LineContent::Empty => put_empty(base, follows, out),

@@ -2,9 +2,9 @@
 use Rattle.std.specs.Prelude.{◌≡◌, refl, Bool, true, false, List, [], ◌∷◌, map, ℕ, zero, suc, ◌+◌, ◌-◌, ◌≤◌, ◌<◌, eqb, length, get_or, set, drop}
 use Rattle.std.proofs.Common.{sym, ap, ap₂, ◌∙◌, arith, add-one, get_or-set_same, get_or-set_other, eq-eqb, ne_eqb}
 use Rattle.std.proofs.Math.Option.{Option, none, some}
-use Rattle.page_blocks.specs.Blocks.{Open, outside as amongItems, turned, shut, whereItems, whereArguments, whereParameters, levelIn}
+use Rattle.page_blocks.specs.Blocks.{Open, outside as among_items, turned, shut, where_items, where_arguments, where_parameters, level_in}
 use Rattle.page_blocks.specs.Scans.{ended}
-use Rattle.page_scan.specs.Stacks.{stack_of, isFirst, blocksOf, openBy, openOf, movedSays, depthIn, afterItem, afterArgument, afterParameter, end_of}
+use Rattle.page_scan.specs.Stacks.{stack_of, is_first, blocks_of, open_by, open_of, moved_says, depth_in, after_item, after_argument, after_parameter, end_of}
 use Rattle.page_scan.specs.declared.blocks.Moved.{Moved}
 use Rattle.page_scan.specs.declared.blocks.Among.{Among}
 use Rattle.page_scan.specs.declared.blocks.Among.TheVariants.{Items, Arguments, Parameters}
@@ -44,34 +44,34 @@ outside (suc i) (suc depth) numbers h = outside i depth numbers (omega arith)
 
 -- ---- blocks
 
-pub length-blocks : (depth : ℕ) (flags : List ℕ) → length (blocksOf depth flags) ≡ depth
-unfolding blocksOf stack_of
+pub length-blocks : (depth : ℕ) (flags : List ℕ) → length (blocks_of depth flags) ≡ depth
+unfolding blocks_of stack_of
 length-blocks zero flags = refl
 length-blocks (suc depth) flags = ap suc (length-blocks depth flags)
 
-pub block-pushed : (depth v : ℕ) (flags : List ℕ) → depth < length flags → blocksOf (depth + 1) (set flags depth v) ≡ eqb v 1 ∷ blocksOf depth flags
-unfolding blocksOf
-block-pushed depth v flags h = ap (map isFirst) (pushed depth v flags h)
+pub block-pushed : (depth v : ℕ) (flags : List ℕ) → depth < length flags → blocks_of (depth + 1) (set flags depth v) ≡ eqb v 1 ∷ blocks_of depth flags
+unfolding blocks_of
+block-pushed depth v flags h = ap (map is_first) (pushed depth v flags h)
 
-block-above : (depth i v : ℕ) (flags : List ℕ) → depth ≤ i → blocksOf depth (set flags i v) ≡ blocksOf depth flags
-unfolding blocksOf
-block-above depth i v flags h = ap (map isFirst) (above depth i v flags h)
+block-above : (depth i v : ℕ) (flags : List ℕ) → depth ≤ i → blocks_of depth (set flags i v) ≡ blocks_of depth flags
+unfolding blocks_of
+block-above depth i v flags h = ap (map is_first) (above depth i v flags h)
 
 -- The innermost block.
-top : (depth : ℕ) (flags : List ℕ) → 0 < depth → blocksOf depth flags ≡ eqb (get_or flags (depth - 1) 0) 1 ∷ blocksOf (depth - 1) flags
-unfolding blocksOf stack_of
+top : (depth : ℕ) (flags : List ℕ) → 0 < depth → blocks_of depth flags ≡ eqb (get_or flags (depth - 1) 0) 1 ∷ blocks_of (depth - 1) flags
+unfolding blocks_of stack_of
 top zero flags h = absurd (omega arith)
 top (suc depth) flags h = let less : suc depth - 1 ≡ depth = omega arith in rw less
 
-none_open : (depth : ℕ) (flags : List ℕ) → depth ≡ 0 → blocksOf depth flags ≡ []
-unfolding blocksOf stack_of
-none_open depth flags e = ap (λ (n : ℕ). blocksOf n flags) e
+none_open : (depth : ℕ) (flags : List ℕ) → depth ≡ 0 → blocks_of depth flags ≡ []
+unfolding blocks_of stack_of
+none_open depth flags e = ap (λ (n : ℕ). blocks_of n flags) e
 
 module _ (depth : ℕ) (flags : List ℕ) where
-  pub turn-none : depth ≡ 0 → none ≡ turned (blocksOf depth flags)
+  pub turn-none : depth ≡ 0 → none ≡ turned (blocks_of depth flags)
   turn-none e = rw (none_open depth flags e)
 
-  pub shut_none : depth ≡ 0 → none ≡ shut (blocksOf depth flags)
+  pub shut_none : depth ≡ 0 → none ≡ shut (blocks_of depth flags)
   shut_none e = rw (none_open depth flags e)
 
   module _ (some-open : depth ≡ 0 → ⊥) where
@@ -82,51 +82,51 @@ module _ (depth : ℕ) (flags : List ℕ) where
         from zero f = absurd (f refl)
         from (suc n) f = omega arith
 
-    pub turn-wrong : (get_or flags (depth - 1) 0 ≡ 1 → ⊥) → none ≡ turned (blocksOf depth flags)
+    pub turn-wrong : (get_or flags (depth - 1) 0 ≡ 1 → ⊥) → none ≡ turned (blocks_of depth flags)
     turn-wrong f = rw (top depth flags more, ne_eqb (get_or flags (depth - 1) 0) 1 f)
 
-    pub turn-right : depth ≤ length flags → get_or flags (depth - 1) 0 ≡ 1 → some (amongItems (blocksOf depth (set flags (depth - 1) 0))) ≡ turned (blocksOf depth flags)
+    pub turn-right : depth ≤ length flags → get_or flags (depth - 1) 0 ≡ 1 → some (among_items (blocks_of depth (set flags (depth - 1) 0))) ≡ turned (blocks_of depth flags)
     turn-right h e =
         let inside : 0 < depth = more in
         rw (top depth flags more, top depth (set flags (depth - 1) 0) more, eq-eqb (get_or flags (depth - 1) 0) 1 e, get_or-set_same flags (depth - 1) 0 0 (omega arith), block-above (depth - 1) (depth - 1) 0 flags (omega arith))
 
-    pub shut-wrong : get_or flags (depth - 1) 0 ≡ 1 → none ≡ shut (blocksOf depth flags)
+    pub shut-wrong : get_or flags (depth - 1) 0 ≡ 1 → none ≡ shut (blocks_of depth flags)
     shut-wrong e = rw (top depth flags more, eq-eqb (get_or flags (depth - 1) 0) 1 e)
 
-    pub shut-right : (get_or flags (depth - 1) 0 ≡ 1 → ⊥) → some (amongItems (blocksOf (depth - 1) flags)) ≡ shut (blocksOf depth flags)
+    pub shut-right : (get_or flags (depth - 1) 0 ≡ 1 → ⊥) → some (among_items (blocks_of (depth - 1) flags)) ≡ shut (blocks_of depth flags)
     shut-right f = rw (top depth flags more, ne_eqb (get_or flags (depth - 1) 0) 1 f)
 
 -- ---- what is open
 
-pub level-is : (among : Among) (depth : ℕ) (flags : List ℕ) → levelIn (openOf among depth flags) ≡ depth
+pub level-is : (among : Among) (depth : ℕ) (flags : List ℕ) → level_in (open_of among depth flags) ≡ depth
 level-is Items depth flags = length-blocks depth flags
 level-is Arguments depth flags = length-blocks depth flags
 level-is Parameters depth flags = length-blocks depth flags
 
 -- Lines that open and close no block.
 abbrev Moves : Moved → List ℕ → ℕ → Option Open → Type 0
-Moves moved flags depth around = (movedSays moved flags ≡ around) × ((depthIn moved ≤ depth + 1) × (length flags ≡ 81958))
+Moves moved flags depth around = (moved_says moved flags ≡ around) × ((depth_in moved ≤ depth + 1) × (length flags ≡ 81958))
 
 pub item-moves : (among next : Among) (depth : ℕ) (flags : List ℕ) → length flags ≡ 81958
-    → Moves (afterItem among next depth) flags depth (whereItems (λ blocks. some (openBy next blocks)) (openOf among depth flags))
+    → Moves (after_item among next depth) flags depth (where_items (λ blocks. some (open_by next blocks)) (open_of among depth flags))
 item-moves Items next depth flags l = (refl, (omega arith, l))
 item-moves Arguments next depth flags l = (refl, (omega arith, l))
 item-moves Parameters next depth flags l = (refl, (omega arith, l))
 
 pub argument-moves : (among next : Among) (depth : ℕ) (flags : List ℕ) → length flags ≡ 81958
-    → Moves (afterArgument among next depth) flags depth (whereArguments (λ blocks. some (openBy next blocks)) (openOf among depth flags))
+    → Moves (after_argument among next depth) flags depth (where_arguments (λ blocks. some (open_by next blocks)) (open_of among depth flags))
 argument-moves Items next depth flags l = (refl, (omega arith, l))
 argument-moves Arguments next depth flags l = (refl, (omega arith, l))
 argument-moves Parameters next depth flags l = (refl, (omega arith, l))
 
 pub parameter-moves : (among : Among) (depth : ℕ) (flags : List ℕ) → length flags ≡ 81958
-    → Moves (afterParameter among depth) flags depth (whereParameters (λ blocks. some (openBy Parameters blocks)) (openOf among depth flags))
+    → Moves (after_parameter among depth) flags depth (where_parameters (λ blocks. some (open_by Parameters blocks)) (open_of among depth flags))
 parameter-moves Items depth flags l = (refl, (omega arith, l))
 parameter-moves Arguments depth flags l = (refl, (omega arith, l))
 parameter-moves Parameters depth flags l = (refl, (omega arith, l))
 
-pub end_is : (whole : Bool) (among : Among) (depth rows next : ℕ) (flags : List ℕ) → end_of whole among depth rows next ≡ ended whole (openOf among depth flags) rows next
-unfolding end_of blocksOf stack_of
+pub end_is : (whole : Bool) (among : Among) (depth rows next : ℕ) (flags : List ℕ) → end_of whole among depth rows next ≡ ended whole (open_of among depth flags) rows next
+unfolding end_of blocks_of stack_of
 end_is true Items zero rows next flags = refl
 end_is true Items (suc depth) rows next flags = rw (ne_eqb (suc depth) 0 (λ e. omega arith))
 end_is true Arguments depth rows next flags = refl

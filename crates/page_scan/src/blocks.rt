@@ -2,13 +2,13 @@
 // parentheses of a call or of a definition.
 ghost use Rattle.std.specs.Prelude.{◌≡◌, false, ◌∷◌, ◌+◌, ◌≤◌, ◌<◌, eqb, length};
 ghost use Rattle.std.proofs.Math.Option.{some};
-ghost use Rattle.page_blocks.specs.Blocks.{outside, turned, shut as shutOf, whereItems, whereParameters, behind};
-ghost use Rattle.page_scan.specs.Stacks.{blocksOf, openOf, movedSays, depthIn, isAmongItems, afterItem, afterArgument, afterParameter};
+ghost use Rattle.page_blocks.specs.Blocks.{outside, turned, shut as shut_of, where_items, where_parameters, behind};
+ghost use Rattle.page_scan.specs.Stacks.{blocks_of, open_of, moved_says, depth_in, is_among_items, after_item, after_argument, after_parameter};
 
 use page_words::LineContent;
 
 // What a line stands among: items, or the arguments of a call or the parameters of a definition, between their parentheses.
-#[derive(Drop)]
+#[derive(Clone, Copy)]
 pub enum Among {
     Items,
     Arguments,
@@ -16,14 +16,14 @@ pub enum Among {
 }
 
 // What is open behind a line: what the next line stands among, and how many blocks.
-#[derive(Drop)]
+#[derive(Clone, Copy)]
 pub enum Moved {
     To(Among, usize),
     Wrong,
 }
 
 pub fn is_among_items(among: Among) -> bool
-    ensures { result ≡ isAmongItems among }
+    ensures { result ≡ is_among_items among }
 {
     match among {
         Among::Items => true,
@@ -34,7 +34,7 @@ pub fn is_among_items(among: Among) -> bool
 
 // A line that opens and closes no block, and what the next line stands among: a statement,
 fn after_item(among: Among, next: Among, depth: usize) -> Moved
-    ensures { result ≡ afterItem among next depth }
+    ensures { result ≡ after_item among next depth }
 {
     match among {
         Among::Items => Moved::To(next, depth),
@@ -45,7 +45,7 @@ fn after_item(among: Among, next: Among, depth: usize) -> Moved
 
 // an argument,
 fn after_argument(among: Among, next: Among, depth: usize) -> Moved
-    ensures { result ≡ afterArgument among next depth }
+    ensures { result ≡ after_argument among next depth }
 {
     match among {
         Among::Items => Moved::Wrong,
@@ -56,7 +56,7 @@ fn after_argument(among: Among, next: Among, depth: usize) -> Moved
 
 // and a parameter that is not the last.
 fn after_parameter(among: Among, depth: usize) -> Moved
-    ensures { result ≡ afterParameter among depth }
+    ensures { result ≡ after_parameter among depth }
 {
     match among {
         Among::Items => Moved::Wrong,
@@ -67,8 +67,8 @@ fn after_parameter(among: Among, depth: usize) -> Moved
 
 fn push(flag: u8, depth: usize, around: &mut [u8; 81958]) -> Moved
     requires { (depth < 81958) × (length around.old ≡ 81958) }
-    ensures around_after { movedSays result around.new ≡ some (outside (eqb flag 1 ∷ blocksOf depth around.old)) }
-    ensures result_bound { (depthIn result ≤ depth + 1) × (length around.new ≡ 81958) }
+    ensures around_after { moved_says result around.new ≡ some (outside (eqb flag 1 ∷ blocks_of depth around.old)) }
+    ensures result_bound { (depth_in result ≤ depth + 1) × (length around.new ≡ 81958) }
 {
     around[depth] = flag;
     let deeper = depth + 1;
@@ -78,8 +78,8 @@ fn push(flag: u8, depth: usize, around: &mut [u8; 81958]) -> Moved
 // A statement, or a function without parameters, opens its block,
 fn open_block(flag: u8, among: Among, depth: usize, around: &mut [u8; 81958]) -> Moved
     requires { (depth < 81958) × (length around.old ≡ 81958) }
-    ensures around_after { movedSays result around.new ≡ whereItems (λ blocks. some (outside (eqb flag 1 ∷ blocks))) (openOf among depth around.old) }
-    ensures result_bound { (depthIn result ≤ depth + 1) × (length around.new ≡ 81958) }
+    ensures around_after { moved_says result around.new ≡ where_items (λ blocks. some (outside (eqb flag 1 ∷ blocks))) (open_of among depth around.old) }
+    ensures result_bound { (depth_in result ≤ depth + 1) × (length around.new ≡ 81958) }
 {
     match among {
         Among::Items => push(flag, depth, around),
@@ -91,8 +91,8 @@ fn open_block(flag: u8, among: Among, depth: usize, around: &mut [u8; 81958]) ->
 // and the last parameter that of its function.
 fn open_function(among: Among, depth: usize, around: &mut [u8; 81958]) -> Moved
     requires { (depth < 81958) × (length around.old ≡ 81958) }
-    ensures around_after { movedSays result around.new ≡ whereParameters (λ blocks. some (outside (false ∷ blocks))) (openOf among depth around.old) }
-    ensures result_bound { (depthIn result ≤ depth + 1) × (length around.new ≡ 81958) }
+    ensures around_after { moved_says result around.new ≡ where_parameters (λ blocks. some (outside (false ∷ blocks))) (open_of among depth around.old) }
+    ensures result_bound { (depth_in result ≤ depth + 1) × (length around.new ≡ 81958) }
 {
     match among {
         Among::Items => Moved::Wrong,
@@ -103,8 +103,8 @@ fn open_function(among: Among, depth: usize, around: &mut [u8; 81958]) -> Moved
 
 fn turn(depth: usize, around: &mut [u8; 81958]) -> Moved
     requires { (depth ≤ 81958) × (length around.old ≡ 81958) }
-    ensures around_after { movedSays result around.new ≡ turned (blocksOf depth around.old) }
-    ensures result_bound { (depthIn result ≤ depth + 1) × (length around.new ≡ 81958) }
+    ensures around_after { moved_says result around.new ≡ turned (blocks_of depth around.old) }
+    ensures result_bound { (depth_in result ≤ depth + 1) × (length around.new ≡ 81958) }
 {
     if depth == 0 {
         return Moved::Wrong;
@@ -119,8 +119,8 @@ fn turn(depth: usize, around: &mut [u8; 81958]) -> Moved
 
 fn shut(depth: usize, around: &mut [u8; 81958]) -> Moved
     requires { (depth ≤ 81958) × (length around.old ≡ 81958) }
-    ensures around_after { movedSays result around.new ≡ shutOf (blocksOf depth around.old) }
-    ensures result_bound { (depthIn result ≤ depth + 1) × (length around.new ≡ 81958) }
+    ensures around_after { moved_says result around.new ≡ shut_of (blocks_of depth around.old) }
+    ensures result_bound { (depth_in result ≤ depth + 1) × (length around.new ≡ 81958) }
 {
     if depth == 0 {
         return Moved::Wrong;
@@ -135,8 +135,8 @@ fn shut(depth: usize, around: &mut [u8; 81958]) -> Moved
 // `} else {` and `}` stand among items.
 fn turn_item(among: Among, depth: usize, around: &mut [u8; 81958]) -> Moved
     requires { (depth ≤ 81958) × (length around.old ≡ 81958) }
-    ensures around_after { movedSays result around.new ≡ whereItems turned (openOf among depth around.old) }
-    ensures result_bound { (depthIn result ≤ depth + 1) × (length around.new ≡ 81958) }
+    ensures around_after { moved_says result around.new ≡ where_items turned (open_of among depth around.old) }
+    ensures result_bound { (depth_in result ≤ depth + 1) × (length around.new ≡ 81958) }
 {
     match among {
         Among::Items => turn(depth, around),
@@ -147,8 +147,8 @@ fn turn_item(among: Among, depth: usize, around: &mut [u8; 81958]) -> Moved
 
 fn shut_item(among: Among, depth: usize, around: &mut [u8; 81958]) -> Moved
     requires { (depth ≤ 81958) × (length around.old ≡ 81958) }
-    ensures around_after { movedSays result around.new ≡ whereItems shutOf (openOf among depth around.old) }
-    ensures result_bound { (depthIn result ≤ depth + 1) × (length around.new ≡ 81958) }
+    ensures around_after { moved_says result around.new ≡ where_items shut_of (open_of among depth around.old) }
+    ensures result_bound { (depth_in result ≤ depth + 1) × (length around.new ≡ 81958) }
 {
     match among {
         Among::Items => shut(depth, around),
@@ -160,8 +160,8 @@ fn shut_item(among: Among, depth: usize, around: &mut [u8; 81958]) -> Moved
 // What is open behind a line, by what is open before it.
 pub fn pass_line(line: LineContent, among: Among, depth: usize, around: &mut [u8; 81958]) -> Moved
     requires { (depth < 81958) × (length around.old ≡ 81958) }
-    ensures around_after { movedSays result around.new ≡ behind line (openOf among depth around.old) }
-    ensures result_bound { (depthIn result ≤ depth + 1) × (length around.new ≡ 81958) }
+    ensures around_after { moved_says result around.new ≡ behind line (open_of among depth around.old) }
+    ensures result_bound { (depth_in result ≤ depth + 1) × (length around.new ≡ 81958) }
 {
     match line {
         LineContent::Empty => after_item(among, Among::Items, depth),

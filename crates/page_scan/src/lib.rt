@@ -1,10 +1,12 @@
 // One pass over a page, from its first line to its last: its rows are counted, or the first line that is wrong is told.
+#![tactic(auto)]
+
 pub mod blocks; // blocks.rt: the blocks and parentheses that are open
 pub mod rows; // rows.rt: the rows of a line, and the lines of a page
 
 ghost use Rattle.std.specs.Prelude.{◌≡◌, ◌≤◌, ◌<◌, ◌+◌, ◌*◌, length};
-ghost use Rattle.page_blocks.specs.Scans.{ended, scan as scanOf};
-ghost use Rattle.page_scan.specs.Stacks.{blocksOf, end_of};
+ghost use Rattle.page_blocks.specs.Scans.{ended, scan as scan_of};
+ghost use Rattle.page_scan.specs.Stacks.{blocks_of, end_of};
 
 use self::blocks::{Among, Moved, is_among_items, pass_line};
 use self::rows::{line_count, rows_of};
@@ -29,7 +31,7 @@ fn end(whole: bool, among: Among, depth: usize, rows: usize, next: usize) -> Sca
 }
 
 pub fn scan(names: Names, page: &[u8]) -> Scan
-    ensures { result ≡ scanOf names page.now }
+    ensures { result ≡ scan_of names page.now }
 {
     let count = line_count(page.len());
     let mut around = [0u8; 81958];

@@ -1,11 +1,11 @@
 // The rows of a line, and the lines of a page.
 ghost use Rattle.std.specs.Prelude.{◌≡◌, ◌/◌, ◌≤◌, min};
-ghost use Rattle.page_blocks.specs.Scans.{valueRows, lineRows};
+ghost use Rattle.page_blocks.specs.Scans.{value_rows, line_rows};
 
 use page_words::{LineContent, Value};
 
 fn value_rows(value: Value) -> usize
-    ensures value { result ≡ valueRows value }
+    ensures value { result ≡ value_rows value }
     ensures upper_bound { result ≤ 3 }
 {
     match value {
@@ -19,7 +19,7 @@ fn value_rows(value: Value) -> usize
 
 // The rows that a line has, without those of the blocks between its statement's lines.
 pub fn rows_of(line: LineContent) -> usize
-    ensures value { result ≡ lineRows line }
+    ensures value { result ≡ line_rows line }
     ensures upper_bound { result ≤ 6 }
 {
     match line {

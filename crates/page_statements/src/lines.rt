@@ -1,6 +1,6 @@
 // The line that a statement's bytes are.
 ghost use Rattle.std.specs.Prelude.{◌≡◌};
-ghost use Rattle.page_words.specs.Reads.{gotoOf, labelOf, ifOf, whileOf, returnOf, call_of, argumentOf, lastArgumentOf, functionOf, parametersOf, parameterOf, lastParameterOf, store_of, put_of, assignedOf, assignmentOf, argumentRead, assignmentRead, parameterRead, functionRead, jumpRead, testRead, lineRead};
+ghost use Rattle.page_words.specs.Reads.{goto_of, label_of, if_of, while_of, return_of, call_of, argument_of, last_argument_of, function_of, parameters_of, parameter_of, last_parameter_of, store_of, put_of, assigned_of, assignment_of, argument_read, assignment_read, parameter_read, function_read, jump_read, test_read, line_read};
 
 use super::values::value;
 use page_atoms::atoms::{atom, element, name_of, number_below};
@@ -11,7 +11,7 @@ use page_words::{
 use text_lines::line::piece_end;
 
 fn goto_of(number: NumberRead) -> LineRead
-    ensures { result ≡ gotoOf number }
+    ensures { result ≡ goto_of number }
 {
     match number {
         NumberRead::Number(label) => LineRead::Read(LineContent::Goto(label)),
@@ -20,7 +20,7 @@ fn goto_of(number: NumberRead) -> LineRead
 }
 
 fn label_of(number: NumberRead) -> LineRead
-    ensures { result ≡ labelOf number }
+    ensures { result ≡ label_of number }
 {
     match number {
         NumberRead::Number(label) => LineRead::Read(LineContent::Label(label)),
@@ -29,7 +29,7 @@ fn label_of(number: NumberRead) -> LineRead
 }
 
 fn if_of(test: AtomRead) -> LineRead
-    ensures { result ≡ ifOf test }
+    ensures { result ≡ if_of test }
 {
     let AtomRead::Read(tested) = test else {
         return LineRead::Malformed;
@@ -38,7 +38,7 @@ fn if_of(test: AtomRead) -> LineRead
 }
 
 fn while_of(test: AtomRead) -> LineRead
-    ensures { result ≡ whileOf test }
+    ensures { result ≡ while_of test }
 {
     let AtomRead::Read(tested) = test else {
         return LineRead::Malformed;
@@ -47,7 +47,7 @@ fn while_of(test: AtomRead) -> LineRead
 }
 
 fn return_of(value: AtomRead) -> LineRead
-    ensures { result ≡ returnOf value }
+    ensures { result ≡ return_of value }
 {
     let AtomRead::Read(returned) = value else {
         return LineRead::Malformed;
@@ -56,7 +56,7 @@ fn return_of(value: AtomRead) -> LineRead
 }
 
 fn argument_of(value: AtomRead) -> LineRead
-    ensures { result ≡ argumentOf value }
+    ensures { result ≡ argument_of value }
 {
     let AtomRead::Read(passed) = value else {
         return LineRead::Malformed;
@@ -65,7 +65,7 @@ fn argument_of(value: AtomRead) -> LineRead
 }
 
 fn last_argument_of(value: AtomRead) -> LineRead
-    ensures { result ≡ lastArgumentOf value }
+    ensures { result ≡ last_argument_of value }
 {
     let AtomRead::Read(passed) = value else {
         return LineRead::Malformed;
@@ -74,7 +74,7 @@ fn last_argument_of(value: AtomRead) -> LineRead
 }
 
 fn function_of(number: NumberRead) -> LineRead
-    ensures { result ≡ functionOf number }
+    ensures { result ≡ function_of number }
 {
     match number {
         NumberRead::Number(function) => LineRead::Read(LineContent::OpensFunction(function)),
@@ -83,7 +83,7 @@ fn function_of(number: NumberRead) -> LineRead
 }
 
 fn parameters_of(number: NumberRead) -> LineRead
-    ensures { result ≡ parametersOf number }
+    ensures { result ≡ parameters_of number }
 {
     match number {
         NumberRead::Number(function) => LineRead::Read(LineContent::OpensParameters(function)),
@@ -92,7 +92,7 @@ fn parameters_of(number: NumberRead) -> LineRead
 }
 
 fn parameter_of(number: NumberRead) -> LineRead
-    ensures { result ≡ parameterOf number }
+    ensures { result ≡ parameter_of number }
 {
     match number {
         NumberRead::Number(word) => LineRead::Read(LineContent::Parameter(word)),
@@ -101,7 +101,7 @@ fn parameter_of(number: NumberRead) -> LineRead
 }
 
 fn last_parameter_of(number: NumberRead) -> LineRead
-    ensures { result ≡ lastParameterOf number }
+    ensures { result ≡ last_parameter_of number }
 {
     match number {
         NumberRead::Number(word) => LineRead::Read(LineContent::LastParameter(word)),
@@ -151,7 +151,7 @@ fn put_of(array: u32, index: PageAtom, value: ValueRead) -> LineRead
 }
 
 fn assigned_of(element: ElementRead, name: AtomRead, value: ValueRead) -> LineRead
-    ensures { result ≡ assignedOf element name value }
+    ensures { result ≡ assigned_of element name value }
 {
     match element {
         ElementRead::Read(array, index) => put_of(array, index, value),
@@ -161,7 +161,7 @@ fn assigned_of(element: ElementRead, name: AtomRead, value: ValueRead) -> LineRe
 
 // An assignment by its target, and the rest from its first blank on.
 fn assignment_of(names: Names, target: &[u8], rest: &[u8]) -> LineRead
-    ensures { result ≡ assignmentOf names target.now rest.now }
+    ensures { result ≡ assignment_of names target.now rest.now }
 {
     if is_framed(b" = f", b"(", rest) {
         let last = rest.len() - 1;
@@ -182,7 +182,7 @@ fn assignment_of(names: Names, target: &[u8], rest: &[u8]) -> LineRead
 
 // `X,`, `X);`
 fn argument(names: Names, text: &[u8]) -> LineRead
-    ensures { result ≡ argumentRead names text.now }
+    ensures { result ≡ argument_read names text.now }
 {
     if is_framed(b"", b",", text) {
         let last = text.len() - 1;
@@ -197,7 +197,7 @@ fn argument(names: Names, text: &[u8]) -> LineRead
 
 // `P = X;` and the others with an equals sign; an argument has no blank.
 fn assignment(names: Names, text: &[u8]) -> LineRead
-    ensures { result ≡ assignmentRead names text.now }
+    ensures { result ≡ assignment_read names text.now }
 {
     let end = piece_end(text, 0, b' ');
     if end == text.len() {
@@ -208,7 +208,7 @@ fn assignment(names: Names, text: &[u8]) -> LineRead
 
 // `if (X) {`, `while (X) {`, or an assignment.
 fn tested(names: Names, text: &[u8]) -> LineRead
-    ensures { result ≡ testRead names text.now }
+    ensures { result ≡ test_read names text.now }
 {
     if is_framed(b"if (", b") {", text) {
         let last = text.len() - 3;
@@ -223,7 +223,7 @@ fn tested(names: Names, text: &[u8]) -> LineRead
 
 // `int lN) {`, `int lN,`, or one of those.
 fn parameter(names: Names, text: &[u8]) -> LineRead
-    ensures { result ≡ parameterRead names text.now }
+    ensures { result ≡ parameter_read names text.now }
 {
     if is_framed(b"int l", b") {", text) {
         let last = text.len() - 3;
@@ -238,7 +238,7 @@ fn parameter(names: Names, text: &[u8]) -> LineRead
 
 // `return X;`, `int fN() {`, `int fN(`, or one of those.
 fn function(names: Names, text: &[u8]) -> LineRead
-    ensures { result ≡ functionRead names text.now }
+    ensures { result ≡ function_read names text.now }
 {
     if is_framed(b"return ", b";", text) {
         let last = text.len() - 1;
@@ -257,7 +257,7 @@ fn function(names: Names, text: &[u8]) -> LineRead
 
 // `goto LN;`, `LN:;`, or one of those.
 fn jump(names: Names, text: &[u8]) -> LineRead
-    ensures { result ≡ jumpRead names text.now }
+    ensures { result ≡ jump_read names text.now }
 {
     if is_framed(b"goto L", b";", text) {
         let last = text.len() - 1;
@@ -272,7 +272,7 @@ fn jump(names: Names, text: &[u8]) -> LineRead
 
 // The lines that are one fixed word, or one of those.
 pub fn line(names: Names, text: &[u8]) -> LineRead
-    ensures { result ≡ lineRead names text.now }
+    ensures { result ≡ line_read names text.now }
 {
     if is_word(b";", text) {
         return LineRead::Read(LineContent::Empty);

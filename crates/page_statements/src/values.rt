@@ -1,6 +1,6 @@
 // Operators, and what is assigned.
 ghost use Rattle.std.specs.Prelude.{◌≡◌};
-ghost use Rattle.page_words.specs.Reads.{operatorOfOne, operatorOfTwo, operatorRead, singleOf, calledOf, minusOf, binaryOf, binaryRead, severalRead, singleRead, valueRead};
+ghost use Rattle.page_words.specs.Reads.{operator_of_one, operator_of_two, operator_read, single_of, called_of, minus_of, binary_of, binary_read, several_read, single_read, value_read};
 
 use page_atoms::atoms::{atom, element, number_below};
 use page_atoms::compare::{is_framed, is_word};
@@ -9,7 +9,7 @@ use text_lines::line::piece_end;
 use words::Operator;
 
 fn operator_of_one(byte: u8) -> OperatorRead
-    ensures { result ≡ operatorOfOne byte }
+    ensures { result ≡ operator_of_one byte }
 {
     if byte == b'+' {
         return OperatorRead::Read(Operator::Add);
@@ -37,7 +37,7 @@ fn operator_of_one(byte: u8) -> OperatorRead
 
 // The operators that end in `=`, by their first byte.
 fn operator_of_two(byte: u8) -> OperatorRead
-    ensures { result ≡ operatorOfTwo byte }
+    ensures { result ≡ operator_of_two byte }
 {
     if byte == b'<' {
         return OperatorRead::Read(Operator::LessOrEqual);
@@ -55,7 +55,7 @@ fn operator_of_two(byte: u8) -> OperatorRead
 }
 
 fn operator(word: &[u8]) -> OperatorRead
-    ensures { result ≡ operatorRead word.now }
+    ensures { result ≡ operator_read word.now }
 {
     if word.len() == 1 {
         return operator_of_one(word[0]);
@@ -70,7 +70,7 @@ fn operator(word: &[u8]) -> OperatorRead
 }
 
 fn single_of(element: ElementRead, atom: AtomRead) -> ValueRead
-    ensures { result ≡ singleOf element atom }
+    ensures { result ≡ single_of element atom }
 {
     if let ElementRead::Read(array, index) = element {
         return ValueRead::Read(Value::Element(array, index));
@@ -82,7 +82,7 @@ fn single_of(element: ElementRead, atom: AtomRead) -> ValueRead
 }
 
 fn called_of(number: NumberRead) -> ValueRead
-    ensures { result ≡ calledOf number }
+    ensures { result ≡ called_of number }
 {
     match number {
         NumberRead::Number(function) => ValueRead::Read(Value::Call(function)),
@@ -91,7 +91,7 @@ fn called_of(number: NumberRead) -> ValueRead
 }
 
 fn minus_of(atom: AtomRead) -> ValueRead
-    ensures { result ≡ minusOf atom }
+    ensures { result ≡ minus_of atom }
 {
     let AtomRead::Read(operand) = atom else {
         return ValueRead::Malformed;
@@ -100,7 +100,7 @@ fn minus_of(atom: AtomRead) -> ValueRead
 }
 
 fn binary_of(operator: OperatorRead, left: AtomRead, right: AtomRead) -> ValueRead
-    ensures { result ≡ binaryOf operator left right }
+    ensures { result ≡ binary_of operator left right }
 {
     let OperatorRead::Read(operation) = operator else {
         return ValueRead::Malformed;
@@ -116,7 +116,7 @@ fn binary_of(operator: OperatorRead, left: AtomRead, right: AtomRead) -> ValueRe
 
 // `X op Y` by X, and what stands behind its blank.
 fn binary(names: Names, first: &[u8], rest: &[u8]) -> ValueRead
-    ensures { result ≡ binaryRead names first.now rest.now }
+    ensures { result ≡ binary_read names first.now rest.now }
 {
     let end = piece_end(rest, 0, b' ');
     if end == rest.len() {
@@ -131,7 +131,7 @@ fn binary(names: Names, first: &[u8], rest: &[u8]) -> ValueRead
 
 // `- X` or `X op Y`.
 fn several(names: Names, first: &[u8], rest: &[u8]) -> ValueRead
-    ensures { result ≡ severalRead names first.now rest.now }
+    ensures { result ≡ several_read names first.now rest.now }
 {
     if is_word(b"-", first) {
         return minus_of(atom(names, rest));
@@ -141,7 +141,7 @@ fn several(names: Names, first: &[u8], rest: &[u8]) -> ValueRead
 
 // `f7()`, an element, or an atom.
 fn single(names: Names, text: &[u8]) -> ValueRead
-    ensures { result ≡ singleRead names text.now }
+    ensures { result ≡ single_read names text.now }
 {
     if is_framed(b"f", b"()", text) {
         let last = text.len() - 2;
@@ -152,7 +152,7 @@ fn single(names: Names, text: &[u8]) -> ValueRead
 
 // What is assigned, without its semicolon.
 pub fn value(names: Names, text: &[u8]) -> ValueRead
-    ensures { result ≡ valueRead names text.now }
+    ensures { result ≡ value_read names text.now }
 {
     let end = piece_end(text, 0, b' ');
     if end == text.len() {

@@ -6,45 +6,45 @@ use Rattle.std.proofs.Common.{sym, ◌∙◌, true≢false, eqb-true}
 use Rattle.std.proofs.Math.Logic.{inl, inr, ⊎_elim}
 use Prim.Native.Nat.{ℕ, zero, suc, ◌<◌}
 use native.Mathlib.Omega.{arith}
-use Rattle.words.specs.Table.{rowCount, number_at}
-use Rattle.words.specs.Kinds.{kind_at, optionalItem, optionalArgument, isLink, isStatementKind, sortIn, kindRow, expressionFields, markFields, standsIn}
-use Rattle.words.specs.Links.{isStatement, link, fits}
+use Rattle.words.specs.Table.{row_count, number_at}
+use Rattle.words.specs.Kinds.{kind_at, optional_item, optional_argument, is_link, is_statement_kind, sort_in, kind_row, expression_fields, mark_fields, stands_in}
+use Rattle.words.specs.Links.{is_statement, link, fits}
 use Rattle.words.specs.declared.Form.TheVariants.{Kernel}
 use Rattle.words.specs.declared.Kind.{Kind}
 use Rattle.words.specs.declared.Kind.TheVariants.{OfExpression, OfMark, Definition}
 use Rattle.words.specs.declared.ExpressionKind.TheVariants.{Call}
 use Rattle.words.specs.declared.MarkKind.TheVariants.{Label}
-use Rattle.words_roles.specs.Roles.{isParameter}
+use Rattle.words_roles.specs.Roles.{is_parameter}
 use Rattle.language.specs.Trees.{call, none}
-use Rattle.language.specs.Decode.{expressionAt, argumentListAt, itemsAt}
+use Rattle.language.specs.Decode.{expression_at, argument_list_at, items_at}
 use Rattle.language.specs.DecodeLaws.{at_call, at_item, at_label}
 use Rattle.check_fields.specs.declared.Bounds.{Bounds}
 use Rattle.check_structure.specs.Structured.{Structured}
 use Rattle.check_structure.specs.RoleLaws.{first-parameter}
 use Rattle.accepted_calls.specs.Kinds.{kind-definition}
 use Rattle.accepted.specs.Sorts.{statement-kind, in-language}
-use Rattle.accepted.specs.Fields.{MayLink, may-link, item-link}
-use Rattle.accepted.specs.Expressions.{ArgumentsRow, no_arguments, whole-rows, arguments-row}
-use Rattle.accepted.specs.Statements.{ParametersRow, no-parameters, parameters-row}
-use Rattle.accepted.specs.Definitions.{defines}
+use Rattle.accepted.proofs.Fields.{MayLink, may-link, item-link}
+use Rattle.accepted.proofs.Expressions.{ArgumentsRow, no_arguments, whole-rows, arguments-row}
+use Rattle.accepted.proofs.Statements.{ParametersRow, no-parameters, parameters-row}
+use Rattle.accepted.proofs.Definitions.{defines}
 
 -- A row that is an item of a list, row 0 among them: a parameter is none.
 pub record IsItem (table : List ℤ) (row : ℕ) : Type 0 where
-  pub statement : isStatement table row ≡ true
-  pub other-role : isParameter table row ≡ false
+  pub statement : is_statement table row ≡ true
+  pub other_role : is_parameter table row ≡ false
 
 -- The item that a field links.
-pub item-at : (table : List ℤ) {row field : ℕ} → MayLink table row optionalItem field → 0 < link table row field → (link table row field < rowCount table) × IsItem table (link table row field)
+pub item-at : (table : List ℤ) {row field : ℕ} → MayLink table row optional_item field → 0 < link table row field → (link table row field < row_count table) × IsItem table (link table row field)
 unfolding fits
-item-at table l p = ((l.leads p).inside, record { statement = l.fit p; other-role = l.other p })
+item-at table l p = ((l.leads p).inside, record { statement = l.fit p; other_role = l.other p })
 
-module _ (bounds : Bounds) (table : List ℤ) (u : Structured Kernel bounds table) (row : ℕ) (n : row < rowCount table) where
-  pub not-in-kernel : {kind : Kind} → kind_at table row ≡ kind → standsIn (kindRow kind).forms Kernel ≡ false → ⊥
+module _ (bounds : Bounds) (table : List ℤ) (u : Structured Kernel bounds table) (row : ℕ) (n : row < row_count table) where
+  pub not-in-kernel : {kind : Kind} → kind_at table row ≡ kind → stands_in (kind_row kind).forms Kernel ≡ false → ⊥
   not-in-kernel k f = true≢false (sym (in-language Kernel table row (u.known row n) k) ∙ f)
 
   -- A statement, a label or a definition.
-  pub kernel-kinds : isStatement table row ≡ true → (isStatementKind (kind_at table row) ≡ true) ⊎ ((kind_at table row ≡ OfMark Label) ⊎ (kind_at table row ≡ Definition))
-  unfolding isStatement kindRow markFields
+  pub kernel-kinds : is_statement table row ≡ true → (is_statement_kind (kind_at table row) ≡ true) ⊎ ((kind_at table row ≡ OfMark Label) ⊎ (kind_at table row ≡ Definition))
+  unfolding is_statement kind_row mark_fields
   kernel-kinds h =
       ⊎_elim (λ k. inl k)
       (⊎_elim (λ k. absurd (not-in-kernel k refl))
@@ -52,11 +52,11 @@ module _ (bounds : Bounds) (table : List ℤ) (u : Structured Kernel bounds tabl
       (statement-kind table row (eqb-true _ _ h))
 
   -- What stands behind it in its list.
-  pub next-item : IsItem table row → MayLink table row optionalItem 5
-  next-item h = item-link Kernel bounds table u row n h.other-role h.statement
+  pub next-item : IsItem table row → MayLink table row optional_item 5
+  next-item h = item-link Kernel bounds table u row n h.other_role h.statement
 
   -- Its list is not empty.
-  pub items-some : IsItem table row → itemsAt table row ≡ none → ⊥
+  pub items-some : IsItem table row → items_at table row ≡ none → ⊥
   items-some h e =
       let next = next-item h in
       let w = whole-rows Kernel bounds table u in
@@ -66,11 +66,11 @@ module _ (bounds : Bounds) (table : List ℤ) (u : Structured Kernel bounds tabl
       (kernel-kinds h.statement)
 
   -- A call, and its arguments.
-  call-link : kind_at table row ≡ OfExpression Call → MayLink table row optionalArgument 2
-  unfolding isLink sortIn kindRow expressionFields
-  call-link k = may-link Kernel bounds table u row n k optionalArgument 2 refl refl
+  call-link : kind_at table row ≡ OfExpression Call → MayLink table row optional_argument 2
+  unfolding is_link sort_in kind_row expression_fields
+  call-link k = may-link Kernel bounds table u row n k optional_argument 2 refl refl
 
-  pub call-is : kind_at table row ≡ OfExpression Call → expressionAt table row ≡ call (number_at table row 1) (argumentListAt table (link table row 2))
+  pub call-is : kind_at table row ≡ OfExpression Call → expression_at table row ≡ call (number_at table row 1) (argument_list_at table (link table row 2))
   call-is k = let a = call-link k in rw a.same (at_call table (whole-rows Kernel bounds table u) row k a.later)
 
   pub arguments-at : kind_at table row ≡ OfExpression Call → ArgumentsRow table (link table row 2)

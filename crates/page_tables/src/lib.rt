@@ -1,1 +1,2 @@
 // The pages of legal kernel tables: theorems alone, in specs/.
+#![tactic(auto)]

@@ -10,17 +10,5 @@ pub mod Reads
 -- ---- laws
 -- Laws of comparing: framed bytes are those with these around them.
 pub mod CompareLaws
--- First bytes: numbers up to a limit, and words by their first byte.
-pub mod FirstBytes
--- Parts: texts by where a separator parts them, or by what stands around them.
-pub mod Parts
--- Sound: bytes that are read as an atom, an element or a value are its bytes, and it fits.
-pub mod Sound
--- Sound lines: bytes that are read as a line are that line's, and it fits.
-pub mod LineSound
--- Complete: the bytes of each atom, element or value that fits are read as it.
-pub mod Complete
--- Complete lines: the bytes of each line that fits are read as it.
-pub mod LineComplete
 -- Trees: the line of a page that each line read is; the same bytes there.
 pub mod Trees

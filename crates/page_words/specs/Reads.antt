@@ -3,9 +3,9 @@ use Rattle.std.specs.Prelude.{Bool, true, false, List, [], ◌∷◌, ◌++◌, 
 use Rattle.std.proofs.Math.Option.{Option, none, some}
 use Rattle.words.specs.Word.{pick}
 use Rattle.words.specs.declared.Operator.TheVariants.{Add, Subtract, Multiply, Divide, Remainder, Less, Greater, LessOrEqual, GreaterOrEqual, Equal, NotEqual}
-use Rattle.text_numbers.specs.Number.{naturalOf, number_of}
-use Rattle.text_lines.specs.Reader.{pieceEnd}
-use Rattle.page_words.specs.Compare.{isWord, isFramed, middle}
+use Rattle.text_numbers.specs.Number.{natural_of, number_of}
+use Rattle.text_lines.specs.Reader.{piece_end}
+use Rattle.page_words.specs.Compare.{is_word, is_framed, middle}
 use Rattle.page_words.specs.declared.Names.{Names}
 use Rattle.page_words.specs.declared.PageAtom.{PageAtom}
 use Rattle.page_words.specs.declared.PageAtom.TheVariants.{Constant, Variable, Declared, Temporary}
@@ -28,132 +28,132 @@ use Rattle.page_words.specs.declared.LineRead.TheVariants as line-cases
 
 -- ---- names
 
-abbrev pub belowOf : ℕ → Option ℕ → NumberRead
-belowOf bound none = number-cases.Malformed
-belowOf bound (some n) = pick (ltb n bound) (number-cases.Number n) number-cases.Malformed
+abbrev pub below_of : ℕ → Option ℕ → NumberRead
+below_of bound none = number-cases.Malformed
+below_of bound (some n) = pick (ltb n bound) (number-cases.Number n) number-cases.Malformed
 
 -- A number below a bound.
-unfoldable pub numberRead : ℕ → List ℕ → NumberRead
-numberRead bound word = belowOf bound (naturalOf word)
+unfoldable pub number_read : ℕ → List ℕ → NumberRead
+number_read bound word = below_of bound (natural_of word)
 
-abbrev pub variableOf : NumberRead → AtomRead
-variableOf (number-cases.Number n) = atom-cases.Read (Variable n)
-variableOf number-cases.Malformed = atom-cases.Malformed
+abbrev pub variable_of : NumberRead → AtomRead
+variable_of (number-cases.Number n) = atom-cases.Read (Variable n)
+variable_of number-cases.Malformed = atom-cases.Malformed
 
-abbrev pub declaredWordOf : NumberRead → AtomRead
-declaredWordOf (number-cases.Number n) = atom-cases.Read (Declared n)
-declaredWordOf number-cases.Malformed = atom-cases.Malformed
+abbrev pub declared_word_of : NumberRead → AtomRead
+declared_word_of (number-cases.Number n) = atom-cases.Read (Declared n)
+declared_word_of number-cases.Malformed = atom-cases.Malformed
 
-abbrev pub temporaryOf : NumberRead → AtomRead
-temporaryOf (number-cases.Number n) = atom-cases.Read (Temporary n)
-temporaryOf number-cases.Malformed = atom-cases.Malformed
+abbrev pub temporary_of : NumberRead → AtomRead
+temporary_of (number-cases.Number n) = atom-cases.Read (Temporary n)
+temporary_of number-cases.Malformed = atom-cases.Malformed
 
-abbrev pub constantOf : Option ℤ → AtomRead
-constantOf (some v) = atom-cases.Read (Constant v)
-constantOf none = atom-cases.Malformed
+abbrev pub constant_of : Option ℤ → AtomRead
+constant_of (some v) = atom-cases.Read (Constant v)
+constant_of none = atom-cases.Malformed
 
-abbrev pub nameOf : AtomRead → AtomRead
-nameOf atom-cases.Malformed = atom-cases.Malformed
-nameOf (atom-cases.Read (Constant v)) = atom-cases.Malformed
-nameOf (atom-cases.Read (Variable n)) = atom-cases.Read (Variable n)
-nameOf (atom-cases.Read (Declared n)) = atom-cases.Read (Declared n)
-nameOf (atom-cases.Read (Temporary n)) = atom-cases.Read (Temporary n)
+abbrev pub name_of : AtomRead → AtomRead
+name_of atom-cases.Malformed = atom-cases.Malformed
+name_of (atom-cases.Read (Constant v)) = atom-cases.Malformed
+name_of (atom-cases.Read (Variable n)) = atom-cases.Read (Variable n)
+name_of (atom-cases.Read (Declared n)) = atom-cases.Read (Declared n)
+name_of (atom-cases.Read (Temporary n)) = atom-cases.Read (Temporary n)
 
-abbrev pub elementOf : NumberRead → AtomRead → ElementRead
-elementOf number-cases.Malformed index = element-cases.Malformed
-elementOf (number-cases.Number array) atom-cases.Malformed = element-cases.Malformed
-elementOf (number-cases.Number array) (atom-cases.Read index) = element-cases.Read array index
+abbrev pub element_of : NumberRead → AtomRead → ElementRead
+element_of number-cases.Malformed index = element-cases.Malformed
+element_of (number-cases.Number array) atom-cases.Malformed = element-cases.Malformed
+element_of (number-cases.Number array) (atom-cases.Read index) = element-cases.Read array index
 
 -- ---- values
 
-unfoldable pub operatorOfOne : ℕ → OperatorRead
-operatorOfOne byte =
+unfoldable pub operator_of_one : ℕ → OperatorRead
+operator_of_one byte =
     pick (eqb byte 43) (operator-cases.Read Add) (pick (eqb byte 45) (operator-cases.Read Subtract) (pick (eqb byte 42) (operator-cases.Read Multiply)
     (pick (eqb byte 47) (operator-cases.Read Divide) (pick (eqb byte 37) (operator-cases.Read Remainder) (pick (eqb byte 60) (operator-cases.Read Less)
     (pick (eqb byte 62) (operator-cases.Read Greater) operator-cases.Malformed))))))
 
 -- Operators that end in `=`, by their first byte.
-unfoldable pub operatorOfTwo : ℕ → OperatorRead
-operatorOfTwo byte =
+unfoldable pub operator_of_two : ℕ → OperatorRead
+operator_of_two byte =
     pick (eqb byte 60) (operator-cases.Read LessOrEqual) (pick (eqb byte 62) (operator-cases.Read GreaterOrEqual) (pick (eqb byte 61) (operator-cases.Read Equal)
     (pick (eqb byte 33) (operator-cases.Read NotEqual) operator-cases.Malformed)))
 
-unfoldable pub operatorRead : List ℕ → OperatorRead
-operatorRead [] = operator-cases.Malformed
-operatorRead (first ∷ []) = operatorOfOne first
-operatorRead (first ∷ (second ∷ [])) = pick (eqb second 61) (operatorOfTwo first) operator-cases.Malformed
-operatorRead (first ∷ (second ∷ (third ∷ others))) = operator-cases.Malformed
+unfoldable pub operator_read : List ℕ → OperatorRead
+operator_read [] = operator-cases.Malformed
+operator_read (first ∷ []) = operator_of_one first
+operator_read (first ∷ (second ∷ [])) = pick (eqb second 61) (operator_of_two first) operator-cases.Malformed
+operator_read (first ∷ (second ∷ (third ∷ others))) = operator-cases.Malformed
 
 -- An element, or else an atom.
-abbrev pub singleOf : ElementRead → AtomRead → ValueRead
-singleOf (element-cases.Read array index) atom = value-cases.Read (Element array index)
-singleOf element-cases.Malformed (atom-cases.Read a) = value-cases.Read (Single a)
-singleOf element-cases.Malformed atom-cases.Malformed = value-cases.Malformed
+abbrev pub single_of : ElementRead → AtomRead → ValueRead
+single_of (element-cases.Read array index) atom = value-cases.Read (Element array index)
+single_of element-cases.Malformed (atom-cases.Read a) = value-cases.Read (Single a)
+single_of element-cases.Malformed atom-cases.Malformed = value-cases.Malformed
 
-abbrev pub calledOf : NumberRead → ValueRead
-calledOf (number-cases.Number f) = value-cases.Read (Call f)
-calledOf number-cases.Malformed = value-cases.Malformed
+abbrev pub called_of : NumberRead → ValueRead
+called_of (number-cases.Number f) = value-cases.Read (Call f)
+called_of number-cases.Malformed = value-cases.Malformed
 
-abbrev pub minusOf : AtomRead → ValueRead
-minusOf (atom-cases.Read a) = value-cases.Read (Minus a)
-minusOf atom-cases.Malformed = value-cases.Malformed
+abbrev pub minus_of : AtomRead → ValueRead
+minus_of (atom-cases.Read a) = value-cases.Read (Minus a)
+minus_of atom-cases.Malformed = value-cases.Malformed
 
-abbrev pub binaryOf : OperatorRead → AtomRead → AtomRead → ValueRead
-binaryOf operator-cases.Malformed left right = value-cases.Malformed
-binaryOf (operator-cases.Read o) atom-cases.Malformed right = value-cases.Malformed
-binaryOf (operator-cases.Read o) (atom-cases.Read a) atom-cases.Malformed = value-cases.Malformed
-binaryOf (operator-cases.Read o) (atom-cases.Read a) (atom-cases.Read b) = value-cases.Read (Binary o a b)
+abbrev pub binary_of : OperatorRead → AtomRead → AtomRead → ValueRead
+binary_of operator-cases.Malformed left right = value-cases.Malformed
+binary_of (operator-cases.Read o) atom-cases.Malformed right = value-cases.Malformed
+binary_of (operator-cases.Read o) (atom-cases.Read a) atom-cases.Malformed = value-cases.Malformed
+binary_of (operator-cases.Read o) (atom-cases.Read a) (atom-cases.Read b) = value-cases.Read (Binary o a b)
 
 -- ---- lines
 
-abbrev pub gotoOf : NumberRead → LineRead
-gotoOf (number-cases.Number l) = line-cases.Read (Goto l)
-gotoOf number-cases.Malformed = line-cases.Malformed
+abbrev pub goto_of : NumberRead → LineRead
+goto_of (number-cases.Number l) = line-cases.Read (Goto l)
+goto_of number-cases.Malformed = line-cases.Malformed
 
-abbrev pub labelOf : NumberRead → LineRead
-labelOf (number-cases.Number l) = line-cases.Read (Label l)
-labelOf number-cases.Malformed = line-cases.Malformed
+abbrev pub label_of : NumberRead → LineRead
+label_of (number-cases.Number l) = line-cases.Read (Label l)
+label_of number-cases.Malformed = line-cases.Malformed
 
-abbrev pub ifOf : AtomRead → LineRead
-ifOf (atom-cases.Read a) = line-cases.Read (If a)
-ifOf atom-cases.Malformed = line-cases.Malformed
+abbrev pub if_of : AtomRead → LineRead
+if_of (atom-cases.Read a) = line-cases.Read (If a)
+if_of atom-cases.Malformed = line-cases.Malformed
 
-abbrev pub whileOf : AtomRead → LineRead
-whileOf (atom-cases.Read a) = line-cases.Read (While a)
-whileOf atom-cases.Malformed = line-cases.Malformed
+abbrev pub while_of : AtomRead → LineRead
+while_of (atom-cases.Read a) = line-cases.Read (While a)
+while_of atom-cases.Malformed = line-cases.Malformed
 
-abbrev pub returnOf : AtomRead → LineRead
-returnOf (atom-cases.Read a) = line-cases.Read (Return a)
-returnOf atom-cases.Malformed = line-cases.Malformed
+abbrev pub return_of : AtomRead → LineRead
+return_of (atom-cases.Read a) = line-cases.Read (Return a)
+return_of atom-cases.Malformed = line-cases.Malformed
 
 abbrev pub call_of : AtomRead → NumberRead → LineRead
 call_of atom-cases.Malformed number = line-cases.Malformed
 call_of (atom-cases.Read a) number-cases.Malformed = line-cases.Malformed
 call_of (atom-cases.Read a) (number-cases.Number f) = line-cases.Read (OpensCall a f)
 
-abbrev pub argumentOf : AtomRead → LineRead
-argumentOf (atom-cases.Read a) = line-cases.Read (Argument a)
-argumentOf atom-cases.Malformed = line-cases.Malformed
+abbrev pub argument_of : AtomRead → LineRead
+argument_of (atom-cases.Read a) = line-cases.Read (Argument a)
+argument_of atom-cases.Malformed = line-cases.Malformed
 
-abbrev pub lastArgumentOf : AtomRead → LineRead
-lastArgumentOf (atom-cases.Read a) = line-cases.Read (LastArgument a)
-lastArgumentOf atom-cases.Malformed = line-cases.Malformed
+abbrev pub last_argument_of : AtomRead → LineRead
+last_argument_of (atom-cases.Read a) = line-cases.Read (LastArgument a)
+last_argument_of atom-cases.Malformed = line-cases.Malformed
 
-abbrev pub functionOf : NumberRead → LineRead
-functionOf (number-cases.Number f) = line-cases.Read (OpensFunction f)
-functionOf number-cases.Malformed = line-cases.Malformed
+abbrev pub function_of : NumberRead → LineRead
+function_of (number-cases.Number f) = line-cases.Read (OpensFunction f)
+function_of number-cases.Malformed = line-cases.Malformed
 
-abbrev pub parametersOf : NumberRead → LineRead
-parametersOf (number-cases.Number f) = line-cases.Read (OpensParameters f)
-parametersOf number-cases.Malformed = line-cases.Malformed
+abbrev pub parameters_of : NumberRead → LineRead
+parameters_of (number-cases.Number f) = line-cases.Read (OpensParameters f)
+parameters_of number-cases.Malformed = line-cases.Malformed
 
-abbrev pub parameterOf : NumberRead → LineRead
-parameterOf (number-cases.Number n) = line-cases.Read (Parameter n)
-parameterOf number-cases.Malformed = line-cases.Malformed
+abbrev pub parameter_of : NumberRead → LineRead
+parameter_of (number-cases.Number n) = line-cases.Read (Parameter n)
+parameter_of number-cases.Malformed = line-cases.Malformed
 
-abbrev pub lastParameterOf : NumberRead → LineRead
-lastParameterOf (number-cases.Number n) = line-cases.Read (LastParameter n)
-lastParameterOf number-cases.Malformed = line-cases.Malformed
+abbrev pub last_parameter_of : NumberRead → LineRead
+last_parameter_of (number-cases.Number n) = line-cases.Read (LastParameter n)
+last_parameter_of number-cases.Malformed = line-cases.Malformed
 
 -- A name takes any value,
 abbrev pub store_of : AtomRead → ValueRead → LineRead
@@ -170,94 +170,94 @@ put_of array index (value-cases.Read (Minus a)) = line-cases.Malformed
 put_of array index (value-cases.Read (Binary o a b)) = line-cases.Malformed
 put_of array index (value-cases.Read (Call f)) = line-cases.Malformed
 
-abbrev pub assignedOf : ElementRead → AtomRead → ValueRead → LineRead
-assignedOf (element-cases.Read array index) name value = put_of array index value
-assignedOf element-cases.Malformed name value = store_of name value
+abbrev pub assigned_of : ElementRead → AtomRead → ValueRead → LineRead
+assigned_of (element-cases.Read array index) name value = put_of array index value
+assigned_of element-cases.Malformed name value = store_of name value
 
 module _ (names : Names) where
   -- `v7`, `l7`, `t7`, `-7`
-  unfoldable pub atomRead : List ℕ → AtomRead
-  atomRead [] = atom-cases.Malformed
-  atomRead (first ∷ others) =
-      pick (eqb first 118) (variableOf (numberRead names.variables others))
-      (pick (eqb first 108) (declaredWordOf (numberRead names.declared others))
-      (pick (eqb first 116) (temporaryOf (numberRead names.temporaries others)) (constantOf (number_of (first ∷ others)))))
+  unfoldable pub atom_read : List ℕ → AtomRead
+  atom_read [] = atom-cases.Malformed
+  atom_read (first ∷ others) =
+      pick (eqb first 118) (variable_of (number_read names.variables others))
+      (pick (eqb first 108) (declared_word_of (number_read names.declared others))
+      (pick (eqb first 116) (temporary_of (number_read names.temporaries others)) (constant_of (number_of (first ∷ others)))))
 
   -- An element without its letter and its last bracket, told by where its first bracket stands.
-  unfoldable pub elementIn : List ℕ → ElementRead
-  elementIn inner =
-      pick (eqb (pieceEnd 91 inner) (length inner)) element-cases.Malformed
-      (elementOf (numberRead names.arrays (take (pieceEnd 91 inner) inner)) (atomRead (drop (pieceEnd 91 inner + 1) inner)))
+  unfoldable pub element_in : List ℕ → ElementRead
+  element_in inner =
+      pick (eqb (piece_end 91 inner) (length inner)) element-cases.Malformed
+      (element_of (number_read names.arrays (take (piece_end 91 inner) inner)) (atom_read (drop (piece_end 91 inner + 1) inner)))
 
   -- `a7[X]`
-  unfoldable pub elementRead : List ℕ → ElementRead
-  elementRead word = pick (isFramed (97 ∷ []) (93 ∷ []) word) (elementIn (middle 1 1 word)) element-cases.Malformed
+  unfoldable pub element_read : List ℕ → ElementRead
+  element_read word = pick (is_framed (97 ∷ []) (93 ∷ []) word) (element_in (middle 1 1 word)) element-cases.Malformed
 
   -- `X op Y` by X, and what stands behind its blank.
-  unfoldable pub binaryRead : List ℕ → List ℕ → ValueRead
-  binaryRead first rest =
-      pick (eqb (pieceEnd 32 rest) (length rest)) value-cases.Malformed
-      (binaryOf (operatorRead (take (pieceEnd 32 rest) rest)) (atomRead first) (atomRead (drop (pieceEnd 32 rest + 1) rest)))
+  unfoldable pub binary_read : List ℕ → List ℕ → ValueRead
+  binary_read first rest =
+      pick (eqb (piece_end 32 rest) (length rest)) value-cases.Malformed
+      (binary_of (operator_read (take (piece_end 32 rest) rest)) (atom_read first) (atom_read (drop (piece_end 32 rest + 1) rest)))
 
   -- `- X` or `X op Y`
-  unfoldable pub severalRead : List ℕ → List ℕ → ValueRead
-  severalRead first rest = pick (isWord (45 ∷ []) first) (minusOf (atomRead rest)) (binaryRead first rest)
+  unfoldable pub several_read : List ℕ → List ℕ → ValueRead
+  several_read first rest = pick (is_word (45 ∷ []) first) (minus_of (atom_read rest)) (binary_read first rest)
 
   -- `f7()`, an element, or an atom
-  unfoldable pub singleRead : List ℕ → ValueRead
-  singleRead text =
-      pick (isFramed (102 ∷ []) (40 ∷ 41 ∷ []) text) (calledOf (numberRead 40980 (middle 1 2 text))) (singleOf (elementRead text) (atomRead text))
+  unfoldable pub single_read : List ℕ → ValueRead
+  single_read text =
+      pick (is_framed (102 ∷ []) (40 ∷ 41 ∷ []) text) (called_of (number_read 40980 (middle 1 2 text))) (single_of (element_read text) (atom_read text))
 
   -- What is assigned, without its semicolon.
-  unfoldable pub valueRead : List ℕ → ValueRead
-  valueRead text =
-      pick (eqb (pieceEnd 32 text) (length text)) (singleRead text)
-      (severalRead (take (pieceEnd 32 text) text) (drop (pieceEnd 32 text + 1) text))
+  unfoldable pub value_read : List ℕ → ValueRead
+  value_read text =
+      pick (eqb (piece_end 32 text) (length text)) (single_read text)
+      (several_read (take (piece_end 32 text) text) (drop (piece_end 32 text + 1) text))
 
   -- `P = fN(` or `P = X;`: the target's bytes, and the rest with its blank, equals sign and parenthesis or semicolon.
-  unfoldable pub assignmentOf : List ℕ → List ℕ → LineRead
-  assignmentOf target rest =
-      pick (isFramed (32 ∷ 61 ∷ 32 ∷ 102 ∷ []) (40 ∷ []) rest) (call_of (nameOf (atomRead target)) (numberRead 40980 (middle 4 1 rest)))
-      (pick (isFramed (32 ∷ 61 ∷ 32 ∷ []) (59 ∷ []) rest) (assignedOf (elementRead target) (nameOf (atomRead target)) (valueRead (middle 3 1 rest))) line-cases.Malformed)
+  unfoldable pub assignment_of : List ℕ → List ℕ → LineRead
+  assignment_of target rest =
+      pick (is_framed (32 ∷ 61 ∷ 32 ∷ 102 ∷ []) (40 ∷ []) rest) (call_of (name_of (atom_read target)) (number_read 40980 (middle 4 1 rest)))
+      (pick (is_framed (32 ∷ 61 ∷ 32 ∷ []) (59 ∷ []) rest) (assigned_of (element_read target) (name_of (atom_read target)) (value_read (middle 3 1 rest))) line-cases.Malformed)
 
   -- `X,`, `X);`
-  unfoldable pub argumentRead : List ℕ → LineRead
-  argumentRead text =
-      pick (isFramed [] (44 ∷ []) text) (argumentOf (atomRead (middle 0 1 text)))
-      (pick (isFramed [] (41 ∷ 59 ∷ []) text) (lastArgumentOf (atomRead (middle 0 2 text))) line-cases.Malformed)
+  unfoldable pub argument_read : List ℕ → LineRead
+  argument_read text =
+      pick (is_framed [] (44 ∷ []) text) (argument_of (atom_read (middle 0 1 text)))
+      (pick (is_framed [] (41 ∷ 59 ∷ []) text) (last_argument_of (atom_read (middle 0 2 text))) line-cases.Malformed)
 
   -- An argument has no blank.
-  unfoldable pub assignmentRead : List ℕ → LineRead
-  assignmentRead text = pick (eqb (pieceEnd 32 text) (length text)) (argumentRead text) (assignmentOf (take (pieceEnd 32 text) text) (drop (pieceEnd 32 text) text))
+  unfoldable pub assignment_read : List ℕ → LineRead
+  assignment_read text = pick (eqb (piece_end 32 text) (length text)) (argument_read text) (assignment_of (take (piece_end 32 text) text) (drop (piece_end 32 text) text))
 
   -- `if (X) {`, `while (X) {`, or an assignment or argument
-  unfoldable pub testRead : List ℕ → LineRead
-  testRead text =
-      pick (isFramed (105 ∷ 102 ∷ 32 ∷ 40 ∷ []) (41 ∷ 32 ∷ 123 ∷ []) text) (ifOf (atomRead (middle 4 3 text)))
-      (pick (isFramed (119 ∷ 104 ∷ 105 ∷ 108 ∷ 101 ∷ 32 ∷ 40 ∷ []) (41 ∷ 32 ∷ 123 ∷ []) text) (whileOf (atomRead (middle 7 3 text))) (assignmentRead text))
+  unfoldable pub test_read : List ℕ → LineRead
+  test_read text =
+      pick (is_framed (105 ∷ 102 ∷ 32 ∷ 40 ∷ []) (41 ∷ 32 ∷ 123 ∷ []) text) (if_of (atom_read (middle 4 3 text)))
+      (pick (is_framed (119 ∷ 104 ∷ 105 ∷ 108 ∷ 101 ∷ 32 ∷ 40 ∷ []) (41 ∷ 32 ∷ 123 ∷ []) text) (while_of (atom_read (middle 7 3 text))) (assignment_read text))
 
   -- `int lN) {`, `int lN,`, or one of those
-  unfoldable pub parameterRead : List ℕ → LineRead
-  parameterRead text =
-      pick (isFramed (105 ∷ 110 ∷ 116 ∷ 32 ∷ 108 ∷ []) (41 ∷ 32 ∷ 123 ∷ []) text) (lastParameterOf (numberRead names.declared (middle 5 3 text)))
-      (pick (isFramed (105 ∷ 110 ∷ 116 ∷ 32 ∷ 108 ∷ []) (44 ∷ []) text) (parameterOf (numberRead names.declared (middle 5 1 text))) (testRead text))
+  unfoldable pub parameter_read : List ℕ → LineRead
+  parameter_read text =
+      pick (is_framed (105 ∷ 110 ∷ 116 ∷ 32 ∷ 108 ∷ []) (41 ∷ 32 ∷ 123 ∷ []) text) (last_parameter_of (number_read names.declared (middle 5 3 text)))
+      (pick (is_framed (105 ∷ 110 ∷ 116 ∷ 32 ∷ 108 ∷ []) (44 ∷ []) text) (parameter_of (number_read names.declared (middle 5 1 text))) (test_read text))
 
   -- `return X;`, `int fN() {`, `int fN(`, or one of those
-  unfoldable pub functionRead : List ℕ → LineRead
-  functionRead text =
-      pick (isFramed (114 ∷ 101 ∷ 116 ∷ 117 ∷ 114 ∷ 110 ∷ 32 ∷ []) (59 ∷ []) text) (returnOf (atomRead (middle 7 1 text)))
-      (pick (isFramed (105 ∷ 110 ∷ 116 ∷ 32 ∷ 102 ∷ []) (40 ∷ 41 ∷ 32 ∷ 123 ∷ []) text) (functionOf (numberRead 40980 (middle 5 4 text)))
-      (pick (isFramed (105 ∷ 110 ∷ 116 ∷ 32 ∷ 102 ∷ []) (40 ∷ []) text) (parametersOf (numberRead 40980 (middle 5 1 text))) (parameterRead text)))
+  unfoldable pub function_read : List ℕ → LineRead
+  function_read text =
+      pick (is_framed (114 ∷ 101 ∷ 116 ∷ 117 ∷ 114 ∷ 110 ∷ 32 ∷ []) (59 ∷ []) text) (return_of (atom_read (middle 7 1 text)))
+      (pick (is_framed (105 ∷ 110 ∷ 116 ∷ 32 ∷ 102 ∷ []) (40 ∷ 41 ∷ 32 ∷ 123 ∷ []) text) (function_of (number_read 40980 (middle 5 4 text)))
+      (pick (is_framed (105 ∷ 110 ∷ 116 ∷ 32 ∷ 102 ∷ []) (40 ∷ []) text) (parameters_of (number_read 40980 (middle 5 1 text))) (parameter_read text)))
 
   -- `goto LN;`, `LN:;`, or one of those
-  unfoldable pub jumpRead : List ℕ → LineRead
-  jumpRead text =
-      pick (isFramed (103 ∷ 111 ∷ 116 ∷ 111 ∷ 32 ∷ 76 ∷ []) (59 ∷ []) text) (gotoOf (numberRead 40980 (middle 6 1 text)))
-      (pick (isFramed (76 ∷ []) (58 ∷ 59 ∷ []) text) (labelOf (numberRead 40980 (middle 1 2 text))) (functionRead text))
+  unfoldable pub jump_read : List ℕ → LineRead
+  jump_read text =
+      pick (is_framed (103 ∷ 111 ∷ 116 ∷ 111 ∷ 32 ∷ 76 ∷ []) (59 ∷ []) text) (goto_of (number_read 40980 (middle 6 1 text)))
+      (pick (is_framed (76 ∷ []) (58 ∷ 59 ∷ []) text) (label_of (number_read 40980 (middle 1 2 text))) (function_read text))
 
   -- One fixed word, or one of those.
-  unfoldable pub lineRead : List ℕ → LineRead
-  lineRead text =
-      pick (isWord (59 ∷ []) text) (line-cases.Read Empty) (pick (isWord (123 ∷ []) text) (line-cases.Read Opens) (pick (isWord (125 ∷ []) text) (line-cases.Read Closes)
-      (pick (isWord (125 ∷ 32 ∷ 101 ∷ 108 ∷ 115 ∷ 101 ∷ 32 ∷ 123 ∷ []) text) (line-cases.Read Turns)
-      (pick (isWord (97 ∷ 98 ∷ 111 ∷ 114 ∷ 116 ∷ 40 ∷ 41 ∷ 59 ∷ []) text) (line-cases.Read Abort) (jumpRead text)))))
+  unfoldable pub line_read : List ℕ → LineRead
+  line_read text =
+      pick (is_word (59 ∷ []) text) (line-cases.Read Empty) (pick (is_word (123 ∷ []) text) (line-cases.Read Opens) (pick (is_word (125 ∷ []) text) (line-cases.Read Closes)
+      (pick (is_word (125 ∷ 32 ∷ 101 ∷ 108 ∷ 115 ∷ 101 ∷ 32 ∷ 123 ∷ []) text) (line-cases.Read Turns)
+      (pick (is_word (97 ∷ 98 ∷ 111 ∷ 114 ∷ 116 ∷ 40 ∷ 41 ∷ 59 ∷ []) text) (line-cases.Read Abort) (jump_read text)))))

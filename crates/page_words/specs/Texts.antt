@@ -3,8 +3,8 @@
 -- constants that are words.
 use Rattle.std.specs.Prelude.{List, [], ◌∷◌, ◌++◌, ℕ, ◌^◌, ◌<◌, ℤ}
 use Rattle.std.specs.Int.Signed.{mag}
-use Rattle.text_numbers.specs.Number.{digits, numberBytes}
-use Rattle.page.specs.Page.{operatorWord, endedBy}
+use Rattle.text_numbers.specs.Number.{digits, number_bytes}
+use Rattle.page.specs.Page.{operator_word, ended_by}
 use Rattle.page_words.specs.declared.Names.{Names}
 use Rattle.page_words.specs.declared.PageAtom.{PageAtom}
 use Rattle.page_words.specs.declared.PageAtom.TheVariants.{Constant, Variable, Declared, Temporary}
@@ -13,47 +13,47 @@ use Rattle.page_words.specs.declared.Value.TheVariants.{Single, Element, Minus, 
 use Rattle.page_words.specs.declared.LineContent.{LineContent}
 use Rattle.page_words.specs.declared.LineContent.TheVariants.{Empty, Abort, Goto, Label, Store, Put, Opens, While, If, Turns, Closes, Return, OpensCall, Argument, LastArgument, OpensFunction, OpensParameters, Parameter, LastParameter}
 
-abbrev pub atomText : PageAtom → List ℕ
-atomText (Constant v) = numberBytes v
-atomText (Variable n) = 118 ∷ digits n
-atomText (Declared n) = 108 ∷ digits n
-atomText (Temporary n) = 116 ∷ digits n
+abbrev pub atom_text : PageAtom → List ℕ
+atom_text (Constant v) = number_bytes v
+atom_text (Variable n) = 118 ∷ digits n
+atom_text (Declared n) = 108 ∷ digits n
+atom_text (Temporary n) = 116 ∷ digits n
 
 -- `a7[X]`
-abbrev pub elementText : ℕ → PageAtom → List ℕ
-elementText array index = (97 ∷ []) ++ ((digits array ++ (91 ∷ atomText index)) ++ (93 ∷ []))
+abbrev pub element_text : ℕ → PageAtom → List ℕ
+element_text array index = (97 ∷ []) ++ ((digits array ++ (91 ∷ atom_text index)) ++ (93 ∷ []))
 
-abbrev pub valueText : Value → List ℕ
-valueText (Single a) = atomText a
-valueText (Element array index) = elementText array index
-valueText (Minus a) = (45 ∷ []) ++ (32 ∷ atomText a)
-valueText (Binary o a b) = atomText a ++ (32 ∷ (operatorWord o ++ (32 ∷ atomText b)))
-valueText (Call f) = (102 ∷ []) ++ (digits f ++ (40 ∷ 41 ∷ []))
+abbrev pub value_text : Value → List ℕ
+value_text (Single a) = atom_text a
+value_text (Element array index) = element_text array index
+value_text (Minus a) = (45 ∷ []) ++ (32 ∷ atom_text a)
+value_text (Binary o a b) = atom_text a ++ (32 ∷ (operator_word o ++ (32 ∷ atom_text b)))
+value_text (Call f) = (102 ∷ []) ++ (digits f ++ (40 ∷ 41 ∷ []))
 
 -- `P = X;`
-abbrev pub assignmentText : List ℕ → List ℕ → List ℕ
-assignmentText target value = target ++ ((32 ∷ 61 ∷ 32 ∷ []) ++ (value ++ (59 ∷ [])))
+abbrev pub assignment_text : List ℕ → List ℕ → List ℕ
+assignment_text target value = target ++ ((32 ∷ 61 ∷ 32 ∷ []) ++ (value ++ (59 ∷ [])))
 
-abbrev pub lineText : LineContent → List ℕ
-lineText Empty = 59 ∷ []
-lineText Abort = 97 ∷ 98 ∷ 111 ∷ 114 ∷ 116 ∷ 40 ∷ 41 ∷ 59 ∷ []
-lineText (Goto l) = (103 ∷ 111 ∷ 116 ∷ 111 ∷ 32 ∷ 76 ∷ []) ++ (digits l ++ (59 ∷ []))
-lineText (Label l) = (76 ∷ []) ++ (digits l ++ (58 ∷ 59 ∷ []))
-lineText (Store a v) = assignmentText (atomText a) (valueText v)
-lineText (Put array index a) = assignmentText (elementText array index) (atomText a)
-lineText Opens = 123 ∷ []
-lineText (While a) = (119 ∷ 104 ∷ 105 ∷ 108 ∷ 101 ∷ 32 ∷ 40 ∷ []) ++ (atomText a ++ (41 ∷ 32 ∷ 123 ∷ []))
-lineText (If a) = (105 ∷ 102 ∷ 32 ∷ 40 ∷ []) ++ (atomText a ++ (41 ∷ 32 ∷ 123 ∷ []))
-lineText Turns = 125 ∷ 32 ∷ 101 ∷ 108 ∷ 115 ∷ 101 ∷ 32 ∷ 123 ∷ []
-lineText Closes = 125 ∷ []
-lineText (Return a) = (114 ∷ 101 ∷ 116 ∷ 117 ∷ 114 ∷ 110 ∷ 32 ∷ []) ++ (atomText a ++ (59 ∷ []))
-lineText (OpensCall a f) = atomText a ++ ((32 ∷ 61 ∷ 32 ∷ 102 ∷ []) ++ (digits f ++ (40 ∷ [])))
-lineText (Argument a) = [] ++ (atomText a ++ (44 ∷ []))
-lineText (LastArgument a) = [] ++ (atomText a ++ (41 ∷ 59 ∷ []))
-lineText (OpensFunction f) = (105 ∷ 110 ∷ 116 ∷ 32 ∷ 102 ∷ []) ++ (digits f ++ (40 ∷ 41 ∷ 32 ∷ 123 ∷ []))
-lineText (OpensParameters f) = (105 ∷ 110 ∷ 116 ∷ 32 ∷ 102 ∷ []) ++ (digits f ++ (40 ∷ []))
-lineText (Parameter n) = (105 ∷ 110 ∷ 116 ∷ 32 ∷ 108 ∷ []) ++ (digits n ++ (44 ∷ []))
-lineText (LastParameter n) = (105 ∷ 110 ∷ 116 ∷ 32 ∷ 108 ∷ []) ++ (digits n ++ (41 ∷ 32 ∷ 123 ∷ []))
+abbrev pub line_text : LineContent → List ℕ
+line_text Empty = 59 ∷ []
+line_text Abort = 97 ∷ 98 ∷ 111 ∷ 114 ∷ 116 ∷ 40 ∷ 41 ∷ 59 ∷ []
+line_text (Goto l) = (103 ∷ 111 ∷ 116 ∷ 111 ∷ 32 ∷ 76 ∷ []) ++ (digits l ++ (59 ∷ []))
+line_text (Label l) = (76 ∷ []) ++ (digits l ++ (58 ∷ 59 ∷ []))
+line_text (Store a v) = assignment_text (atom_text a) (value_text v)
+line_text (Put array index a) = assignment_text (element_text array index) (atom_text a)
+line_text Opens = 123 ∷ []
+line_text (While a) = (119 ∷ 104 ∷ 105 ∷ 108 ∷ 101 ∷ 32 ∷ 40 ∷ []) ++ (atom_text a ++ (41 ∷ 32 ∷ 123 ∷ []))
+line_text (If a) = (105 ∷ 102 ∷ 32 ∷ 40 ∷ []) ++ (atom_text a ++ (41 ∷ 32 ∷ 123 ∷ []))
+line_text Turns = 125 ∷ 32 ∷ 101 ∷ 108 ∷ 115 ∷ 101 ∷ 32 ∷ 123 ∷ []
+line_text Closes = 125 ∷ []
+line_text (Return a) = (114 ∷ 101 ∷ 116 ∷ 117 ∷ 114 ∷ 110 ∷ 32 ∷ []) ++ (atom_text a ++ (59 ∷ []))
+line_text (OpensCall a f) = atom_text a ++ ((32 ∷ 61 ∷ 32 ∷ 102 ∷ []) ++ (digits f ++ (40 ∷ [])))
+line_text (Argument a) = [] ++ (atom_text a ++ (44 ∷ []))
+line_text (LastArgument a) = [] ++ (atom_text a ++ (41 ∷ 59 ∷ []))
+line_text (OpensFunction f) = (105 ∷ 110 ∷ 116 ∷ 32 ∷ 102 ∷ []) ++ (digits f ++ (40 ∷ 41 ∷ 32 ∷ 123 ∷ []))
+line_text (OpensParameters f) = (105 ∷ 110 ∷ 116 ∷ 32 ∷ 102 ∷ []) ++ (digits f ++ (40 ∷ []))
+line_text (Parameter n) = (105 ∷ 110 ∷ 116 ∷ 32 ∷ 108 ∷ []) ++ (digits n ++ (44 ∷ []))
+line_text (LastParameter n) = (105 ∷ 110 ∷ 116 ∷ 32 ∷ 108 ∷ []) ++ (digits n ++ (41 ∷ 32 ∷ 123 ∷ []))
 
 module _ (names : Names) where
   abbrev pub AtomFits : PageAtom → Type 0

@@ -1,9 +1,11 @@
 // What the words of a page's line say (docs/PAGES.md): its statement's bytes, without the blanks around them, are read as a line. The types
 // alone; definitions and laws stand in specs/.
+#![tactic(auto)]
+
 use words::Operator;
 
 // The names that a page can have: variables and arrays by the header, declared words, l from 0, and temporaries, t from 0.
-#[derive(Drop)]
+#[derive(Clone, Copy)]
 pub struct Names {
     pub variables: u32,
     pub declared: u32,
@@ -11,7 +13,7 @@ pub struct Names {
     pub arrays: u32,
 }
 
-#[derive(Drop)]
+#[derive(Clone, Copy)]
 pub enum PageAtom {
     Constant(i32),
     Variable(u32),
@@ -20,7 +22,7 @@ pub enum PageAtom {
 }
 
 // What is assigned; a call here has no arguments.
-#[derive(Drop)]
+#[derive(Clone, Copy)]
 pub enum Value {
     Single(PageAtom),
     Element(u32, PageAtom),
@@ -30,7 +32,7 @@ pub enum Value {
 }
 
 // What a line says. `Store` assigns to a name, `Put` to an element. Functions are told by their number, parameters by their declared word.
-#[derive(Drop)]
+#[derive(Clone, Copy)]
 pub enum LineContent {
     Empty,
     Abort,
@@ -54,37 +56,37 @@ pub enum LineContent {
 }
 
 // What bytes are read as.
-#[derive(Drop)]
+#[derive(Clone, Copy)]
 pub enum NumberRead {
     Number(u32),
     Malformed,
 }
 
-#[derive(Drop)]
+#[derive(Clone, Copy)]
 pub enum AtomRead {
     Read(PageAtom),
     Malformed,
 }
 
-#[derive(Drop)]
+#[derive(Clone, Copy)]
 pub enum ElementRead {
     Read(u32, PageAtom),
     Malformed,
 }
 
-#[derive(Drop)]
+#[derive(Clone, Copy)]
 pub enum OperatorRead {
     Read(Operator),
     Malformed,
 }
 
-#[derive(Drop)]
+#[derive(Clone, Copy)]
 pub enum ValueRead {
     Read(Value),
     Malformed,
 }
 
-#[derive(Drop)]
+#[derive(Clone, Copy)]
 pub enum LineRead {
     Read(LineContent),
     Malformed,

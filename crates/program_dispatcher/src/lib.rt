@@ -1,11 +1,13 @@
 // The run that a dispatcher sees: the ending and the first S words. The declared words and the temporaries are kept here.
+#![tactic(auto)]
+
 ghost use Rattle.std.specs.Prelude.{◌≡◌, length};
-ghost use Rattle.words.specs.Layout.{layout_of, storeSize, headerStore, zeros};
+ghost use Rattle.words.specs.Layout.{layout_of, store_size, header_store, zeros};
 ghost use Rattle.words.specs.declared.Form.TheVariants.{Kernel};
 ghost use Rattle.words.specs.declared.Verdict.TheVariants.{Accepted};
 ghost use Rattle.translation_fate.specs.Views.{DispatcherView};
-ghost use Rattle.program_runs.specs.Runs.{refusalOf};
-ghost use Rattle.program_dispatcher.specs.DispatcherRuns.{answerAndWords, viewOfRun, dispatcherAfter, dispatcherResult};
+ghost use Rattle.program_runs.specs.Runs.{refusal_of};
+ghost use Rattle.program_dispatcher.specs.DispatcherRuns.{answer_and_words, view_of_run, dispatcher_after, dispatcher_result};
 
 use program_runs::{kernel_check, run_kernel};
 use words::layout::{header_store, store_size};
@@ -13,7 +15,7 @@ use words::{Ending, Form, Refusal, Verdict};
 use words_copying::put;
 
 // What the dispatcher's run answers: the ending, without a count.
-#[derive(Drop)]
+#[derive(Clone, Copy)]
 pub enum DispatcherVerdict {
     Shown(Ending),
     Refused(Refusal),
@@ -27,10 +29,10 @@ fn run_in_store(
     budget: u32,
     store: &mut [i32],
 ) -> Ending
-    requires rows_value { refusalOf Kernel header.now rows.now ≡ Accepted }
-    requires words_len { length words.old ≡ storeSize (layout_of Kernel header.now) }
-    requires store_value { store.old ≡ zeros (headerStore Kernel header.now) }
-    ensures { ◌≡◌ {A = DispatcherView} (record { ending = result; words = words.new }) (viewOfRun header.now rows.now budget words.old) }
+    requires rows_value { refusal_of Kernel header.now rows.now ≡ Accepted }
+    requires words_len { length words.old ≡ store_size (layout_of Kernel header.now) }
+    requires store_value { store.old ≡ zeros (header_store Kernel header.now) }
+    ensures { ◌≡◌ {A = DispatcherView} (record { ending = result; words = words.new }) (view_of_run header.now rows.now budget words.old) }
 {
     put(words, store);
     let run = run_kernel(header, rows, store, budget);
@@ -41,9 +43,9 @@ fn run_in_store(
 
 // Keeps the store. It stands apart from the check, so that their memory is not needed at the same time.
 fn run_on_words(header: &[i32], rows: &[i32], words: &mut [i32], budget: u32) -> Ending
-    requires rows_value { refusalOf Kernel header.now rows.now ≡ Accepted }
-    requires words_len { length words.old ≡ storeSize (layout_of Kernel header.now) }
-    ensures { ◌≡◌ {A = DispatcherView} (record { ending = result; words = words.new }) (viewOfRun header.now rows.now budget words.old) }
+    requires rows_value { refusal_of Kernel header.now rows.now ≡ Accepted }
+    requires words_len { length words.old ≡ store_size (layout_of Kernel header.now) }
+    ensures { ◌≡◌ {A = DispatcherView} (record { ending = result; words = words.new }) (view_of_run header.now rows.now budget words.old) }
 {
     let size = header_store(Form::Kernel, header);
     let mut store = [0i32; 16448];
@@ -52,8 +54,8 @@ fn run_on_words(header: &[i32], rows: &[i32], words: &mut [i32], budget: u32) ->
 
 // An accepted program on any number of words: cause 11, then the run.
 fn run_shown(header: &[i32], rows: &[i32], words: &mut [i32], budget: u32) -> DispatcherVerdict
-    requires { refusalOf Kernel header.now rows.now ≡ Accepted }
-    ensures { answerAndWords result words.new ≡ dispatcherAfter Accepted header.now rows.now budget words.old }
+    requires { refusal_of Kernel header.now rows.now ≡ Accepted }
+    ensures { answer_and_words result words.new ≡ dispatcher_after Accepted header.now rows.now budget words.old }
 {
     if words.len() != store_size(Form::Kernel, header) {
         return DispatcherVerdict::Refused(Refusal {
@@ -71,7 +73,7 @@ pub fn dispatcher_run(
     words: &mut [i32],
     budget: u32,
 ) -> DispatcherVerdict
-    ensures { answerAndWords result words.new ≡ dispatcherResult header.now rows.now budget words.old }
+    ensures { answer_and_words result words.new ≡ dispatcher_result header.now rows.now budget words.old }
 {
     let verdict = kernel_check(header, rows);
     match verdict {

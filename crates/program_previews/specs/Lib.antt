@@ -3,6 +3,3 @@
 -- ---- definitions
 -- Previews: the answer of preview, and what it leaves in the store and in the scratch.
 pub mod Previews
--- ---- laws
--- Laws of previews: the tally, and that a preview tells the run.
-pub mod PreviewLaws

@@ -1,11 +1,13 @@
 // What a rule would do to a store, told beforehand.
+#![tactic(auto)]
+
 ghost use Rattle.std.specs.Prelude.{◌≡◌, ◌≤◌, length};
 ghost use Rattle.words.specs.Layout.{store_words};
 ghost use Rattle.words.specs.declared.Form.TheVariants.{Source};
 ghost use Rattle.words.specs.declared.Verdict.TheVariants.{Accepted};
-ghost use Rattle.language_programs.specs.Program.{sourceSize, runProgram};
-ghost use Rattle.program_runs.specs.Runs.{refusalOf};
-ghost use Rattle.program_previews.specs.Previews.{difference, differences, answerAndWords, previewResult, acceptedPreview, Foretells};
+ghost use Rattle.language_programs.specs.Program.{source_size, run_program};
+ghost use Rattle.program_runs.specs.Runs.{refusal_of};
+ghost use Rattle.program_previews.specs.Previews.{difference, differences, answer_and_words, preview_result, accepted_preview, Foretells};
 
 use program_runs::{check, run_accepted};
 use words::layout::{store_size, store_words};
@@ -13,7 +15,7 @@ use words::{Ending, Form, Refusal, Verdict};
 use words_copying::put;
 
 // "The ending, the count and how many store words would differ".
-#[derive(Drop)]
+#[derive(Clone, Copy)]
 pub struct PreviewAnswer {
     pub ending: Ending,
     pub count: u32,
@@ -21,7 +23,7 @@ pub struct PreviewAnswer {
 }
 
 // What a preview answers.
-#[derive(Drop)]
+#[derive(Clone, Copy)]
 pub enum PreviewVerdict {
     Previewed(PreviewAnswer),
     Refused(Refusal),
@@ -57,10 +59,10 @@ fn preview_on_copy(
     budget: u32,
     copy: &mut [i32],
 ) -> PreviewAnswer
-    requires rows_value { refusalOf Source header.now rows.now ≡ Accepted }
+    requires rows_value { refusal_of Source header.now rows.now ≡ Accepted }
     requires store_len { length store.now ≡ store_words Source header.now rows.now }
     requires copy_len { length copy.old ≡ store_words Source header.now rows.now }
-    ensures { Foretells (sourceSize header.now) (runProgram Source header.now rows.now budget store.now) store.now result copy.new }
+    ensures { Foretells (source_size header.now) (run_program Source header.now rows.now budget store.now) store.now result copy.new }
 {
     put(store, copy);
     let run = run_accepted(Form::Source, header, rows, copy, budget);
@@ -81,8 +83,8 @@ fn preview_accepted(
     budget: u32,
     scratch: &mut [i32],
 ) -> PreviewVerdict
-    requires { refusalOf Source header.now rows.now ≡ Accepted }
-    ensures { answerAndWords result store.now scratch.new ≡ acceptedPreview header.now rows.now budget store.now scratch.old }
+    requires { refusal_of Source header.now rows.now ≡ Accepted }
+    ensures { answer_and_words result store.now scratch.new ≡ accepted_preview header.now rows.now budget store.now scratch.old }
 {
     let words = store_words(Form::Source, header, rows);
     if store.len() != words {
@@ -109,7 +111,7 @@ pub fn preview(
     budget: u32,
     scratch: &mut [i32],
 ) -> PreviewVerdict
-    ensures { answerAndWords result store.now scratch.new ≡ previewResult header.now rows.now budget store.now scratch.old }
+    ensures { answer_and_words result store.now scratch.new ≡ preview_result header.now rows.now budget store.now scratch.old }
 {
     let verdict = check(header, rows);
     match verdict {

@@ -14,10 +14,10 @@ LegalProgram Kernel header rows = KernelLegal header rows
 
 -- Demand 2: "The check accepts the legal programs of document 01 and no others."
 pub record AcceptsLegal (form : Form) (header rows : List ℤ) (verdict : Verdict) : Type 0 where
-  pub legal-accepted : LegalProgram form header rows → verdict ≡ Accepted
-  pub no-others : verdict ≡ Accepted → LegalProgram form header rows
+  pub legal_accepted : LegalProgram form header rows → verdict ≡ Accepted
+  pub no_others : verdict ≡ Accepted → LegalProgram form header rows
 
 -- The same in numbers: cause 0, which is none, for the legal programs and for no others.
 pub record NoCauseIfLegal (form : Form) (header rows : List ℤ) (cause : ℕ) : Type 0 where
-  pub legal-no-cause : LegalProgram form header rows → cause ≡ 0
-  pub no-cause-legal : cause ≡ 0 → LegalProgram form header rows
+  pub legal_no_cause : LegalProgram form header rows → cause ≡ 0
+  pub no_cause_legal : cause ≡ 0 → LegalProgram form header rows

@@ -5,8 +5,3 @@
 pub mod Runs
 -- Acceptance: the second promise of check and kernel check: they accept the legal programs and no others.
 pub mod Acceptance
--- ---- laws
--- Laws of acceptance: the checks' answers keep the second promise.
-pub mod AcceptanceLaws
--- Laws of accepted programs, of both forms.
-pub mod AcceptedLaws

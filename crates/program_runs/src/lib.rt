@@ -1,13 +1,15 @@
 // Check and run of both forms.
+#![tactic(auto)]
+
 ghost use Rattle.std.specs.Prelude.{◌≡◌, length};
 ghost use Rattle.words.specs.Layout.{store_words};
-ghost use Rattle.words.specs.Numbers.{verdictNumbers};
+ghost use Rattle.words.specs.Numbers.{verdict_numbers};
 ghost use Rattle.words.specs.declared.Form.TheVariants.{Source, Kernel};
 ghost use Rattle.words.specs.declared.Verdict.TheVariants.{Accepted};
-ghost use Rattle.language_programs.specs.Program.{runProgram};
-ghost use Rattle.machine.specs.Whole.{finishedOf};
+ghost use Rattle.language_programs.specs.Program.{run_program};
+ghost use Rattle.machine.specs.Whole.{finished_of};
 ghost use Rattle.program_runs.specs.Acceptance.{AcceptsLegal, NoCauseIfLegal};
-ghost use Rattle.program_runs.specs.Runs.{refusalOf, runResult, runAfter, answerAndStore};
+ghost use Rattle.program_runs.specs.Runs.{refusal_of, run_result, run_after, answer_and_store};
 
 use accepted_rows::resolve_accepted;
 use machine::whole::{run_kernel_table, run_source_table};
@@ -17,27 +19,27 @@ use words::{Form, Refusal, RunAnswer, RunVerdict, Verdict};
 // The check of source programs. The second promise is demand 2: the legal programs are accepted, and no others. The third says so in
 // numbers: they alone have cause 0.
 pub fn check(header: &[i32], rows: &[i32]) -> Verdict
-    ensures value { result ≡ refusalOf Source header.now rows.now }
+    ensures value { result ≡ refusal_of Source header.now rows.now }
     ensures accepts_legal { AcceptsLegal Source header.now rows.now result }
-    ensures no_cause_if_legal { NoCauseIfLegal Source header.now rows.now (verdictNumbers result).cause }
+    ensures no_cause_if_legal { NoCauseIfLegal Source header.now rows.now (verdict_numbers result).cause }
 {
     check_source::check(header, rows)
 }
 
 // The check of kernel programs, with the same three promises.
 pub fn kernel_check(header: &[i32], rows: &[i32]) -> Verdict
-    ensures value { result ≡ refusalOf Kernel header.now rows.now }
+    ensures value { result ≡ refusal_of Kernel header.now rows.now }
     ensures accepts_legal { AcceptsLegal Kernel header.now rows.now result }
-    ensures no_cause_if_legal { NoCauseIfLegal Kernel header.now rows.now (verdictNumbers result).cause }
+    ensures no_cause_if_legal { NoCauseIfLegal Kernel header.now rows.now (verdict_numbers result).cause }
 {
     check_kernel::check(header, rows)
 }
 
 // Runs an accepted source program: the machine walks its resolved table, which stands in this frame alone.
 fn run_resolved(header: &[i32], rows: &[i32], store: &mut [i32], budget: u32) -> RunAnswer
-    requires rows_value { refusalOf Source header.now rows.now ≡ Accepted }
+    requires rows_value { refusal_of Source header.now rows.now ≡ Accepted }
     requires store_len { length store.old ≡ store_words Source header.now rows.now }
-    ensures { finishedOf result store.new ≡ runProgram Source header.now rows.now budget store.old }
+    ensures { finished_of result store.new ≡ run_program Source header.now rows.now budget store.old }
 {
     let words = rows.len();
     let mut table = [0i32; 12288];
@@ -47,9 +49,9 @@ fn run_resolved(header: &[i32], rows: &[i32], store: &mut [i32], budget: u32) ->
 
 // The same. A store of S words is that of a program without declarations, which is its own resolved table.
 fn run_source(header: &[i32], rows: &[i32], store: &mut [i32], budget: u32) -> RunAnswer
-    requires rows_value { refusalOf Source header.now rows.now ≡ Accepted }
+    requires rows_value { refusal_of Source header.now rows.now ≡ Accepted }
     requires store_len { length store.old ≡ store_words Source header.now rows.now }
-    ensures { finishedOf result store.new ≡ runProgram Source header.now rows.now budget store.old }
+    ensures { finished_of result store.new ≡ run_program Source header.now rows.now budget store.old }
 {
     if store.len() == store_size(Form::Source, header) {
         return run_source_table(header, rows, store, budget);
@@ -59,9 +61,9 @@ fn run_source(header: &[i32], rows: &[i32], store: &mut [i32], budget: u32) -> R
 
 // Runs an accepted kernel program. Its callers are many, so that the largest room of a run stands in this frame and not in theirs.
 pub fn run_kernel(header: &[i32], rows: &[i32], store: &mut [i32], budget: u32) -> RunAnswer
-    requires rows_value { refusalOf Kernel header.now rows.now ≡ Accepted }
+    requires rows_value { refusal_of Kernel header.now rows.now ≡ Accepted }
     requires store_len { length store.old ≡ store_words Kernel header.now rows.now }
-    ensures { finishedOf result store.new ≡ runProgram Kernel header.now rows.now budget store.old }
+    ensures { finished_of result store.new ≡ run_program Kernel header.now rows.now budget store.old }
 {
     run_kernel_table(header, rows, store, budget)
 }
@@ -74,9 +76,9 @@ pub fn run_accepted(
     store: &mut [i32],
     budget: u32,
 ) -> RunAnswer
-    requires rows_value { refusalOf form header.now rows.now ≡ Accepted }
+    requires rows_value { refusal_of form header.now rows.now ≡ Accepted }
     requires store_len { length store.old ≡ store_words form header.now rows.now }
-    ensures { finishedOf result store.new ≡ runProgram form header.now rows.now budget store.old }
+    ensures { finished_of result store.new ≡ run_program form header.now rows.now budget store.old }
 {
     match form {
         Form::Source => run_source(header, rows, store, budget),
@@ -92,8 +94,8 @@ fn run_on_store(
     store: &mut [i32],
     budget: u32,
 ) -> RunVerdict
-    requires { refusalOf form header.now rows.now ≡ Accepted }
-    ensures { answerAndStore result store.new ≡ runAfter Accepted form header.now rows.now budget store.old }
+    requires { refusal_of form header.now rows.now ≡ Accepted }
+    ensures { answer_and_store result store.new ≡ run_after Accepted form header.now rows.now budget store.old }
 {
     if store.len() != store_words(form, header, rows) {
         return RunVerdict::Refused(Refusal {
@@ -106,7 +108,7 @@ fn run_on_store(
 
 // Runs a source program on the store: "How a run goes".
 pub fn run(header: &[i32], rows: &[i32], store: &mut [i32], budget: u32) -> RunVerdict
-    ensures { answerAndStore result store.new ≡ runResult Source header.now rows.now budget store.old }
+    ensures { answer_and_store result store.new ≡ run_result Source header.now rows.now budget store.old }
 {
     let verdict = check(header, rows);
     match verdict {
@@ -117,7 +119,7 @@ pub fn run(header: &[i32], rows: &[i32], store: &mut [i32], budget: u32) -> RunV
 
 // Runs a kernel program on the store.
 pub fn kernel_run(header: &[i32], rows: &[i32], store: &mut [i32], budget: u32) -> RunVerdict
-    ensures { answerAndStore result store.new ≡ runResult Kernel header.now rows.now budget store.old }
+    ensures { answer_and_store result store.new ≡ run_result Kernel header.now rows.now budget store.old }
 {
     let verdict = kernel_check(header, rows);
     match verdict {

@@ -2,7 +2,7 @@
 ghost use Rattle.std.specs.Prelude.{◌≡◌, ◌≤◌, length};
 ghost use Rattle.words.specs.declared.Form.TheVariants.{Kernel};
 ghost use Rattle.words.specs.declared.Verdict.TheVariants.{Accepted};
-ghost use Rattle.program_runs.specs.Runs.{refusalOf};
+ghost use Rattle.program_runs.specs.Runs.{refusal_of};
 
 use cases::lines::print_kernel_run;
 use clight::runs::{kernel_check, kernel_run};
@@ -99,7 +99,7 @@ fn run_from(
 // Runs a legal kernel program from the source's start words, with a budget that is enough. The temporaries begin with a word that is
 // not 0.
 fn run_translation(header: &[i32], rows: &[i32], start: &[i32], count: u32)
-    requires { refusalOf Kernel header.now rows.now ≡ Accepted }
+    requires { refusal_of Kernel header.now rows.now ≡ Accepted }
 {
     let mut store = [1234567891i32; 16448];
     let words = header_store(Form::Kernel, header);
@@ -123,7 +123,7 @@ fn answer_legal(
     text: &mut [u8],
     read_rows: &mut [i32],
 )
-    requires { refusalOf Kernel header.now rows.now ≡ Accepted }
+    requires { refusal_of Kernel header.now rows.now ≡ Accepted }
 {
     try_text(header, rows, text, read_rows);
     let ending = source.ending;

@@ -3,6 +3,8 @@
 // For each case it prints the refusal of its program, or the line of the source run and, where that is not spent, the line of its
 // translation's run. The file `stdout` holds what the interpreter built apart answers. A line that the interpreter never prints says
 // that something else went wrong: `unread`, `untranslated`, `illegal`, `kernel-refused`, `unwritten`, `unequal`.
+#![tactic(auto)]
+
 mod kernel; // kernel.rt: the translation of a case's program: its form, its text and its run
 mod source; // source.rt: a case's program: read, checked and run
 mod stream; // stream.rt: where the cases stand in the input

@@ -2,7 +2,7 @@
 ghost use Rattle.std.specs.Prelude.{◌≡◌, ◌≤◌, length};
 ghost use Rattle.words.specs.declared.Form.TheVariants.{Source};
 ghost use Rattle.words.specs.declared.Verdict.TheVariants.{Accepted};
-ghost use Rattle.program_runs.specs.Runs.{refusalOf};
+ghost use Rattle.program_runs.specs.Runs.{refusal_of};
 
 use super::kernel::answer_translation;
 use cases::lines::{print_refusal, print_source_run};
@@ -73,7 +73,7 @@ fn answer_accepted(
     text: &mut [u8],
     read_rows: &mut [i32],
 )
-    requires { refusalOf Source header.now rows.now ≡ Accepted }
+    requires { refusal_of Source header.now rows.now ≡ Accepted }
 {
     let mut start = [0i32; 8256];
     let n = start_size(words, store_words(Form::Source, header, rows), &mut start);

@@ -8,7 +8,7 @@ use text_numbers::number::{Digits, natural_of};
 
 // A case at the start of the input: its budget, where its start words begin, each behind a tab, where its line ends, and where its
 // text ends.
-#[derive(Drop)]
+#[derive(Clone, Copy)]
 pub struct Case {
     pub budget: u32,
     pub words: usize,
@@ -17,7 +17,7 @@ pub struct Case {
 }
 
 // What stands at the start of the input: a whole case, or none.
-#[derive(Drop)]
+#[derive(Clone, Copy)]
 pub enum Found {
     Whole(Case),
     Nothing,

@@ -3,6 +3,8 @@
 // A rule is a line with # and its name, a line with the words of the store at the start, and its text. Its temporaries start with a
 // word that is not 0. The file `stdin` has the rules of language/specs/Rules by their names, but those that end spent, which ask for a
 // small budget; samples/rules writes it.
+#![tactic(auto)]
+
 mod columns; // columns.rt: two texts beside each other
 mod forms; // forms.rt: a rule's kernel form, and both runs
 

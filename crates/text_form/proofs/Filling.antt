@@ -9,13 +9,13 @@ use lib.Dec.{ltb}
 use lib.IntN.{ℤ}
 use lib.ListN.{length, take, drop, length-drop, length-append}
 use borrow.Author.Tests.{ltb-true, ltb-false}
-use Rattle.text_lines.specs.Line.{ended, lines_of, fields_of, numbersOf}
+use Rattle.text_lines.specs.Line.{ended, lines_of, fields_of, numbers_of}
 use Rattle.text_form.specs.Text.{row_line, Parsed, parsed, malformed, rows_from}
 use Rattle.words.specs.Over.{over}
 use Rattle.words.specs.Laws.{by_cases}
-use Rattle.text_form.specs.TextLaws.{not-parsed, row_more}
-use Rattle.text_lines.specs.Reader.{numbersIn, Holds}
-use Rattle.text_form.specs.Reader.{isFound, words_in, HoldsRows}
+use Rattle.text_form.proofs.TextLaws.{not-parsed, row_more}
+use Rattle.text_lines.specs.Reader.{numbers_in, Holds}
+use Rattle.text_form.specs.Reader.{is_found, words_in, HoldsRows}
 use Rattle.words.specs.OverLaws.{part, back_in, part-is, length_over, over_none, over-next}
 use Rattle.text_lines.proofs.Pieces.{Piece}
 use Rattle.text_form.proofs.Rows.{found-row, found_none, RowNumbers, row-numbers, behind, Walked, walked_start, start-before, walked_end, walked-unended, walked-bad, walked_next, next-before}
@@ -25,11 +25,11 @@ pub record Filled (width : ℕ) (text : List ℕ) (at count : ℕ) (table writte
   pub walked : Walked width text at count
   pub holds : HoldsRows (rows_from width 2 (lines_of text)) table
   pub few : width * count ≤ length table
-  pub over-table : written ≡ over walked.before table
+  pub over_table : written ≡ over walked.before table
 
 pub filled-start : (width : ℕ) (text : List ℕ) (table : List ℤ) → HoldsRows (rows_from width 2 (lines_of text)) table → Filled width text 0 0 table table
 filled-start width text table h =
-    record { walked = walked_start width text; holds = h; few = omega (arith, mul-zero width); over-table = rw (start-before width text) (over_none table) }
+    record { walked = walked_start width text; holds = h; few = omega (arith, mul-zero width); over_table = rw (start-before width text) (over_none table) }
 
 -- words that were read, of which some were read before
 fewer : (before : List ℤ) (read : Parsed (List ℤ)) (words : List ℤ) → behind before read ≡ parsed words → length before ≤ length words
@@ -47,13 +47,13 @@ pub record NextRow (width : ℕ) (text : List ℕ) (at end : ℕ) : Type 0 where
 
 module _ {width : ℕ} {text : List ℕ} {at count : ℕ} {table written : List ℤ} (f : Filled width text at count table written) where
   pub filled-length : length written ≡ length table
-  filled-length = length_over f.walked.before table written f.over-table (omega (arith, f.walked.size, f.few))
+  filled-length = length_over f.walked.before table written f.over_table (omega (arith, f.walked.size, f.few))
 
   pub filled-end : length text ≤ at → written ≡ over (words_in (rows_from width 2 (lines_of text))) table
-  filled-end h = f.over-table ∙ ap (λ (read : Parsed (List ℤ)). over (words_in read) table) (sym (walked_end f.walked h))
+  filled-end h = f.over_table ∙ ap (λ (read : Parsed (List ℤ)). over (words_in read) table) (sym (walked_end f.walked h))
 
   never : {G : Type 0} {line : ℕ} → rows_from width 2 (lines_of text) ≡ malformed line → G
-  never e = not-parsed (sym e ∙ f.holds.well-formed)
+  never e = not-parsed (sym e ∙ f.holds.well_formed)
 
   module _ {end : ℕ} (p : Piece 10 text at end) (more : at < length text) where
     pub filled_row : NextRow width text at end
@@ -61,7 +61,7 @@ module _ {width : ℕ} {text : List ℕ} {at count : ℕ} {table written : List 
         by_cases (ltb end (length text))
         (λ t.
         let h : end < length text = ltb-true _ _ t in
-        by_cases (isFound (row_line width (ended (take (end - at) (drop at text)))))
+        by_cases (is_found (row_line width (ended (take (end - at) (drop at text)))))
         (λ b. let r = found-row _ b in record { inside = h; row = r.row; is = r.is })
         (λ b. never (walked-bad f.walked p more h (found_none _ b))))
         (λ t. never (walked-unended f.walked p more (ltb-false _ _ t)))
@@ -73,27 +73,27 @@ module _ {width : ℕ} {text : List ℕ} {at count : ℕ} {table written : List 
       next : Walked width text (end + 1) (count + 1)
       next = walked_next f.walked p more r.inside r.row r.is
 
-      next-is : next.before ≡ f.walked.before ++ r.row
+      next_is : next.before ≡ f.walked.before ++ r.row
       unfolding next
-      next-is = next-before f.walked p more r.inside r.row r.is
+      next_is = next-before f.walked p more r.inside r.row r.is
 
       pub next-few : width * (count + 1) ≤ length table
       next-few =
-          let few = fewer next.before _ _ (sym next.same ∙ f.holds.well-formed) in
+          let few = fewer next.before _ _ (sym next.same ∙ f.holds.well_formed) in
           omega (arith, next.size, f.holds.room)
 
-      pub row-holds : Holds (numbersOf (fields_of (take (end - at) (drop at text)))) (part (width * count) written)
+      pub row-holds : Holds (numbers_of (fields_of (take (end - at) (drop at text)))) (part (width * count) written)
       row-holds = record {
-        well-formed = rw s.read;
+        well_formed = rw s.read;
         room = rw (s.read, part-is (width * count) written, length-drop) (omega (arith, s.size, row_more width count, next-few, filled-length));
       }
 
-      pub filled_next : (lent : List ℤ) → lent ≡ over (numbersIn (numbersOf (fields_of (take (end - at) (drop at text))))) (part (width * count) written)
+      pub filled_next : (lent : List ℤ) → lent ≡ over (numbers_in (numbers_of (fields_of (take (end - at) (drop at text))))) (part (width * count) written)
           → Filled width text (end + 1) (count + 1) table (back_in (width * count) written lent)
       filled_next lent e = record {
         walked = next;
         holds = f.holds;
         few = next-few;
-        over-table = rw next-is
-            (over-next f.walked.before r.row table written lent (width * count) (sym f.walked.size) f.over-table (rw s.read at e));
+        over_table = rw next_is
+            (over-next f.walked.before r.row table written lent (width * count) (sym f.walked.size) f.over_table (rw s.read at e));
       }

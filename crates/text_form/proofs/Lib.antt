@@ -9,3 +9,15 @@ pub mod Shapes
 pub mod Writing
 -- Sizing: how many bytes a text takes, and what a writer leaves.
 pub mod Sizing
+-- Examples: the shortest texts.
+pub mod Examples
+-- TextLaws: a text is read as the header and rows that it is written for.
+pub mod TextLaws
+-- ReaderLaws: the lines of a well-formed text, as the functions that store their numbers are lent them.
+pub mod ReaderLaws
+-- AnswerLaws: what is known where a text was accepted, or a header and rows written.
+pub mod AnswerLaws
+-- SizeLaws: what reader and writer answer fits the tables and the buffer that they were lent.
+pub mod SizeLaws
+-- RoundTrip: text written again gives the same bytes, rows read again the same rows.
+pub mod RoundTrip

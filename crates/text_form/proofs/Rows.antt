@@ -14,36 +14,36 @@ use borrow.Author.Tests.{eqb-true, lt-leb, le-leb}
 use Rattle.words.specs.Word.{pick}
 use Rattle.words.specs.Layout.{leading}
 use Rattle.words.specs.declared.Form.{Form}
-use Rattle.text_lines.specs.Line.{TextLine, ended, unended, lines_of, fields_of, numbersOf, lineNumbers}
-use Rattle.text_form.specs.Text.{keep, headerSized, headerLine, rowSized, row_line, Parsed, parsed, malformed, with_row, rows_from}
+use Rattle.text_lines.specs.Line.{TextLine, ended, unended, lines_of, fields_of, numbers_of, line_numbers}
+use Rattle.text_form.specs.Text.{keep, header_sized, header_line, row_sized, row_line, Parsed, parsed, malformed, with_row, rows_from}
 use Rattle.text_lines.specs.LineLaws.{line-few}
-use Rattle.text_form.specs.TextLaws.{keep-is, keep-not, keep-none, keep-reads, with_none, rows_next, row_more}
-use Rattle.text_lines.specs.Reader.{numberCount}
-use Rattle.text_form.specs.Reader.{isFound, words_of}
+use Rattle.text_form.proofs.TextLaws.{keep-is, keep-not, keep-none, keep-reads, with_none, rows_next, row_more}
+use Rattle.text_lines.specs.Reader.{number_count}
+use Rattle.text_form.specs.Reader.{is_found, words_of}
 use Rattle.text_lines.specs.CountLaws.{Sized}
 use Rattle.text_lines.proofs.Pieces.{Piece, lines_step, lines-last}
 
 -- ---- how many numbers a line has
 
 module _ (form : Form) (line : List ℕ) where
-  pub header-none : numbersOf (fields_of line) ≡ none → none ≡ numberCount (headerLine form (ended line))
-  unfolding headerLine lineNumbers
-  header-none e = rw (e, keep-none (headerSized form))
+  pub header-none : numbers_of (fields_of line) ≡ none → none ≡ number_count (header_line form (ended line))
+  unfolding header_line line_numbers
+  header-none e = rw (e, keep-none (header_sized form))
 
-  module _ {count : ℕ} (s : Sized (numbersOf (fields_of line)) count) where
-    header-kept : (test : Bool) → headerSized form s.numbers ≡ test → headerLine form (ended line) ≡ pick test (some s.numbers) none
-    unfolding headerLine lineNumbers
-    header-kept true t = rw s.is (keep-is (headerSized form) s.numbers t)
-    header-kept false t = rw s.is (keep-not (headerSized form) s.numbers t)
+  module _ {count : ℕ} (s : Sized (numbers_of (fields_of line)) count) where
+    header-kept : (test : Bool) → header_sized form s.numbers ≡ test → header_line form (ended line) ≡ pick test (some s.numbers) none
+    unfolding header_line line_numbers
+    header-kept true t = rw s.is (keep-is (header_sized form) s.numbers t)
+    header-kept false t = rw s.is (keep-not (header_sized form) s.numbers t)
 
-    pub header-few : count < leading form → none ≡ numberCount (headerLine form (ended line))
-    header-few h = sym (ap numberCount (header-kept false (rw (lt-leb _ _ (few h)))))
+    pub header_few : count < leading form → none ≡ number_count (header_line form (ended line))
+    header_few h = sym (ap number_count (header-kept false (rw (lt-leb _ _ (few h)))))
       where
         few : count < leading form → length s.numbers < leading form
         few h = omega (arith, s.size)
 
-    pub header-many : leading form ≤ count → leading form + 32 < count → none ≡ numberCount (headerLine form (ended line))
-    header-many l h = sym (ap numberCount (header-kept false (rw (le-leb _ _ (least l), lt-leb _ _ (most h)))))
+    pub header-many : leading form ≤ count → leading form + 32 < count → none ≡ number_count (header_line form (ended line))
+    header-many l h = sym (ap number_count (header-kept false (rw (le-leb _ _ (least l), lt-leb _ _ (most h)))))
       where
         least : leading form ≤ count → leading form ≤ length s.numbers
         least l = omega (arith, s.size)
@@ -51,8 +51,8 @@ module _ (form : Form) (line : List ℕ) where
         most : leading form + 32 < count → leading form + 32 < length s.numbers
         most h = omega (arith, s.size)
 
-    pub header-sized : leading form ≤ count → count ≤ leading form + 32 → some count ≡ numberCount (headerLine form (ended line))
-    header-sized l h = sym (ap numberCount (header-kept true (rw (le-leb _ _ (least l), le-leb _ _ (most h)))) ∙ ap some s.size)
+    pub header-sized : leading form ≤ count → count ≤ leading form + 32 → some count ≡ number_count (header_line form (ended line))
+    header-sized l h = sym (ap number_count (header-kept true (rw (le-leb _ _ (least l), le-leb _ _ (most h)))) ∙ ap some s.size)
       where
         least : leading form ≤ count → leading form ≤ length s.numbers
         least l = omega (arith, s.size)
@@ -60,47 +60,47 @@ module _ (form : Form) (line : List ℕ) where
         most : count ≤ leading form + 32 → length s.numbers ≤ leading form + 32
         most h = omega (arith, s.size)
 
-pub row-none : (width : ℕ) (line : List ℕ) → numbersOf (fields_of line) ≡ none → false ≡ isFound (row_line width (ended line))
-unfolding row_line lineNumbers
-row-none width line e = rw (e, keep-none (rowSized width))
+pub row-none : (width : ℕ) (line : List ℕ) → numbers_of (fields_of line) ≡ none → false ≡ is_found (row_line width (ended line))
+unfolding row_line line_numbers
+row-none width line e = rw (e, keep-none (row_sized width))
 
-found-kept : (test : Bool) (numbers : List ℤ) → test ≡ isFound (pick test (some numbers) none)
+found-kept : (test : Bool) (numbers : List ℤ) → test ≡ is_found (pick test (some numbers) none)
 found-kept true numbers = refl
 found-kept false numbers = refl
 
-pub row_sized : (width : ℕ) (line : List ℕ) {count : ℕ} → Sized (numbersOf (fields_of line)) count → eqb count width ≡ isFound (row_line width (ended line))
-unfolding row_line lineNumbers keep
-row_sized width line s = rw (s.is, ← s.size) (found-kept (eqb (length s.numbers) width) s.numbers)
+pub row-sized : (width : ℕ) (line : List ℕ) {count : ℕ} → Sized (numbers_of (fields_of line)) count → eqb count width ≡ is_found (row_line width (ended line))
+unfolding row_line line_numbers keep
+row-sized width line s = rw (s.is, ← s.size) (found-kept (eqb (length s.numbers) width) s.numbers)
 
 pub record Found (read : Option (List ℤ)) : Type 0 where
   pub row : List ℤ
   pub is : read ≡ some row
 
-pub found-row : (read : Option (List ℤ)) → isFound read ≡ true → Found read
+pub found-row : (read : Option (List ℤ)) → is_found read ≡ true → Found read
 found-row none e = absurd (let z : ◌≡◌ {A = ℕ} 0 1 = cc in omega arith)
 found-row (some row) e = record { row = row; is = refl }
 
-pub found_none : (read : Option (List ℤ)) → isFound read ≡ false → read ≡ none
+pub found_none : (read : Option (List ℤ)) → is_found read ≡ false → read ≡ none
 found_none none e = refl
 found_none (some row) e = absurd (let z : ◌≡◌ {A = ℕ} 0 1 = cc in omega arith)
 
 -- a row's line has as many numbers as the row has words, and at least as many bytes, its newline counted
 pub record RowNumbers (width : ℕ) (line : List ℕ) (row : List ℤ) : Type 0 where
-  pub read : numbersOf (fields_of line) ≡ some row
+  pub read : numbers_of (fields_of line) ≡ some row
   pub size : length row ≡ width
   pub long : width ≤ length line + 1
 
 pub row-numbers : (width : ℕ) (line : List ℕ) (row : List ℤ) → row_line width (ended line) ≡ some row → RowNumbers width line row
-unfolding row_line lineNumbers
+unfolding row_line line_numbers
 row-numbers width line row e =
-    let k = keep-reads (rowSized width) (numbersOf (fields_of line)) row e in
+    let k = keep-reads (row_sized width) (numbers_of (fields_of line)) row e in
     let size : length row ≡ width = eqb-true (length row) width k.passes in
     record { read = k.same; size = size; long = omega (arith, line-few line row k.same) }
 
 -- ---- the lines that are left
 
 unended-none : (width : ℕ) (line : List ℕ) → row_line width (unended line) ≡ none
-unfolding row_line lineNumbers keep
+unfolding row_line line_numbers keep
 unended-none width line = refl
 
 rows-unended : (width number : ℕ) (line : List ℕ) → rows_from width number (unended line ∷ []) ≡ malformed number

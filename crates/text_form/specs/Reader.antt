@@ -8,32 +8,32 @@ use Rattle.text_form.specs.declared.reader.Rows.{Rows}
 use Rattle.text_form.specs.declared.reader.Rows.TheVariants as row-cases
 use Rattle.text_form.specs.declared.reader.TextShape.{TextShape}
 use Rattle.text_form.specs.declared.reader.TextShape.TheVariants as shape-cases
-use Rattle.text_lines.specs.Line.{fields_of, lines_of, numbersOf}
-use Rattle.text_lines.specs.Reader.{numbersIn}
-use Rattle.text_form.specs.Answers.{causeUnless, ReadResult, readRefused, readProgram, tablesHold}
-use Rattle.text_form.specs.Text.{Parsed, parsed, malformed, rows_from, Program, parseTable}
+use Rattle.text_lines.specs.Line.{fields_of, lines_of, numbers_of}
+use Rattle.text_lines.specs.Reader.{numbers_in}
+use Rattle.text_form.specs.Answers.{cause_unless, ReadResult, read_refused, read_program, tables_hold}
+use Rattle.text_form.specs.Text.{Parsed, parsed, malformed, rows_from, Program, parse_table}
 
 -- ---- lines
 
 -- So many numbers were read, at most 35.
 pub record HoldsExactly (read : Option (List ℤ)) (count : ℕ) : Type 0 where
-  pub well-formed : read ≡ some (numbersIn read)
-  pub size : length (numbersIn read) ≡ count
+  pub well_formed : read ≡ some (numbers_in read)
+  pub size : length (numbers_in read) ≡ count
   pub few : count ≤ 35
 
-abbrev pub isFound : Option (List ℤ) → Bool
-isFound none = false
-isFound (some numbers) = true
+abbrev pub is_found : Option (List ℤ) → Bool
+is_found none = false
+is_found (some numbers) = true
 
 -- ---- texts
 
-abbrev pub causeSays : Cause → Option ℕ
-causeSays (cause-cases.Number number) = some number
-causeSays cause-cases.Absent = none
+abbrev pub cause_says : Cause → Option ℕ
+cause_says (cause-cases.Number number) = some number
+cause_says cause-cases.Absent = none
 
-abbrev pub rowsSay : Rows → Parsed ℕ
-rowsSay (row-cases.Words words) = parsed words
-rowsSay (row-cases.Malformed line) = malformed line
+abbrev pub rows_say : Rows → Parsed ℕ
+rows_say (row-cases.Words words) = parsed words
+rows_say (row-cases.Malformed line) = malformed line
 
 -- How many words were read.
 abbrev pub words_of : Parsed (List ℤ) → Parsed ℕ
@@ -46,30 +46,30 @@ words_in (malformed line) = []
 
 -- Rows were read, and a table has room for them.
 pub record HoldsRows (read : Parsed (List ℤ)) (table : List ℤ) : Type 0 where
-  pub well-formed : read ≡ parsed (words_in read)
+  pub well_formed : read ≡ parsed (words_in read)
   pub room : length (words_in read) ≤ length table
 
 -- A text of rows of `width` words is well formed: its first line, of so many bytes, gives so many header words, and the others so many row words.
-pub record HasLines (width : ℕ) (form : Form) (text : List ℕ) (end headerWords rowWords : ℕ) : Type 0 where
+pub record HasLines (width : ℕ) (form : Form) (text : List ℕ) (end headerWords row_words : ℕ) : Type 0 where
   pub program : Program
   pub inside : end < length text
-  pub first-line : numbersOf (fields_of (take end text)) ≡ some program.header
-  pub other-lines : rows_from width 2 (lines_of (drop (end + 1) text)) ≡ parsed program.rows
-  pub header-size : length program.header ≡ headerWords
-  pub rows-size : length program.rows ≡ rowWords
+  pub first-line : numbers_of (fields_of (take end text)) ≡ some program.header
+  pub other_lines : rows_from width 2 (lines_of (drop (end + 1) text)) ≡ parsed program.rows
+  pub header_size : length program.header ≡ headerWords
+  pub rows_size : length program.rows ≡ row_words
   pub few : headerWords ≤ 35
-  pub parses : parseTable width form text ≡ parsed program
+  pub parses : parse_table width form text ≡ parsed program
 
 abbrev pub Shaped : ℕ → Form → List ℕ → TextShape → Type 0
-Shaped width form text (shape-cases.Lines end headerWords rowWords) = HasLines width form text end headerWords rowWords
-Shaped width form text (shape-cases.Malformed line) = parseTable width form text ≡ malformed line
+Shaped width form text (shape-cases.Lines end headerWords row_words) = HasLines width form text end headerWords row_words
+Shaped width form text (shape-cases.Malformed line) = parse_table width form text ≡ malformed line
 
 -- The first cause, where `before` is the first of those before 10.
-unfoldable pub orShort : Option ℕ → Bool → Option ℕ
-orShort (some number) room = some number
-orShort none room = causeUnless room 10 none
+unfoldable pub or_short : Option ℕ → Bool → Option ℕ
+or_short (some number) room = some number
+or_short none room = cause_unless room 10 none
 
 -- What a reader gives of a text by its first cause between 14 and 10.
 unfoldable pub read_by : Option ℕ → Parsed Program → List ℤ → List ℤ → ReadResult
-read_by before (malformed line) header rows = readRefused 14 line header rows
-read_by before (parsed program) header rows = readProgram (orShort before (tablesHold program header rows)) program header rows
+read_by before (malformed line) header rows = read_refused 14 line header rows
+read_by before (parsed program) header rows = read_program (or_short before (tables_hold program header rows)) program header rows

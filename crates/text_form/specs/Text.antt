@@ -3,24 +3,24 @@ use Rattle.std.specs.Prelude.{Bool, ◌&&◌, List, [], ◌∷◌, ◌++◌, ℕ
 use Rattle.std.proofs.Math.Option.{Option, none, some}
 use Rattle.words.specs.Word.{pick}
 use Rattle.words.specs.Layout.{leading}
-use Rattle.words.specs.Table.{rowCount}
+use Rattle.words.specs.Table.{row_count}
 use Rattle.words.specs.declared.Form.{Form}
-use Rattle.text_lines.specs.Line.{lineBytes, TextLine, lines_of, lineNumbers}
+use Rattle.text_lines.specs.Line.{line_bytes, TextLine, lines_of, line_numbers}
 
 -- ---- writing
 
 -- The bytes of so many rows, each of `width` words.
-unfoldable pub rowsBytes : ℕ → ℕ → List ℤ → List ℕ
-rowsBytes width zero rows = []
-rowsBytes width (suc count) rows = lineBytes (take width rows) ++ rowsBytes width count (drop width rows)
+unfoldable pub rows_bytes : ℕ → ℕ → List ℤ → List ℕ
+rows_bytes width zero rows = []
+rows_bytes width (suc count) rows = line_bytes (take width rows) ++ rows_bytes width count (drop width rows)
 
 -- The text of a header and so many rows of `width` words.
-unfoldable pub tableBytes : ℕ → ℕ → List ℤ → List ℤ → List ℕ
-tableBytes width count header rows = lineBytes header ++ rowsBytes width count rows
+unfoldable pub table_bytes : ℕ → ℕ → List ℤ → List ℤ → List ℕ
+table_bytes width count header rows = line_bytes header ++ rows_bytes width count rows
 
 -- The text of a header and rows: "a row's six fields".
-abbrev pub textBytes : List ℤ → List ℤ → List ℕ
-textBytes header rows = tableBytes 6 (rowCount rows) header rows
+abbrev pub text_bytes : List ℤ → List ℤ → List ℕ
+text_bytes header rows = table_bytes 6 (row_count rows) header rows
 
 -- ---- reading
 
@@ -31,17 +31,17 @@ keep test (some numbers) = pick (test numbers) (some numbers) none
 
 -- "A first line of more than 33 numbers (kernel: 34) or too few" is malformed; Change 11: in the kernel's "35 numbers". V (kernel: V, D and T), and
 -- up to 32 lengths.
-abbrev pub headerSized : Form → List ℤ → Bool
-headerSized form numbers = leb (leading form) (length numbers) && leb (length numbers) (leading form + 32)
+abbrev pub header_sized : Form → List ℤ → Bool
+header_sized form numbers = leb (leading form) (length numbers) && leb (length numbers) (leading form + 32)
 
-unfoldable pub headerLine : Form → TextLine → Option (List ℤ)
-headerLine form line = keep (headerSized form) (lineNumbers line)
+unfoldable pub header_line : Form → TextLine → Option (List ℤ)
+header_line form line = keep (header_sized form) (line_numbers line)
 
-abbrev pub rowSized : ℕ → List ℤ → Bool
-rowSized width numbers = eqb (length numbers) width
+abbrev pub row_sized : ℕ → List ℤ → Bool
+row_sized width numbers = eqb (length numbers) width
 
 unfoldable pub row_line : ℕ → TextLine → Option (List ℤ)
-row_line width line = keep (rowSized width) (lineNumbers line)
+row_line width line = keep (row_sized width) (line_numbers line)
 
 -- What a text gives, or its first malformed line.
 pub data Parsed (A : Type 0) : Type 0 where
@@ -63,20 +63,20 @@ pub record Program : Type 0 where
   pub header : List ℤ
   pub rows : List ℤ
 
-unfoldable pub withHeader : Option (List ℤ) → Parsed (List ℤ) → Parsed Program
-withHeader none others = malformed 1
-withHeader (some header) (parsed rows) = parsed (record { header = header; rows = rows })
-withHeader (some header) (malformed later) = malformed later
+unfoldable pub with_header : Option (List ℤ) → Parsed (List ℤ) → Parsed Program
+with_header none others = malformed 1
+with_header (some header) (parsed rows) = parsed (record { header = header; rows = rows })
+with_header (some header) (malformed later) = malformed later
 
 -- "The first such line is named, 1 for an empty text."
 unfoldable pub program_of : ℕ → Form → List TextLine → Parsed Program
 program_of width form [] = malformed 1
-program_of width form (first ∷ others) = withHeader (headerLine form first) (rows_from width 2 others)
+program_of width form (first ∷ others) = with_header (header_line form first) (rows_from width 2 others)
 
 -- The header and the rows of `width` words that a text gives.
-unfoldable pub parseTable : ℕ → Form → List ℕ → Parsed Program
-parseTable width form text = program_of width form (lines_of text)
+unfoldable pub parse_table : ℕ → Form → List ℕ → Parsed Program
+parse_table width form text = program_of width form (lines_of text)
 
 -- The header and the rows that a text gives.
 abbrev pub parse : Form → List ℕ → Parsed Program
-parse form text = parseTable 6 form text
+parse form text = parse_table 6 form text

@@ -1,13 +1,13 @@
 // The causes 1 and 2, which reader and writer test alike.
 ghost use Rattle.std.specs.Prelude.{◌≡◌, true};
-ghost use Rattle.text_form.specs.Answers.{causeOf};
-ghost use Rattle.text_form.specs.Reader.{causeSays};
+ghost use Rattle.text_form.specs.Answers.{cause_of};
+ghost use Rattle.text_form.specs.Reader.{cause_says};
 
 use words::Form;
 use words::layout::{count_fits, header_fits};
 
 // The number of the cause that turns a program away, if any does.
-#[derive(Drop)]
+#[derive(Clone, Copy)]
 pub enum Cause {
     Number(u32),
     Absent,
@@ -15,7 +15,7 @@ pub enum Cause {
 
 // The first of the causes 1 and 2 that a header and so many row words meet.
 pub fn first_cause(form: Form, header: &[i32], words: usize) -> Cause
-    ensures { causeSays result ≡ causeOf form header.now words true }
+    ensures { cause_says result ≡ cause_of form header.now words true }
 {
     if !header_fits(form, header) {
         return Cause::Number(1);

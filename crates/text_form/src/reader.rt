@@ -1,11 +1,11 @@
 // The reader: one pass finds the shape of a text, a second stores its words.
 ghost use Rattle.std.specs.Prelude.{◌≡◌, true, ◌+◌};
-ghost use Rattle.text_lines.specs.Line.{ended, lines_of, fields_of, numbersOf};
-ghost use Rattle.text_form.specs.Text.{headerLine, row_line, rows_from, parseTable};
+ghost use Rattle.text_lines.specs.Line.{ended, lines_of, fields_of, numbers_of};
+ghost use Rattle.text_form.specs.Text.{header_line, row_line, rows_from, parse_table};
 ghost use Rattle.words.specs.Over.{over};
-ghost use Rattle.text_form.specs.Answers.{causeOf, readResult, Reads};
-ghost use Rattle.text_lines.specs.Reader.{numberCount, countSays, numbersIn};
-ghost use Rattle.text_form.specs.Reader.{isFound, causeSays, HoldsExactly, rowsSay, words_of, words_in, HoldsRows, HasLines, Shaped, read_by};
+ghost use Rattle.text_form.specs.Answers.{cause_of, read_result, Reads};
+ghost use Rattle.text_lines.specs.Reader.{number_count, count_says, numbers_in};
+ghost use Rattle.text_form.specs.Reader.{is_found, cause_says, HoldsExactly, rows_say, words_of, words_in, HoldsRows, HasLines, Shaped, read_by};
 
 use super::ReadAnswer;
 use super::limits::{Cause, first_cause};
@@ -14,14 +14,14 @@ use words::layout::leading;
 use words::{Form, Refusal};
 
 // How many words the rows of a text have, or its first malformed line.
-#[derive(Drop)]
+#[derive(Clone, Copy)]
 pub enum Rows {
     Words(usize),
     Malformed(usize),
 }
 
 // The length of a text's first line in bytes, the number of its header words and of its row words; or its first malformed line.
-#[derive(Drop)]
+#[derive(Clone, Copy)]
 pub enum TextShape {
     Lines(usize, usize, usize),
     Malformed(usize),
@@ -29,7 +29,7 @@ pub enum TextShape {
 
 // How many numbers a first line has.
 pub fn header_numbers(form: Form, line: &[u8]) -> Count
-    ensures { countSays result ≡ numberCount (headerLine form (ended line.now)) }
+    ensures { count_says result ≡ number_count (header_line form (ended line.now)) }
 {
     let counted = count_numbers(line);
     let Count::Numbers(count) = counted else {
@@ -46,7 +46,7 @@ pub fn header_numbers(form: Form, line: &[u8]) -> Count
 }
 
 fn is_row(width: usize, line: &[u8]) -> bool
-    ensures { result ≡ isFound (row_line width (ended line.now)) }
+    ensures { result ≡ is_found (row_line width (ended line.now)) }
 {
     let counted = count_numbers(line);
     let Count::Numbers(count) = counted else {
@@ -57,7 +57,7 @@ fn is_row(width: usize, line: &[u8]) -> bool
 
 // Counts the words of the rows, `width` each, behind the first line, or finds the first malformed line.
 fn count_rows(width: usize, text: &[u8]) -> Rows
-    ensures { rowsSay result ≡ words_of (rows_from width 2 (lines_of text.now)) }
+    ensures { rows_say result ≡ words_of (rows_from width 2 (lines_of text.now)) }
 {
     let mut at: usize = 0;
     let mut count: usize = 0;
@@ -113,8 +113,8 @@ pub fn shape_of(width: usize, form: Form, text: &[u8]) -> TextShape
 
 // The first of the causes 1 and 2 that a text meets.
 fn text_cause(form: Form, line: &[u8], numbers: usize, words: usize) -> Cause
-    requires { HoldsExactly (numbersOf (fields_of line.now)) numbers }
-    ensures { causeSays result ≡ causeOf form (numbersIn (numbersOf (fields_of line.now))) words true }
+    requires { HoldsExactly (numbers_of (fields_of line.now)) numbers }
+    ensures { cause_says result ≡ cause_of form (numbers_in (numbers_of (fields_of line.now))) words true }
 {
     let mut header = [0i32; 35];
     store_numbers(line, &mut header);
@@ -134,7 +134,7 @@ pub fn store_text(
     rows: &mut [i32],
 ) -> ReadAnswer
     requires { HasLines width form text.now end numbers words }
-    ensures { Reads (read_by (causeSays cause) (parseTable width form text.now) header.old rows.old) result header.new rows.new }
+    ensures { Reads (read_by (cause_says cause) (parse_table width form text.now) header.old rows.old) result header.new rows.new }
 {
     if let Cause::Number(number) = cause {
         return ReadAnswer::Refused(Refusal {
@@ -171,7 +171,7 @@ pub fn read_lines(
     rows: &mut [i32],
 ) -> ReadAnswer
     requires { HasLines 6 form text.now end numbers words }
-    ensures { Reads (readResult form text.now header.old rows.old) result header.new rows.new }
+    ensures { Reads (read_result form text.now header.old rows.old) result header.new rows.new }
 {
     let cause = text_cause(form, &text[0..end], numbers, words);
     store_text(6, form, text, end, numbers, words, cause, header, rows)

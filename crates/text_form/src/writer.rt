@@ -1,6 +1,6 @@
 // The writer: the bytes of rows, and of a text.
 ghost use Rattle.std.specs.Prelude.{◌≡◌, ◌*◌, ◌<◌, ◌≤◌, length};
-ghost use Rattle.text_form.specs.Text.{rowsBytes, tableBytes};
+ghost use Rattle.text_form.specs.Text.{rows_bytes, table_bytes};
 ghost use Rattle.text_numbers.specs.Writer.{Put};
 ghost use Rattle.text_form.specs.Writer.{Fills};
 
@@ -10,8 +10,8 @@ use text_lines::writer::put_line;
 fn put_rows(width: usize, count: usize, rows: &[i32], text: &mut [u8]) -> usize
     requires width_nonzero { 0 < width }
     requires rows_len { length rows.now ≡ width * count }
-    requires rows_in_bounds { length (rowsBytes width count rows.now) ≤ length text.old }
-    ensures { Put (rowsBytes width count rows.now) text.old result text.new }
+    requires rows_in_bounds { length (rows_bytes width count rows.now) ≤ length text.old }
+    ensures { Put (rows_bytes width count rows.now) text.old result text.new }
 {
     let mut at: usize = 0;
     let mut row: usize = 0;
@@ -27,7 +27,7 @@ fn put_rows(width: usize, count: usize, rows: &[i32], text: &mut [u8]) -> usize
 // Writes the text of a header and `count` rows of `width` words at the start of `text`, and answers how many bytes it has.
 pub fn put_text(width: usize, count: usize, header: &[i32], rows: &[i32], text: &mut [u8]) -> usize
     requires { Fills width count header.now rows.now text.old }
-    ensures { Put (tableBytes width count header.now rows.now) text.old result text.new }
+    ensures { Put (table_bytes width count header.now rows.now) text.old result text.new }
 {
     let end = put_line(header, text);
     end + put_rows(width, count, rows, &mut text[end..])

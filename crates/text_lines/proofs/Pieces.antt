@@ -14,10 +14,10 @@ use borrow.Author.Tests.{eq-eqb, ne_eqb, eqb-true, eqb-false, le-leb, lt-leb, lt
 use Rattle.words.specs.Word.{pick}
 use Rattle.words.specs.Laws.{by_cases}
 use Rattle.text_numbers.specs.Number.{number_of}
-use Rattle.text_lines.specs.Line.{fields_of, together, numbersOf, ended, unended, lines_of}
+use Rattle.text_lines.specs.Line.{fields_of, together, numbers_of, ended, unended, lines_of}
 use Rattle.text_numbers.specs.NumberLaws.{Free}
 use Rattle.text_lines.specs.LineLaws.{fields-last, fields-more, lines-ended, lines-unended}
-use Rattle.text_lines.specs.Reader.{pieceEnd, numberCount}
+use Rattle.text_lines.specs.Reader.{piece_end, number_count}
 
 -- ---- where a piece ends
 
@@ -25,56 +25,56 @@ use Rattle.text_lines.specs.Reader.{pieceEnd, numberCount}
 pub record Passed (separator : ℕ) (bytes : List ℕ) (at end : ℕ) : Type 0 where
   pub from : at ≤ end
   pub inside : end ≤ length bytes
-  pub same : at + pieceEnd separator (drop at bytes) ≡ end + pieceEnd separator (drop end bytes)
+  pub same : at + piece_end separator (drop at bytes) ≡ end + piece_end separator (drop end bytes)
 
 pub passed_start : (separator : ℕ) (bytes : List ℕ) (at : ℕ) → at ≤ length bytes → Passed separator bytes at at
 passed_start separator bytes at h = record { from = omega arith; inside = h; same = refl }
 
-piece-here : (separator : ℕ) (bytes : List ℕ) (i : ℕ) → i < length bytes → get_or bytes i 0 ≡ separator → pieceEnd separator (drop i bytes) ≡ 0
-unfolding pieceEnd
+piece-here : (separator : ℕ) (bytes : List ℕ) (i : ℕ) → i < length bytes → get_or bytes i 0 ≡ separator → piece_end separator (drop i bytes) ≡ 0
+unfolding piece_end
 piece-here separator bytes i h e = rw (drop-cons bytes i 0 h, eq-eqb _ _ e)
 
-piece-next : (separator : ℕ) (bytes : List ℕ) (i : ℕ) → i < length bytes → (get_or bytes i 0 ≡ separator → ⊥) → pieceEnd separator (drop i bytes) ≡ suc (pieceEnd separator (drop (i + 1) bytes))
-unfolding pieceEnd
+piece-next : (separator : ℕ) (bytes : List ℕ) (i : ℕ) → i < length bytes → (get_or bytes i 0 ≡ separator → ⊥) → piece_end separator (drop i bytes) ≡ suc (piece_end separator (drop (i + 1) bytes))
+unfolding piece_end
 piece-next separator bytes i h e = rw (add-one i, drop-cons bytes i 0 h, ne_eqb _ _ e)
 
-piece-none : (separator : ℕ) (bytes : List ℕ) (i : ℕ) → length bytes ≤ i → pieceEnd separator (drop i bytes) ≡ 0
-unfolding pieceEnd
+piece-none : (separator : ℕ) (bytes : List ℕ) (i : ℕ) → length bytes ≤ i → piece_end separator (drop i bytes) ≡ 0
+unfolding piece_end
 piece-none separator bytes i h = rw (drop_of_length-le bytes {i = i} h)
 
 module _ {separator : ℕ} {bytes : List ℕ} {at end : ℕ} (p : Passed separator bytes at end) where
-  pub passed_here : end < length bytes → get_or bytes end 0 ≡ separator → end ≡ at + pieceEnd separator (drop at bytes)
+  pub passed_here : end < length bytes → get_or bytes end 0 ≡ separator → end ≡ at + piece_end separator (drop at bytes)
   passed_here h e = omega (arith, p.same, piece-here separator bytes end h e)
 
   pub passed-next : end < length bytes → (get_or bytes end 0 ≡ separator → ⊥) → Passed separator bytes at (end + 1)
   passed-next h e = record { from = omega (arith, p.from); inside = omega arith; same = omega (arith, p.same, piece-next separator bytes end h e) }
 
-  pub passed-end : length bytes ≤ end → end ≡ at + pieceEnd separator (drop at bytes)
+  pub passed-end : length bytes ≤ end → end ≡ at + piece_end separator (drop at bytes)
   passed-end h = omega (arith, p.same, piece-none separator bytes end h)
 
-piece_inside : (separator : ℕ) (bytes : List ℕ) → pieceEnd separator bytes ≤ length bytes
-unfolding pieceEnd
+piece_inside : (separator : ℕ) (bytes : List ℕ) → piece_end separator bytes ≤ length bytes
+unfolding piece_end
 piece_inside separator [] = omega arith
 piece_inside separator (byte ∷ bytes) =
     by_cases (eqb byte separator) (λ t. rw t (omega arith)) (λ t. rw t (omega (arith, piece_inside separator bytes)))
 
-piece-free : (separator : ℕ) (bytes : List ℕ) → Free separator (take (pieceEnd separator bytes) bytes)
-unfolding pieceEnd Free
+piece-free : (separator : ℕ) (bytes : List ℕ) → Free separator (take (piece_end separator bytes) bytes)
+unfolding piece_end Free
 piece-free separator [] = tt
 piece-free separator (byte ∷ bytes) =
     by_cases (eqb byte separator) (λ t. rw t tt) (λ t. rw t (eqb-false byte separator t, piece-free separator bytes))
 
-piece-splits : (separator : ℕ) (bytes : List ℕ) → pieceEnd separator bytes < length bytes
-    → bytes ≡ take (pieceEnd separator bytes) bytes ++ (separator ∷ drop (suc (pieceEnd separator bytes)) bytes)
-unfolding pieceEnd
+piece-splits : (separator : ℕ) (bytes : List ℕ) → piece_end separator bytes < length bytes
+    → bytes ≡ take (piece_end separator bytes) bytes ++ (separator ∷ drop (suc (piece_end separator bytes)) bytes)
+unfolding piece_end
 piece-splits separator [] h = absurd (omega arith)
 piece-splits separator (byte ∷ bytes) h =
     by_cases (eqb byte separator)
     (λ t. rw (t, eqb-true byte separator t))
     (λ t. rw t (ap (λ (l : List ℕ). byte ∷ l) (piece-splits separator bytes (less t))))
   where
-    less : eqb byte separator ≡ false → pieceEnd separator bytes < length bytes
-    less t = let l : suc (pieceEnd separator bytes) < suc (length bytes) = rw t at h in omega arith
+    less : eqb byte separator ≡ false → piece_end separator bytes < length bytes
+    less t = let l : suc (piece_end separator bytes) < suc (length bytes) = rw t at h in omega arith
 
 -- the piece from byte `at` on ends at byte `end`
 pub record Piece (separator : ℕ) (bytes : List ℕ) (at end : ℕ) : Type 0 where
@@ -84,35 +84,35 @@ pub record Piece (separator : ℕ) (bytes : List ℕ) (at end : ℕ) : Type 0 wh
   pub splits : end < length bytes → drop at bytes ≡ take (end - at) (drop at bytes) ++ (separator ∷ drop (end + 1) bytes)
   pub last : length bytes ≤ end → drop at bytes ≡ take (end - at) (drop at bytes)
 
-pub piece_of : (separator : ℕ) (bytes : List ℕ) (at end : ℕ) → at ≤ length bytes → end ≡ at + pieceEnd separator (drop at bytes) → Piece separator bytes at end
+pub piece_of : (separator : ℕ) (bytes : List ℕ) (at end : ℕ) → at ≤ length bytes → end ≡ at + piece_end separator (drop at bytes) → Piece separator bytes at end
 piece_of separator bytes at end h e =
-    let inside : pieceEnd separator (drop at bytes) ≤ length bytes - at = rw length-drop at (piece_inside separator (drop at bytes)) in
-    let k : end - at ≡ pieceEnd separator (drop at bytes) = omega arith in
-    let next : at + suc (pieceEnd separator (drop at bytes)) ≡ end + 1 = omega arith in
+    let inside : piece_end separator (drop at bytes) ≤ length bytes - at = rw length-drop at (piece_inside separator (drop at bytes)) in
+    let k : end - at ≡ piece_end separator (drop at bytes) = omega arith in
+    let next : at + suc (piece_end separator (drop at bytes)) ≡ end + 1 = omega arith in
     record {
       from = omega arith;
       inside = omega arith;
       free = rw k (piece-free separator (drop at bytes));
       splits = λ l. rw k (piece-splits separator (drop at bytes) (rw length-drop (omega arith))
-          ∙ ap (λ (rest : List ℕ). take (pieceEnd separator (drop at bytes)) (drop at bytes) ++ (separator ∷ rest)) (drop-drop _ at bytes ∙ ap (λ (n : ℕ). drop n bytes) next));
+          ∙ ap (λ (rest : List ℕ). take (piece_end separator (drop at bytes)) (drop at bytes) ++ (separator ∷ rest)) (drop-drop _ at bytes ∙ ap (λ (n : ℕ). drop n bytes) next));
       last = λ l. sym (take_all (end - at) (drop at bytes) (rw length-drop (omega arith)));
     }
 
 -- ---- the fields that are left
 
 -- the fields from byte `at` on; none are left behind the line's end
-unfoldable pub fieldsFrom : ℕ → List ℕ → List (List ℕ)
-fieldsFrom at line = pick (leb at (length line)) (fields_of (drop at line)) []
+unfoldable pub fields_from : ℕ → List ℕ → List (List ℕ)
+fields_from at line = pick (leb at (length line)) (fields_of (drop at line)) []
 
-fields_at : (at : ℕ) (line : List ℕ) → at ≤ length line → fieldsFrom at line ≡ fields_of (drop at line)
-unfolding fieldsFrom
+fields_at : (at : ℕ) (line : List ℕ) → at ≤ length line → fields_from at line ≡ fields_of (drop at line)
+unfolding fields_from
 fields_at at line h = rw (le-leb at (length line) h)
 
-fields-behind : (at : ℕ) (line : List ℕ) → length line < at → fieldsFrom at line ≡ []
-unfolding fieldsFrom
+fields-behind : (at : ℕ) (line : List ℕ) → length line < at → fields_from at line ≡ []
+unfolding fields_from
 fields-behind at line h = rw (lt-leb at (length line) h)
 
-fields-step : {line : List ℕ} {at end : ℕ} → Piece 9 line at end → fieldsFrom at line ≡ take (end - at) (drop at line) ∷ fieldsFrom (end + 1) line
+fields-step : {line : List ℕ} {at end : ℕ} → Piece 9 line at end → fields_from at line ≡ take (end - at) (drop at line) ∷ fields_from (end + 1) line
 fields-step {line = line} {at = at} {end = end} p =
     fields_at at line (omega (arith, p.from, p.inside)) ∙ by_cases (ltb end (length line))
     (λ t.
@@ -147,7 +147,7 @@ pub record Counted (line : List ℕ) (at count : ℕ) : Type 0 where
   pub fewer : count ≤ at
   pub before : List ℤ
   pub size : length before ≡ count
-  pub same : numbersOf (fields_of line) ≡ behind before (numbersOf (fieldsFrom at line))
+  pub same : numbers_of (fields_of line) ≡ behind before (numbers_of (fields_from at line))
 
 pub counted_start : (line : List ℕ) → Counted line 0 0
 counted_start line = record {
@@ -155,31 +155,31 @@ counted_start line = record {
   fewer = omega arith;
   before = [];
   size = refl;
-  same = behind-nil (numbersOf (fields_of line)) ∙ ap (λ (l : List (List ℕ)). behind [] (numbersOf l)) (sym (fields_at 0 line (omega arith)));
+  same = behind-nil (numbers_of (fields_of line)) ∙ ap (λ (l : List (List ℕ)). behind [] (numbers_of l)) (sym (fields_at 0 line (omega arith)));
 }
 
 pub start-before : (line : List ℕ) → (counted_start line).before ≡ []
 unfolding counted_start
 start-before line = refl
 
-numbers-cons : (field : List ℕ) (fields : List (List ℕ)) → numbersOf (field ∷ fields) ≡ together (number_of field) (numbersOf fields)
-unfolding numbersOf
+numbers-cons : (field : List ℕ) (fields : List (List ℕ)) → numbers_of (field ∷ fields) ≡ together (number_of field) (numbers_of fields)
+unfolding numbers_of
 numbers-cons field fields = refl
 
 module _ {line : List ℕ} {at count : ℕ} (c : Counted line at count) where
   -- all the numbers were read
-  pub counted-end : length line < at → numbersOf (fields_of line) ≡ some c.before
-  unfolding numbersOf behind
+  pub counted-end : length line < at → numbers_of (fields_of line) ≡ some c.before
+  unfolding numbers_of behind
   counted-end h = c.same ∙ rw (fields-behind at line h) (ap some (append-nil c.before))
 
-  pub counted-says : length line < at → some count ≡ numberCount (numbersOf (fields_of line))
+  pub counted-says : length line < at → some count ≡ number_count (numbers_of (fields_of line))
   counted-says h = rw (counted-end h) (ap some (sym c.size))
 
   module _ {end : ℕ} (p : Piece 9 line at end) where
-    step : numbersOf (fields_of line) ≡ behind c.before (together (number_of (take (end - at) (drop at line))) (numbersOf (fieldsFrom (end + 1) line)))
-    step = c.same ∙ ap (λ (l : List (List ℕ)). behind c.before (numbersOf l)) (fields-step p) ∙ ap (behind c.before) (numbers-cons _ _)
+    step : numbers_of (fields_of line) ≡ behind c.before (together (number_of (take (end - at) (drop at line))) (numbers_of (fields_from (end + 1) line)))
+    step = c.same ∙ ap (λ (l : List (List ℕ)). behind c.before (numbers_of l)) (fields-step p) ∙ ap (behind c.before) (numbers-cons _ _)
 
-    pub counted-bad : number_of (take (end - at) (drop at line)) ≡ none → numbersOf (fields_of line) ≡ none
+    pub counted-bad : number_of (take (end - at) (drop at line)) ≡ none → numbers_of (fields_of line) ≡ none
     unfolding behind together
     counted-bad e = step ∙ rw e
 
@@ -189,7 +189,7 @@ module _ {line : List ℕ} {at count : ℕ} (c : Counted line at count) where
       fewer = omega (arith, p.from, c.fewer);
       before = c.before ++ (z ∷ []);
       size = length-append c.before (z ∷ []) ∙ omega (arith, c.size);
-      same = step ∙ rw e (behind_more c.before z (numbersOf (fieldsFrom (end + 1) line)));
+      same = step ∙ rw e (behind_more c.before z (numbers_of (fields_from (end + 1) line)));
     }
 
     pub next-before : (z : ℤ) (e : number_of (take (end - at) (drop at line)) ≡ some z) → (counted_next z e).before ≡ c.before ++ (z ∷ [])

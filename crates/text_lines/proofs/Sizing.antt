@@ -8,8 +8,8 @@ use lib.IntN.{ℤ, pos}
 use lib.Signed.{mag}
 use lib.ListN.{length, take, get_or, length-append}
 use lib.Seq.{take-suc, take-length}
-use Rattle.text_numbers.specs.Number.{numberBytes}
-use Rattle.text_lines.specs.Line.{lineBytes}
+use Rattle.text_numbers.specs.Number.{number_bytes}
+use Rattle.text_lines.specs.Line.{line_bytes}
 use Rattle.text_lines.specs.Writer.{bytes_of, Measured}
 use Rattle.text_numbers.specs.PutLaws.{number-eleven}
 use Rattle.text_lines.proofs.Writing.{line-one, line-more}
@@ -21,23 +21,23 @@ unfolding bytes_of
 bytes-append [] ys = omega arith
 bytes-append (z ∷ zs) ys = omega (arith, bytes-append zs ys)
 
-bytes_one : (z : ℤ) → bytes_of (z ∷ []) ≡ length (numberBytes z) + 1
+bytes_one : (z : ℤ) → bytes_of (z ∷ []) ≡ length (number_bytes z) + 1
 unfolding bytes_of
 bytes_one z = omega arith
 
-bytes-more : (z : ℤ) (zs : List ℤ) → bytes_of (z ∷ zs) ≡ length (numberBytes z) + 1 + bytes_of zs
+bytes-more : (z : ℤ) (zs : List ℤ) → bytes_of (z ∷ zs) ≡ length (number_bytes z) + 1 + bytes_of zs
 unfolding bytes_of
 bytes-more z zs = refl
 
-pub bytes-line : (words : List ℤ) → 0 < length words → length (lineBytes words) ≡ bytes_of words
+pub bytes-line : (words : List ℤ) → 0 < length words → length (line_bytes words) ≡ bytes_of words
 bytes-line [] h = absurd (omega arith)
-bytes-line (z ∷ []) h = omega (arith, ap length (line-one (z ∷ []) refl), length-append (numberBytes z) (10 ∷ []), bytes_one z)
+bytes-line (z ∷ []) h = omega (arith, ap length (line-one (z ∷ []) refl), length-append (number_bytes z) (10 ∷ []), bytes_one z)
 bytes-line (z ∷ (y ∷ zs)) h =
     omega (
       arith,
       ap length (line-more (z ∷ (y ∷ zs)) (omega arith)),
-      length-append (numberBytes z ++ (9 ∷ [])) (lineBytes (y ∷ zs)),
-      length-append (numberBytes z) (9 ∷ []),
+      length-append (number_bytes z ++ (9 ∷ [])) (line_bytes (y ∷ zs)),
+      length-append (number_bytes z) (9 ∷ []),
       bytes-line (y ∷ zs) (omega arith),
       bytes-more z (y ∷ zs),
     )
@@ -53,13 +53,13 @@ pub summed-start : (words : List ℤ) → Summed words 0 0
 unfolding bytes_of
 summed-start words = record { inside = omega arith; sum = refl; most = omega arith }
 
-bytes_next : (words : List ℤ) (i : ℕ) → i < length words → bytes_of (take (i + 1) words) ≡ bytes_of (take i words) + (length (numberBytes (get_or words i (pos 0))) + 1)
+bytes_next : (words : List ℤ) (i : ℕ) → i < length words → bytes_of (take (i + 1) words) ≡ bytes_of (take i words) + (length (number_bytes (get_or words i (pos 0))) + 1)
 bytes_next words i h =
     ap bytes_of (ap (λ (n : ℕ). take n words) (add-one i) ∙ take-suc words i (pos 0) h)
     ∙ bytes-append (take i words) _ ∙ ap (λ (n : ℕ). bytes_of (take i words) + n) (bytes_one (get_or words i (pos 0)))
 
 module _ {words : List ℤ} {size i : ℕ} (s : Summed words size i) where
-  pub summed-next : i < length words → mag (get_or words i (pos 0)) < 2 ^ 31 → (count : ℕ) → count ≡ length (numberBytes (get_or words i (pos 0))) → Summed words (size + (count + 1)) (i + 1)
+  pub summed-next : i < length words → mag (get_or words i (pos 0)) < 2 ^ 31 → (count : ℕ) → count ≡ length (number_bytes (get_or words i (pos 0))) → Summed words (size + (count + 1)) (i + 1)
   summed-next h f count e = record {
     inside = omega arith;
     sum = omega (arith, s.sum, bytes_next words i h);

@@ -8,9 +8,9 @@ use lib.IntN.{ℤ}
 use lib.ListN.{length, take, drop, set, length-append}
 use mir.Facts.{to_z-of_z}
 use Rattle.text_numbers.specs.Number.{number_of}
-use Rattle.text_lines.specs.Line.{fields_of, numbersOf}
+use Rattle.text_lines.specs.Line.{fields_of, numbers_of}
 use Rattle.words.specs.Over.{over}
-use Rattle.text_lines.specs.Reader.{numbersIn, Holds}
+use Rattle.text_lines.specs.Reader.{numbers_in, Holds}
 use Rattle.text_numbers.specs.NumberLaws.{not_some, number-reads}
 use Rattle.words.specs.OverLaws.{length_over, over-set, over_none}
 use Rattle.text_numbers.proofs.Signs.{again}
@@ -19,12 +19,12 @@ use Rattle.text_lines.proofs.Pieces.{Piece, behind, Counted, counted_start, coun
 -- the numbers of the fields before byte `at` were written over `table`, which gave `written`
 pub record Stored (line : List ℕ) (at count : ℕ) (table written : List ℤ) : Type 0 where
   pub counted : Counted line at count
-  pub holds : Holds (numbersOf (fields_of line)) table
+  pub holds : Holds (numbers_of (fields_of line)) table
   pub few : count ≤ length table
-  pub over-table : written ≡ over counted.before table
+  pub over_table : written ≡ over counted.before table
 
-pub stored-start : (line : List ℕ) (table : List ℤ) → Holds (numbersOf (fields_of line)) table → Stored line 0 0 table table
-stored-start line table h = record { counted = counted_start line; holds = h; few = omega arith; over-table = rw (start-before line) (over_none table) }
+pub stored-start : (line : List ℕ) (table : List ℤ) → Holds (numbers_of (fields_of line)) table → Stored line 0 0 table table
+stored-start line table h = record { counted = counted_start line; holds = h; few = omega arith; over_table = rw (start-before line) (over_none table) }
 
 -- numbers that were read, of which some were read before
 fewer : (before : List ℤ) (read : Option (List ℤ)) (numbers : List ℤ) → behind before read ≡ some numbers → length before ≤ length numbers
@@ -36,20 +36,20 @@ fewer before (some others) numbers e =
 
 module _ {line : List ℕ} {at count : ℕ} {table written : List ℤ} (s : Stored line at count table written) where
   pub stored-length : length written ≡ length table
-  stored-length = length_over s.counted.before table written s.over-table (omega (arith, s.counted.size, s.few))
+  stored-length = length_over s.counted.before table written s.over_table (omega (arith, s.counted.size, s.few))
 
-  pub stored-end : length line < at → written ≡ over (numbersIn (numbersOf (fields_of line))) table
-  stored-end h = s.over-table ∙ ap (λ (read : Option (List ℤ)). over (numbersIn read) table) (sym (counted-end s.counted h))
+  pub stored-end : length line < at → written ≡ over (numbers_in (numbers_of (fields_of line))) table
+  stored-end h = s.over_table ∙ ap (λ (read : Option (List ℤ)). over (numbers_in read) table) (sym (counted-end s.counted h))
 
   module _ {end : ℕ} (p : Piece 9 line at end) where
     pub stored-never : {G : Type 0} → number_of (take (end - at) (drop at line)) ≡ none → G
-    stored-never e = not_some (sym (counted-bad s.counted p e) ∙ s.holds.well-formed)
+    stored-never e = not_some (sym (counted-bad s.counted p e) ∙ s.holds.well_formed)
 
     module _ (z : ℤ) (e : number_of (take (end - at) (drop at line)) ≡ some z) where
       next-few : count + 1 ≤ length table
       next-few =
           let n = counted_next s.counted p z e in
-          let f = fewer n.before _ _ (sym n.same ∙ s.holds.well-formed) in
+          let f = fewer n.before _ _ (sym n.same ∙ s.holds.well_formed) in
           omega (arith, n.size, s.holds.room)
 
       pub stored-room : count < length written
@@ -62,5 +62,5 @@ module _ {line : List ℕ} {at count : ℕ} {table written : List ℤ} (s : Stor
             counted = counted_next s.counted p z e;
             holds = s.holds;
             few = next-few;
-            over-table = rw (same, next-before s.counted p z e) (over-set s.counted.before table written count z s.over-table (sym s.counted.size) (omega (arith, next-few, s.counted.size)));
+            over_table = rw (same, next-before s.counted p z e) (over-set s.counted.before table written count z s.over_table (sym s.counted.size) (omega (arith, next-few, s.counted.size)));
           }

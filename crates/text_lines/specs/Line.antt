@@ -2,7 +2,7 @@
 use Rattle.std.specs.Prelude.{List, [], ◌∷◌, ◌++◌, map, ℕ, eqb, ℤ}
 use Rattle.std.proofs.Math.Option.{Option, none, some}
 use Rattle.words.specs.Word.{pick}
-use Rattle.text_numbers.specs.Number.{numberBytes, number_of}
+use Rattle.text_numbers.specs.Number.{number_bytes, number_of}
 
 abbrev pub tab : ℕ
 tab = 9
@@ -19,20 +19,20 @@ parted (field ∷ []) = field
 parted (field ∷ (second ∷ others)) = field ++ (tab ∷ parted (second ∷ others))
 
 -- The bytes of a line of numbers.
-unfoldable pub lineBytes : List ℤ → List ℕ
-lineBytes numbers = parted (map numberBytes numbers) ++ (newline ∷ [])
+unfoldable pub line_bytes : List ℤ → List ℕ
+line_bytes numbers = parted (map number_bytes numbers) ++ (newline ∷ [])
 
 -- ---- reading
 
 -- The same fields with a byte more at the start of the first.
-abbrev pub longerField : ℕ → List (List ℕ) → List (List ℕ)
-longerField byte [] = (byte ∷ []) ∷ []
-longerField byte (field ∷ fields) = (byte ∷ field) ∷ fields
+abbrev pub longer_field : ℕ → List (List ℕ) → List (List ℕ)
+longer_field byte [] = (byte ∷ []) ∷ []
+longer_field byte (field ∷ fields) = (byte ∷ field) ∷ fields
 
 -- The fields that the tabs of a line part: one more than it has tabs.
 unfoldable pub fields_of : List ℕ → List (List ℕ)
 fields_of [] = [] ∷ []
-fields_of (byte ∷ bytes) = pick (eqb byte tab) ([] ∷ fields_of bytes) (longerField byte (fields_of bytes))
+fields_of (byte ∷ bytes) = pick (eqb byte tab) ([] ∷ fields_of bytes) (longer_field byte (fields_of bytes))
 
 -- A line without its newline; the bytes behind a text's last newline are a line that lacks its own.
 pub data TextLine : Type 0 where
@@ -40,15 +40,15 @@ pub data TextLine : Type 0 where
   unended : List ℕ → TextLine
 
 -- The same lines with a byte more at the start of the first.
-abbrev pub longerLine : ℕ → List TextLine → List TextLine
-longerLine byte [] = unended (byte ∷ []) ∷ []
-longerLine byte (ended line ∷ lines) = ended (byte ∷ line) ∷ lines
-longerLine byte (unended line ∷ lines) = unended (byte ∷ line) ∷ lines
+abbrev pub longer_line : ℕ → List TextLine → List TextLine
+longer_line byte [] = unended (byte ∷ []) ∷ []
+longer_line byte (ended line ∷ lines) = ended (byte ∷ line) ∷ lines
+longer_line byte (unended line ∷ lines) = unended (byte ∷ line) ∷ lines
 
 -- The lines of a text.
 unfoldable pub lines_of : List ℕ → List TextLine
 lines_of [] = []
-lines_of (byte ∷ bytes) = pick (eqb byte newline) (ended [] ∷ lines_of bytes) (longerLine byte (lines_of bytes))
+lines_of (byte ∷ bytes) = pick (eqb byte newline) (ended [] ∷ lines_of bytes) (longer_line byte (lines_of bytes))
 
 -- All of them, where there is none missing.
 unfoldable pub together : {A : Type 0} → Option A → Option (List A) → Option (List A)
@@ -56,11 +56,11 @@ together (some first) (some others) = some (first ∷ others)
 together (some first) none = none
 together none others = none
 
-unfoldable pub numbersOf : List (List ℕ) → Option (List ℤ)
-numbersOf [] = some []
-numbersOf (field ∷ fields) = together (number_of field) (numbersOf fields)
+unfoldable pub numbers_of : List (List ℕ) → Option (List ℤ)
+numbers_of [] = some []
+numbers_of (field ∷ fields) = together (number_of field) (numbers_of fields)
 
 -- The numbers of a line; none where it is malformed.
-unfoldable pub lineNumbers : TextLine → Option (List ℤ)
-lineNumbers (ended line) = numbersOf (fields_of line)
-lineNumbers (unended line) = none
+unfoldable pub line_numbers : TextLine → Option (List ℤ)
+line_numbers (ended line) = numbers_of (fields_of line)
+line_numbers (unended line) = none

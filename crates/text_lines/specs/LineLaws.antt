@@ -6,8 +6,8 @@ use Rattle.std.proofs.Math.Option.{Option, none, some}
 use Rattle.std.specs.Int.Signed.{mag}
 use Rattle.std.proofs.lemmas.List.{length-map}
 use Rattle.words.specs.Laws.{by_cases}
-use Rattle.text_numbers.specs.Number.{numberBytes, number_of}
-use Rattle.text_lines.specs.Line.{parted, lineBytes, longerField, fields_of, TextLine, ended, unended, longerLine, lines_of, together, numbersOf, lineNumbers}
+use Rattle.text_numbers.specs.Number.{number_bytes, number_of}
+use Rattle.text_lines.specs.Line.{parted, line_bytes, longer_field, fields_of, TextLine, ended, unended, longer_line, lines_of, together, numbers_of, line_numbers}
 use Rattle.text_numbers.specs.NumberLaws.{not_some, Free, free-append, number-free, IsNumber, number-reads, number-shows}
 
 -- ---- what the separators part
@@ -54,7 +54,7 @@ fields-some [] = omega arith
 fields-some (byte ∷ bytes) =
     by_cases (eqb byte 9) (λ e. rw e (omega arith)) (λ e. rw e (longer (fields_of bytes)))
   where
-    longer : (fields : List (List ℕ)) → 0 < length (longerField byte fields)
+    longer : (fields : List (List ℕ)) → 0 < length (longer_field byte fields)
     longer [] = omega arith
     longer (field ∷ fields) = omega arith
 
@@ -62,7 +62,7 @@ parted-one : (field : List ℕ) → parted (field ∷ []) ≡ field
 unfolding parted
 parted-one field = refl
 
-longer-parted : (byte : ℕ) (fields : List (List ℕ)) → parted (longerField byte fields) ≡ byte ∷ parted fields
+longer-parted : (byte : ℕ) (fields : List (List ℕ)) → parted (longer_field byte fields) ≡ byte ∷ parted fields
 unfolding parted
 longer-parted byte [] = refl
 longer-parted byte (field ∷ []) = refl
@@ -84,7 +84,7 @@ fields-few (byte ∷ bytes) =
     by_cases (eqb byte 9) (λ e. rw e (omega (arith, fields-few bytes)))
     (λ e. rw e (longer (fields_of bytes) (fields-some bytes) (fields-few bytes)))
   where
-    longer : (fields : List (List ℕ)) → 0 < length fields → length fields ≤ length bytes + 1 → length (longerField byte fields) ≤ length (byte ∷ bytes) + 1
+    longer : (fields : List (List ℕ)) → 0 < length fields → length fields ≤ length bytes + 1 → length (longer_field byte fields) ≤ length (byte ∷ bytes) + 1
     longer [] h l = omega arith
     longer (field ∷ fields) h l = omega arith
 
@@ -94,7 +94,7 @@ joined [] = []
 joined (ended line ∷ lines) = line ++ (10 ∷ joined lines)
 joined (unended line ∷ lines) = line ++ joined lines
 
-longer-joined : (byte : ℕ) (lines : List TextLine) → joined (longerLine byte lines) ≡ byte ∷ joined lines
+longer-joined : (byte : ℕ) (lines : List TextLine) → joined (longer_line byte lines) ≡ byte ∷ joined lines
 unfolding joined
 longer-joined byte [] = refl
 longer-joined byte (ended line ∷ lines) = refl
@@ -125,7 +125,7 @@ Words (z ∷ zs) = (mag z < 2 ^ 31) × Words zs
 
 -- what fields that are numbers are
 pub record AreNumbers (fields : List (List ℕ)) (numbers : List ℤ) : Type 0 where
-  pub written : fields ≡ map numberBytes numbers
+  pub written : fields ≡ map number_bytes numbers
   pub fits : Words numbers
 
 numbers-none : AreNumbers [] []
@@ -145,59 +145,59 @@ together-reads field fields (some z) (some zs) numbers e ih d =
     let same : z ∷ zs ≡ numbers = cc in
     rw (← same) (numbers_more (number-reads field z e) (ih zs refl))
 
-pub numbers-reads : (fields : List (List ℕ)) (numbers : List ℤ) → numbersOf fields ≡ some numbers → AreNumbers fields numbers
-unfolding numbersOf
+pub numbers-reads : (fields : List (List ℕ)) (numbers : List ℤ) → numbers_of fields ≡ some numbers → AreNumbers fields numbers
+unfolding numbers_of
 numbers-reads [] numbers d = let same : [] ≡ numbers = cc in rw (← same) numbers-none
 numbers-reads (field ∷ fields) numbers d =
-    together-reads field fields (number_of field) (numbersOf fields) numbers refl (numbers-reads fields) d
+    together-reads field fields (number_of field) (numbers_of fields) numbers refl (numbers-reads fields) d
 
-pub numbers-shows : (numbers : List ℤ) → Words numbers → numbersOf (map numberBytes numbers) ≡ some numbers
-unfolding numbersOf Words together
+pub numbers-shows : (numbers : List ℤ) → Words numbers → numbers_of (map number_bytes numbers) ≡ some numbers
+unfolding numbers_of Words together
 numbers-shows [] w = refl
 numbers-shows (z ∷ zs) w = rw (number-shows z w.0, numbers-shows zs w.1)
 
 -- ---- a line that was written is read back
 
-fields-shows : (numbers : List ℤ) → 0 < length numbers → fields_of (parted (map numberBytes numbers)) ≡ map numberBytes numbers
+fields-shows : (numbers : List ℤ) → 0 < length numbers → fields_of (parted (map number_bytes numbers)) ≡ map number_bytes numbers
 unfolding parted
 fields-shows [] h = absurd (omega arith)
-fields-shows (z ∷ []) h = fields-last (numberBytes z) (number-free 9 z (omega arith))
+fields-shows (z ∷ []) h = fields-last (number_bytes z) (number-free 9 z (omega arith))
 fields-shows (z ∷ (y ∷ zs)) h =
-    fields-more (numberBytes z) (parted (map numberBytes (y ∷ zs))) (number-free 9 z (omega arith))
-    ∙ ap (λ (l : List (List ℕ)). numberBytes z ∷ l) (fields-shows (y ∷ zs) (omega arith))
+    fields-more (number_bytes z) (parted (map number_bytes (y ∷ zs))) (number-free 9 z (omega arith))
+    ∙ ap (λ (l : List (List ℕ)). number_bytes z ∷ l) (fields-shows (y ∷ zs) (omega arith))
 
-parted-free : (numbers : List ℤ) → Free 10 (parted (map numberBytes numbers))
+parted-free : (numbers : List ℤ) → Free 10 (parted (map number_bytes numbers))
 unfolding parted Free
 parted-free [] = tt
 parted-free (z ∷ []) = number-free 10 z (omega arith)
-parted-free (z ∷ (y ∷ zs)) = free-append 10 (numberBytes z) _ (number-free 10 z (omega arith)) (λ e. omega arith, parted-free (y ∷ zs))
+parted-free (z ∷ (y ∷ zs)) = free-append 10 (number_bytes z) _ (number-free 10 z (omega arith)) (λ e. omega arith, parted-free (y ∷ zs))
 
-pub line-shows : (numbers : List ℤ) → 0 < length numbers → Words numbers → lineNumbers (ended (parted (map numberBytes numbers))) ≡ some numbers
-unfolding lineNumbers
-line-shows numbers h w = ap numbersOf (fields-shows numbers h) ∙ numbers-shows numbers w
+pub line-shows : (numbers : List ℤ) → 0 < length numbers → Words numbers → line_numbers (ended (parted (map number_bytes numbers))) ≡ some numbers
+unfolding line_numbers
+line-shows numbers h w = ap numbers_of (fields-shows numbers h) ∙ numbers-shows numbers w
 
-pub lines-shows : (numbers : List ℤ) (rest : List ℕ) → lines_of (lineBytes numbers ++ rest) ≡ ended (parted (map numberBytes numbers)) ∷ lines_of rest
-unfolding lineBytes
+pub lines-shows : (numbers : List ℤ) (rest : List ℕ) → lines_of (line_bytes numbers ++ rest) ≡ ended (parted (map number_bytes numbers)) ∷ lines_of rest
+unfolding line_bytes
 lines-shows numbers rest =
-    ap lines_of (append_assoc (parted (map numberBytes numbers)) (10 ∷ []) rest)
-    ∙ lines-ended (parted (map numberBytes numbers)) rest (parted-free numbers)
+    ap lines_of (append_assoc (parted (map number_bytes numbers)) (10 ∷ []) rest)
+    ∙ lines-ended (parted (map number_bytes numbers)) rest (parted-free numbers)
 
 -- ---- a line that was read is written alike
 
 -- what a line of numbers is
 pub record IsLine (line : TextLine) (numbers : List ℤ) : Type 0 where
-  pub written : (lines : List TextLine) → joined (line ∷ lines) ≡ lineBytes numbers ++ joined lines
+  pub written : (lines : List TextLine) → joined (line ∷ lines) ≡ line_bytes numbers ++ joined lines
   pub filled : 0 < length numbers
   pub fits : Words numbers
 
 numbers-many : (fields : List (List ℕ)) (numbers : List ℤ) → AreNumbers fields numbers → length fields ≡ length numbers
-numbers-many fields numbers a = ap length a.written ∙ length-map numbers numberBytes
+numbers-many fields numbers a = ap length a.written ∙ length-map numbers number_bytes
 
-pub line_reads : (line : TextLine) (numbers : List ℤ) → lineNumbers line ≡ some numbers → IsLine line numbers
-unfolding lineNumbers joined lineBytes
+pub line_reads : (line : TextLine) (numbers : List ℤ) → line_numbers line ≡ some numbers → IsLine line numbers
+unfolding line_numbers joined line_bytes
 line_reads (ended line) numbers d =
     let a = numbers-reads (fields_of line) numbers d in
-    let same : line ≡ parted (map numberBytes numbers) = sym (fields-parted line) ∙ ap parted a.written in
+    let same : line ≡ parted (map number_bytes numbers) = sym (fields-parted line) ∙ ap parted a.written in
     record {
       written = λ lines. rw (append_assoc, ← same);
       filled = omega (arith, numbers-many (fields_of line) numbers a, fields-some line);
@@ -206,5 +206,5 @@ line_reads (ended line) numbers d =
 line_reads (unended line) numbers d = not_some d
 
 -- a line has as many bytes as numbers, its newline counted
-pub line-few : (line : List ℕ) (numbers : List ℤ) → numbersOf (fields_of line) ≡ some numbers → length numbers ≤ length line + 1
+pub line-few : (line : List ℕ) (numbers : List ℤ) → numbers_of (fields_of line) ≡ some numbers → length numbers ≤ length line + 1
 line-few line numbers d = omega (arith, fields-few line, numbers-many (fields_of line) numbers (numbers-reads (fields_of line) numbers d))

@@ -6,24 +6,24 @@ use Rattle.text_lines.specs.declared.line.Count.{Count}
 use Rattle.text_lines.specs.declared.line.Count.TheVariants as count-cases
 
 -- How many bytes stand before the first separator; all, where there is none.
-unfoldable pub pieceEnd : ℕ → List ℕ → ℕ
-pieceEnd separator [] = 0
-pieceEnd separator (byte ∷ bytes) = pick (eqb byte separator) 0 (suc (pieceEnd separator bytes))
+unfoldable pub piece_end : ℕ → List ℕ → ℕ
+piece_end separator [] = 0
+piece_end separator (byte ∷ bytes) = pick (eqb byte separator) 0 (suc (piece_end separator bytes))
 
-abbrev pub countSays : Count → Option ℕ
-countSays (count-cases.Numbers count) = some count
-countSays count-cases.Malformed = none
+abbrev pub count_says : Count → Option ℕ
+count_says (count-cases.Numbers count) = some count
+count_says count-cases.Malformed = none
 
 -- How many numbers were read.
-abbrev pub numberCount : Option (List ℤ) → Option ℕ
-numberCount none = none
-numberCount (some numbers) = some (length numbers)
+abbrev pub number_count : Option (List ℤ) → Option ℕ
+number_count none = none
+number_count (some numbers) = some (length numbers)
 
-abbrev pub numbersIn : Option (List ℤ) → List ℤ
-numbersIn none = []
-numbersIn (some numbers) = numbers
+abbrev pub numbers_in : Option (List ℤ) → List ℤ
+numbers_in none = []
+numbers_in (some numbers) = numbers
 
 -- Numbers were read, and a table has room for them.
 pub record Holds (read : Option (List ℤ)) (table : List ℤ) : Type 0 where
-  pub well-formed : read ≡ some (numbersIn read)
-  pub room : length (numbersIn read) ≤ length table
+  pub well_formed : read ≡ some (numbers_in read)
+  pub room : length (numbers_in read) ≤ length table

@@ -1,6 +1,6 @@
 // Lines of numbers written: how many bytes words take, and the bytes of a line.
 ghost use Rattle.std.specs.Prelude.{◌<◌, ◌≤◌, length};
-ghost use Rattle.text_lines.specs.Line.{lineBytes};
+ghost use Rattle.text_lines.specs.Line.{line_bytes};
 ghost use Rattle.text_numbers.specs.Writer.{Put};
 ghost use Rattle.text_lines.specs.Writer.{Measured};
 
@@ -23,8 +23,8 @@ pub fn size_of(words: &[i32]) -> usize
 // Writes a line at the start of `text`, and answers how many bytes it has.
 pub fn put_line(words: &[i32], text: &mut [u8]) -> usize
     requires words_nonzero { 0 < length words.now }
-    requires words_in_bounds { length (lineBytes words.now) ≤ length text.old }
-    ensures { Put (lineBytes words.now) text.old result text.new }
+    requires words_in_bounds { length (line_bytes words.now) ≤ length text.old }
+    ensures { Put (line_bytes words.now) text.old result text.new }
 {
     let end = put_number(words[0], text);
     let next = end + 1;

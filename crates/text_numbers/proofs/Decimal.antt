@@ -12,34 +12,34 @@ use lib.Signed.{mag}
 use lib.ListN.{length, drop, get_or, drop_of_length-le}
 use lib.Seq.{drop-cons}
 use borrow.Author.Tests.{le-ltb, le-leb, lt-leb, leb-true, leb-false, eq-eqb, ne_eqb}
-use Rattle.words.specs.Word.{isWord}
+use Rattle.words.specs.Word.{is_word}
 use Rattle.words.specs.Laws.{by_cases}
-use Rattle.text_numbers.specs.Number.{isDigit, decimal, naturalOf, word, positive, negative, number_of}
+use Rattle.text_numbers.specs.Number.{is_digit, decimal, natural_of, word, positive, negative, number_of}
 use Rattle.text_numbers.specs.NumberLaws.{decimal_digit, decimal-other, word-is}
 use Rattle.text_numbers.specs.Reader.{at_most}
 
 -- ---- the walk
 
-atMost-over : (limit n : ℕ) → limit < n → at_most limit (some n) ≡ none
+at_most-over : (limit n : ℕ) → limit < n → at_most limit (some n) ≡ none
 unfolding at_most
-atMost-over limit n h = rw (lt-leb n limit h)
+at_most-over limit n h = rw (lt-leb n limit h)
 
-pub atMost-within : (limit n : ℕ) → n ≤ limit → at_most limit (some n) ≡ some n
+pub at_most-within : (limit n : ℕ) → n ≤ limit → at_most limit (some n) ≡ some n
 unfolding at_most
-atMost-within limit n h = rw (le-leb n limit h)
+at_most-within limit n h = rw (le-leb n limit h)
 
-pub atMost-none : (limit : ℕ) → at_most limit none ≡ none
+pub at_most-none : (limit : ℕ) → at_most limit none ≡ none
 unfolding at_most
-atMost-none limit = refl
+at_most-none limit = refl
 
 -- digits only make a value larger
 decimal-over : (bytes : List ℕ) (limit value : ℕ) → limit < value → at_most limit (decimal value bytes) ≡ none
 unfolding decimal
-decimal-over [] limit value h = atMost-over limit value h
+decimal-over [] limit value h = at_most-over limit value h
 decimal-over (byte ∷ bytes) limit value h =
-    by_cases (isDigit byte)
+    by_cases (is_digit byte)
     (λ t. rw t (decimal-over bytes limit (10 * value + (byte - 48)) (omega arith)))
-    (λ t. rw t (atMost-none limit))
+    (λ t. rw t (at_most-none limit))
 
 -- the digits before byte i gave `value`, which is at most the limit
 pub record Valued (limit : ℕ) (bytes : List ℕ) (value i : ℕ) : Type 0 where
@@ -55,15 +55,15 @@ module _ {limit : ℕ} {bytes : List ℕ} {value i : ℕ} (v : Valued limit byte
   unfolding decimal
   valued-end h =
       let e : decimal value (drop i bytes) ≡ some value = rw (drop_of_length-le bytes {i = i} h) in
-      sym (ap (at_most limit) (sym v.same ∙ e) ∙ atMost-within limit value v.small)
+      sym (ap (at_most limit) (sym v.same ∙ e) ∙ at_most-within limit value v.small)
 
   module _ (more : i < length bytes) where
-    pub valued-stop : isDigit (get_or bytes i 0) ≡ false → none ≡ at_most limit (decimal 0 bytes)
+    pub valued-stop : is_digit (get_or bytes i 0) ≡ false → none ≡ at_most limit (decimal 0 bytes)
     valued-stop t =
         let e : decimal value (drop i bytes) ≡ none = rw (drop-cons bytes i 0 more) (decimal-other value _ _ t) in
-        sym (ap (at_most limit) (sym v.same ∙ e) ∙ atMost-none limit)
+        sym (ap (at_most limit) (sym v.same ∙ e) ∙ at_most-none limit)
 
-    module _ (t : isDigit (get_or bytes i 0) ≡ true) (digit : ℕ) (d : digit ≡ get_or bytes i 0 - 48) where
+    module _ (t : is_digit (get_or bytes i 0) ≡ true) (digit : ℕ) (d : digit ≡ get_or bytes i 0 - 48) where
       next : decimal (10 * value + digit) (drop (i + 1) bytes) ≡ decimal 0 bytes
       next = rw d (sym (decimal_digit value (get_or bytes i 0) (drop (i + 1) bytes) t) ∙ rw (add-one i, ← drop-cons bytes i 0 more) v.same)
 
@@ -75,19 +75,19 @@ module _ {limit : ℕ} {bytes : List ℕ} {value i : ℕ} (v : Valued limit byte
 
 -- ---- leading zeros
 
-pub natural-none : (bytes : List ℕ) → length bytes ≡ 0 → naturalOf bytes ≡ none
-unfolding naturalOf
+pub natural-none : (bytes : List ℕ) → length bytes ≡ 0 → natural_of bytes ≡ none
+unfolding natural_of
 natural-none [] h = refl
 natural-none (byte ∷ bytes) h = absurd (omega arith)
 
-pub natural-one : (bytes : List ℕ) → length bytes ≡ 1 → naturalOf bytes ≡ decimal 0 bytes
-unfolding naturalOf
+pub natural-one : (bytes : List ℕ) → length bytes ≡ 1 → natural_of bytes ≡ decimal 0 bytes
+unfolding natural_of
 natural-one [] h = absurd (omega arith)
 natural-one (byte ∷ []) h = refl
 natural-one (byte ∷ (next ∷ bytes)) h = absurd (omega arith)
 
-pub natural-zero : (bytes : List ℕ) → (length bytes ≡ 0 → ⊥) → (length bytes ≡ 1 → ⊥) → get_or bytes 0 0 ≡ 48 → naturalOf bytes ≡ none
-unfolding naturalOf
+pub natural-zero : (bytes : List ℕ) → (length bytes ≡ 0 → ⊥) → (length bytes ≡ 1 → ⊥) → get_or bytes 0 0 ≡ 48 → natural_of bytes ≡ none
+unfolding natural_of
 natural-zero [] h k e = absurd (h refl)
 natural-zero (byte ∷ []) h k e = absurd (k refl)
 natural-zero (byte ∷ (next ∷ bytes)) h k e = rw (eq-eqb byte 48 e)
@@ -95,7 +95,7 @@ natural-zero (byte ∷ (next ∷ bytes)) h k e = rw (eq-eqb byte 48 e)
 -- ---- words
 
 word-not : (z : ℤ) → 2 ^ 31 ≤ mag z → word z ≡ none
-unfolding word isWord
+unfolding word is_word
 word-not z h = rw (le-ltb (mag z) (2 ^ 31) h)
 
 pub positive-none : positive none ≡ none
@@ -130,18 +130,18 @@ negative-is (suc n) h l = let e : suc n - 1 ≡ n = omega arith in rw e (word-is
 
 -- a value above the limit is no word of either sign
 pub positive-within : (value : Option ℕ) → positive (at_most 2147483648 value) ≡ positive value
-positive-within none = ap positive (atMost-none 2147483648)
+positive-within none = ap positive (at_most-none 2147483648)
 positive-within (some n) =
     by_cases (leb n 2147483648)
-    (λ t. ap positive (atMost-within 2147483648 n (leb-true _ _ t)))
-    (λ t. ap positive (atMost-over 2147483648 n (leb-false _ _ t)) ∙ positive-none ∙ sym (positive-over n (omega (arith, leb-false n 2147483648 t))))
+    (λ t. ap positive (at_most-within 2147483648 n (leb-true _ _ t)))
+    (λ t. ap positive (at_most-over 2147483648 n (leb-false _ _ t)) ∙ positive-none ∙ sym (positive-over n (omega (arith, leb-false n 2147483648 t))))
 
 pub negative-within : (value : Option ℕ) → negative (at_most 2147483648 value) ≡ negative value
-negative-within none = ap negative (atMost-none 2147483648)
+negative-within none = ap negative (at_most-none 2147483648)
 negative-within (some n) =
     by_cases (leb n 2147483648)
-    (λ t. ap negative (atMost-within 2147483648 n (leb-true _ _ t)))
-    (λ t. ap negative (atMost-over 2147483648 n (leb-false _ _ t)) ∙ negative-none ∙ sym (negative-over n (leb-false _ _ t)))
+    (λ t. ap negative (at_most-within 2147483648 n (leb-true _ _ t)))
+    (λ t. ap negative (at_most-over 2147483648 n (leb-false _ _ t)) ∙ negative-none ∙ sym (negative-over n (leb-false _ _ t)))
 
 -- ---- fields
 
@@ -150,12 +150,12 @@ unfolding number_of
 number-none [] h = refl
 number-none (byte ∷ bytes) h = absurd (omega arith)
 
-pub number-minus : (bytes : List ℕ) → (length bytes ≡ 0 → ⊥) → get_or bytes 0 0 ≡ 45 → number_of bytes ≡ negative (naturalOf (drop 1 bytes))
+pub number-minus : (bytes : List ℕ) → (length bytes ≡ 0 → ⊥) → get_or bytes 0 0 ≡ 45 → number_of bytes ≡ negative (natural_of (drop 1 bytes))
 unfolding number_of
 number-minus [] h e = absurd (h refl)
 number-minus (byte ∷ bytes) h e = rw (eq-eqb byte 45 e)
 
-pub number-plain : (bytes : List ℕ) → (length bytes ≡ 0 → ⊥) → (get_or bytes 0 0 ≡ 45 → ⊥) → number_of bytes ≡ positive (naturalOf bytes)
+pub number-plain : (bytes : List ℕ) → (length bytes ≡ 0 → ⊥) → (get_or bytes 0 0 ≡ 45 → ⊥) → number_of bytes ≡ positive (natural_of bytes)
 unfolding number_of
 number-plain [] h f = absurd (h refl)
 number-plain (byte ∷ bytes) h f = rw (ne_eqb byte 45 f)

@@ -12,7 +12,7 @@ use mir.Syntax.{w32, w64}
 use mir.Val.{Fits, SFits, to_z, of_z}
 use mir.Facts.{to_z-of_z, to_z_pos}
 use borrow.Author.Tests.{ltb-true}
-use Rattle.text_numbers.specs.Number.{digits, numberBytes}
+use Rattle.text_numbers.specs.Number.{digits, number_bytes}
 
 -- what a local of type i32 or i64 gives back of a value that was put in
 abbrev pub again : ℤ → ℤ
@@ -84,28 +84,28 @@ kept z f e =
 
 -- ---- the bytes of a word, by its size
 
-bytes-negative-of : (z : ℤ) → lt_z z (pos 0) ≡ true → numberBytes z ≡ 45 ∷ digits (nat_abs z)
-unfolding numberBytes
+bytes-negative-of : (z : ℤ) → lt_z z (pos 0) ≡ true → number_bytes z ≡ 45 ∷ digits (nat_abs z)
+unfolding number_bytes
 bytes-negative-of (pos n) e = absurd (omega (arith, ltb-true n 0 e))
 bytes-negative-of (negsuc n) e = refl
 
-pub bytes-negative : (z : ℤ) (m : ℕ) → SFits w32 z → m ≡ nat_abs (again z) → lt_z (again z) (pos 0) ≡ true → numberBytes z ≡ 45 ∷ digits m
+pub bytes-negative : (z : ℤ) (m : ℕ) → SFits w32 z → m ≡ nat_abs (again z) → lt_z (again z) (pos 0) ≡ true → number_bytes z ≡ 45 ∷ digits m
 bytes-negative z m f h e = let b : again z ≡ z = to_z-of_z f in rw (h, b) (bytes-negative-of z (rw b at e))
 
-bytes-positive-of : (z : ℤ) → lt_z z (pos 0) ≡ false → numberBytes z ≡ digits (nat_abs z)
-unfolding numberBytes
+bytes-positive-of : (z : ℤ) → lt_z z (pos 0) ≡ false → number_bytes z ≡ digits (nat_abs z)
+unfolding number_bytes
 bytes-positive-of (pos n) e = refl
 bytes-positive-of (negsuc n) e = absurd (let z : ◌≡◌ {A = ℕ} 0 1 = cc in omega arith)
 
-pub bytes-positive : (z : ℤ) (m : ℕ) → SFits w32 z → m ≡ nat_abs (again z) → lt_z (again z) (pos 0) ≡ false → numberBytes z ≡ digits m
+pub bytes-positive : (z : ℤ) (m : ℕ) → SFits w32 z → m ≡ nat_abs (again z) → lt_z (again z) (pos 0) ≡ false → number_bytes z ≡ digits m
 bytes-positive z m f h e = let b : again z ≡ z = to_z-of_z f in rw (h, b) (bytes-positive-of z (rw b at e))
 
-size_of : (z : ℤ) → mag z < 2 ^ 31 → nat_abs z ≤ 2147483648
-size_of (pos n) h = omega arith
-size_of (negsuc n) h = omega arith
+size-of : (z : ℤ) → mag z < 2 ^ 31 → nat_abs z ≤ 2147483648
+size-of (pos n) h = omega arith
+size-of (negsuc n) h = omega arith
 
 pub size_small : (z : ℤ) → SFits w32 z → nat_abs (again z) ≤ 2147483648
-size_small z f = rw (to_z-of_z f) (size_of z f.sfits)
+size_small z f = rw (to_z-of_z f) (size-of z f.sfits)
 
-pub length-again : (z : ℤ) (n : ℕ) → SFits w32 z → n ≡ length (numberBytes (again z)) → n ≡ length (numberBytes z)
-length-again z n f e = e ∙ ap (λ (y : ℤ). length (numberBytes y)) (to_z-of_z f)
+pub length-again : (z : ℤ) (n : ℕ) → SFits w32 z → n ≡ length (number_bytes (again z)) → n ≡ length (number_bytes z)
+length-again z n f e = e ∙ ap (λ (y : ℤ). length (number_bytes y)) (to_z-of_z f)

@@ -1,40 +1,40 @@
 -- Examples: bytes that are numbers and bytes that are not.
 use Rattle.std.specs.Prelude.{◌≡◌, refl, [], ◌∷◌, pos, negsuc}
 use Rattle.std.proofs.Math.Option.{none, some}
-use Rattle.words.specs.Word.{isWord}
-use Rattle.text_numbers.specs.Number.{isDigit, decimal, naturalOf, word, positive, negative, number_of}
+use Rattle.words.specs.Word.{is_word}
+use Rattle.text_numbers.specs.Number.{is_digit, decimal, natural_of, word, positive, negative, number_of}
 
 -- −0
 minus-zero : number_of (45 ∷ 48 ∷ []) ≡ none
-unfolding number_of naturalOf decimal isDigit negative
+unfolding number_of natural_of decimal is_digit negative
 minus-zero = refl
 
 -- 00
 leading-zero : number_of (48 ∷ 48 ∷ []) ≡ none
-unfolding number_of naturalOf positive
+unfolding number_of natural_of positive
 leading-zero = refl
 
 -- +1
 plus : number_of (43 ∷ 49 ∷ []) ≡ none
-unfolding number_of naturalOf decimal isDigit positive
+unfolding number_of natural_of decimal is_digit positive
 plus = refl
 
 -- −
 minus-alone : number_of (45 ∷ []) ≡ none
-unfolding number_of naturalOf negative
+unfolding number_of natural_of negative
 minus-alone = refl
 
 -- 0
 zero-alone : number_of (48 ∷ []) ≡ some (pos 0)
-unfolding number_of naturalOf decimal isDigit positive word isWord
+unfolding number_of natural_of decimal is_digit positive word is_word
 zero-alone = refl
 
 -- −2147483648
 least : number_of (45 ∷ 50 ∷ 49 ∷ 52 ∷ 55 ∷ 52 ∷ 56 ∷ 51 ∷ 54 ∷ 52 ∷ 56 ∷ []) ≡ some (negsuc 2147483647)
-unfolding number_of naturalOf decimal isDigit negative word isWord
+unfolding number_of natural_of decimal is_digit negative word is_word
 least = refl
 
 -- 2147483648
 beyond-greatest : number_of (50 ∷ 49 ∷ 52 ∷ 55 ∷ 52 ∷ 56 ∷ 51 ∷ 54 ∷ 52 ∷ 56 ∷ []) ≡ none
-unfolding number_of naturalOf decimal isDigit positive word isWord
+unfolding number_of natural_of decimal is_digit positive word is_word
 beyond-greatest = refl

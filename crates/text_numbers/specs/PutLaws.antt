@@ -3,7 +3,7 @@ use Rattle.std.specs.Prelude.{◌≡◌, refl, List, [], ◌∷◌, ◌++◌, �
 use Rattle.std.proofs.Common.{sym, ap, ◌∙◌, pow-suc, arith, length-append, length-drop, ltb-true, ltb-false}
 use Rattle.std.specs.Int.Signed.{mag}
 use borrow.Rule.Slice.PartMut.{same_len_mid}
-use Rattle.text_numbers.specs.Number.{digits, numberBytes}
+use Rattle.text_numbers.specs.Number.{digits, number_bytes}
 use Rattle.words.specs.Over.{over}
 use Rattle.words.specs.Laws.{by_cases}
 use Rattle.text_numbers.specs.NumberLaws.{digits-one, length-one, length_more}
@@ -68,8 +68,8 @@ pub digits-ten : (n : ℕ) → n ≤ 2147483648 → length (digits n) ≤ 10
 digits-ten n h = digits-within 9 n (omega arith)
 
 -- a word takes at most eleven bytes
-pub number-eleven : (z : ℤ) → mag z < 2 ^ 31 → length (numberBytes z) ≤ 11
-unfolding numberBytes
+pub number-eleven : (z : ℤ) → mag z < 2 ^ 31 → length (number_bytes z) ≤ 11
+unfolding number_bytes
 number-eleven (pos n) h = omega (arith, digits-ten n (omega arith))
 number-eleven (negsuc n) h = omega (arith, digits-ten (suc n) (omega arith))
 

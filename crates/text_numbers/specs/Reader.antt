@@ -7,13 +7,13 @@ use Rattle.text_numbers.specs.declared.number.Digits.TheVariants as digit-cases
 use Rattle.text_numbers.specs.declared.number.Field.{Field}
 use Rattle.text_numbers.specs.declared.number.Field.TheVariants as field-cases
 
-abbrev pub digitsValue : Digits → Option ℕ
-digitsValue (digit-cases.Value value) = some value
-digitsValue digit-cases.Malformed = none
+abbrev pub digits_value : Digits → Option ℕ
+digits_value (digit-cases.Value value) = some value
+digits_value digit-cases.Malformed = none
 
-abbrev pub fieldNumber : Field → Option ℤ
-fieldNumber (field-cases.Number number) = some number
-fieldNumber field-cases.Malformed = none
+abbrev pub field_number : Field → Option ℤ
+field_number (field-cases.Number number) = some number
+field_number field-cases.Malformed = none
 
 -- A number up to a limit.
 unfoldable pub at_most : ℕ → Option ℕ → Option ℕ

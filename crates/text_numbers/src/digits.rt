@@ -1,6 +1,6 @@
 // Numbers of a text: how many bytes one is written with, and those bytes.
 ghost use Rattle.std.specs.Prelude.{◌≡◌, ◌≤◌, length, nat_abs};
-ghost use Rattle.text_numbers.specs.Number.{digits, numberBytes};
+ghost use Rattle.text_numbers.specs.Number.{digits, number_bytes};
 ghost use Rattle.text_numbers.specs.Writer.{Put};
 
 // The size of a number, its sign left out.
@@ -26,7 +26,7 @@ fn digit_count(n: u64) -> usize
 
 // How many bytes a number is written with.
 pub fn number_size(number: i32) -> usize
-    ensures { result ≡ length (numberBytes number) }
+    ensures { result ≡ length (number_bytes number) }
 {
     let count = digit_count(magnitude(number));
     if number < 0 {
@@ -51,8 +51,8 @@ pub fn put_digits(n: u64, text: &mut [u8]) -> usize
 
 // Writes a number at the start of `text`, and answers how many bytes it takes.
 pub fn put_number(number: i32, text: &mut [u8]) -> usize
-    requires { length (numberBytes number) ≤ length text.old }
-    ensures { Put (numberBytes number) text.old result text.new }
+    requires { length (number_bytes number) ≤ length text.old }
+    ensures { Put (number_bytes number) text.old result text.new }
 {
     let n = magnitude(number);
     if number < 0 {

@@ -1,24 +1,24 @@
 // Numbers of a text: the number without a sign that bytes are, up to a limit, and the word that a field's bytes are.
 ghost use Rattle.std.specs.Prelude.{◌≡◌};
-ghost use Rattle.text_numbers.specs.Number.{isDigit, decimal as decimalOf, naturalOf, positive as positiveOf, negative as negativeOf, number_of};
-ghost use Rattle.text_numbers.specs.Reader.{at_most, digitsValue, fieldNumber};
+ghost use Rattle.text_numbers.specs.Number.{is_digit, decimal as decimal_of, natural_of, positive as positive_of, negative as negative_of, number_of};
+ghost use Rattle.text_numbers.specs.Reader.{at_most, digits_value, field_number};
 
 // The value of digits, where they are well formed and it is within the limit.
-#[derive(Drop)]
+#[derive(Clone, Copy)]
 pub enum Digits {
     Value(u32),
     Malformed,
 }
 
 // The number that a field is, where it is well formed.
-#[derive(Drop)]
+#[derive(Clone, Copy)]
 pub enum Field {
     Number(i32),
     Malformed,
 }
 
 fn is_digit(byte: u8) -> bool
-    ensures { result ≡ isDigit byte }
+    ensures { result ≡ is_digit byte }
 {
     if byte < b'0' {
         return false;
@@ -34,7 +34,7 @@ fn wide(digit: u8) -> u64
 
 // The value of decimal digits. It stops above the limit, so that no value wraps.
 fn decimal(bytes: &[u8], limit: u32) -> Digits
-    ensures { digitsValue result ≡ at_most limit (decimalOf 0 bytes.now) }
+    ensures { digits_value result ≡ at_most limit (decimal_of 0 bytes.now) }
 {
     let mut value: u64 = 0;
     let mut i: usize = 0;
@@ -54,7 +54,7 @@ fn decimal(bytes: &[u8], limit: u32) -> Digits
 
 // At least one digit, and no leading zero.
 pub fn natural_of(bytes: &[u8], limit: u32) -> Digits
-    ensures { digitsValue result ≡ at_most limit (naturalOf bytes.now) }
+    ensures { digits_value result ≡ at_most limit (natural_of bytes.now) }
 {
     let length = bytes.len();
     if length == 0 {
@@ -70,7 +70,7 @@ pub fn natural_of(bytes: &[u8], limit: u32) -> Digits
 }
 
 fn positive(digits: Digits) -> Field
-    ensures { fieldNumber result ≡ positiveOf (digitsValue digits) }
+    ensures { field_number result ≡ positive_of (digits_value digits) }
 {
     let Digits::Value(value) = digits else {
         return Field::Malformed;
@@ -83,7 +83,7 @@ fn positive(digits: Digits) -> Field
 
 // A number after a minus sign, which is not 0.
 fn negative(digits: Digits) -> Field
-    ensures { fieldNumber result ≡ negativeOf (digitsValue digits) }
+    ensures { field_number result ≡ negative_of (digits_value digits) }
 {
     let Digits::Value(value) = digits else {
         return Field::Malformed;
@@ -99,7 +99,7 @@ fn negative(digits: Digits) -> Field
 
 // The number that a field is.
 pub fn number(field: &[u8]) -> Field
-    ensures { fieldNumber result ≡ number_of field.now }
+    ensures { field_number result ≡ number_of field.now }
 {
     if field.len() == 0 {
         return Field::Malformed;

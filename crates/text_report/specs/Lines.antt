@@ -1,8 +1,8 @@
 -- Lines: the lines that the trial program prints, "parted by single blanks", each with a newline at its end.
 use Rattle.std.specs.Prelude.{List, [], ◌∷◌, ◌++◌, map, ℕ, ◌+◌, ◌*◌, ℤ}
-use Rattle.words.specs.Answers.{endingName}
+use Rattle.words.specs.Answers.{ending_name}
 use Rattle.words.specs.declared.Ending.{Ending}
-use Rattle.text_numbers.specs.Number.{digits, numberBytes}
+use Rattle.text_numbers.specs.Number.{digits, number_bytes}
 use Rattle.text_lines.specs.Line.{newline}
 
 abbrev pub blank : ℕ
@@ -18,27 +18,27 @@ unfoldable pub line_of : List ℕ → List (List ℕ) → List ℕ
 line_of first others = first ++ (spaced others ++ (newline ∷ []))
 
 -- "source", "kernel" and "refused", as bytes.
-abbrev pub sourceName : List ℕ
-sourceName = 115 ∷ 111 ∷ 117 ∷ 114 ∷ 99 ∷ 101 ∷ []
+abbrev pub source_name : List ℕ
+source_name = 115 ∷ 111 ∷ 117 ∷ 114 ∷ 99 ∷ 101 ∷ []
 
-abbrev pub kernelName : List ℕ
-kernelName = 107 ∷ 101 ∷ 114 ∷ 110 ∷ 101 ∷ 108 ∷ []
+abbrev pub kernel_name : List ℕ
+kernel_name = 107 ∷ 101 ∷ 114 ∷ 110 ∷ 101 ∷ 108 ∷ []
 
-abbrev pub refusedName : List ℕ
-refusedName = 114 ∷ 101 ∷ 102 ∷ 117 ∷ 115 ∷ 101 ∷ 100 ∷ []
+abbrev pub refused_name : List ℕ
+refused_name = 114 ∷ 101 ∷ 102 ∷ 117 ∷ 115 ∷ 101 ∷ 100 ∷ []
 
 -- "A refusal prints one line, parted alike: refused, number, place."
-unfoldable pub refusedLine : ℕ → ℕ → List ℕ
-refusedLine number place = line_of refusedName (digits number ∷ digits place ∷ [])
+unfoldable pub refused_line : ℕ → ℕ → List ℕ
+refused_line number place = line_of refused_name (digits number ∷ digits place ∷ [])
 
 -- "Output: form, ending (ended, spent, overflow, zero, index), source count on the first line only, S words, parted by single blanks."
 -- Change 7: "The trial's first line gains a last field": how many variables the program can write.
-unfoldable pub sourceLine : Ending → ℕ → List ℤ → ℕ → List ℕ
-sourceLine ending count words written = line_of sourceName (endingName ending ∷ digits count ∷ (map numberBytes words ++ (digits written ∷ [])))
+unfoldable pub source_line : Ending → ℕ → List ℤ → ℕ → List ℕ
+source_line ending count words written = line_of source_name (ending_name ending ∷ digits count ∷ (map number_bytes words ++ (digits written ∷ [])))
 
-unfoldable pub kernelLine : Ending → List ℤ → List ℕ
-kernelLine ending words = line_of kernelName (endingName ending ∷ map numberBytes words)
+unfoldable pub kernel_line : Ending → List ℤ → List ℕ
+kernel_line ending words = line_of kernel_name (ending_name ending ∷ map number_bytes words)
 
 -- Bytes enough for a line with so many words: at most twelve for each with its blank, and forty-eight for what else it has.
-abbrev pub lineRoom : ℕ → ℕ
-lineRoom words = 12 * words + 48
+abbrev pub line_room : ℕ → ℕ
+line_room words = 12 * words + 48

@@ -1,7 +1,7 @@
 // The fields of a line, each with the blank before it. A writer puts its bytes at the start of `text`, and answers how many they are.
 ghost use Rattle.std.specs.Prelude.{◌∷◌, map, ◌*◌, ◌≤◌, length};
-ghost use Rattle.words.specs.Answers.{endingName};
-ghost use Rattle.text_numbers.specs.Number.{digits, numberBytes};
+ghost use Rattle.words.specs.Answers.{ending_name};
+ghost use Rattle.text_numbers.specs.Number.{digits, number_bytes};
 ghost use Rattle.text_numbers.specs.Writer.{Put};
 ghost use Rattle.text_report.specs.Lines.{blank, spaced};
 
@@ -34,7 +34,7 @@ pub fn put_count(number: u64, text: &mut [u8]) -> usize
 // A word: at most eleven bytes.
 pub fn put_word(word: i32, text: &mut [u8]) -> usize
     requires { 12 ≤ length text.old }
-    ensures { Put (blank ∷ numberBytes word) text.old result text.new }
+    ensures { Put (blank ∷ number_bytes word) text.old result text.new }
 {
     text[0] = b' ';
     put_number(word, &mut text[1..]) + 1
@@ -42,7 +42,7 @@ pub fn put_word(word: i32, text: &mut [u8]) -> usize
 
 pub fn put_words(words: &[i32], text: &mut [u8]) -> usize
     requires { 12 * length words.now ≤ length text.old }
-    ensures put { Put (spaced (map numberBytes words.now)) text.old result text.new }
+    ensures put { Put (spaced (map number_bytes words.now)) text.old result text.new }
     ensures upper_bound { result ≤ 12 * length words.now }
 {
     let mut at: usize = 0;
@@ -57,7 +57,7 @@ pub fn put_words(words: &[i32], text: &mut [u8]) -> usize
 // The name of an ending, without a blank before it.
 pub fn put_ending_name(ending: Ending, text: &mut [u8]) -> usize
     requires { 8 ≤ length text.old }
-    ensures { Put (endingName ending) text.old result text.new }
+    ensures { Put (ending_name ending) text.old result text.new }
 {
     let name = ending_name(ending);
     let bytes = name.bytes;
@@ -67,7 +67,7 @@ pub fn put_ending_name(ending: Ending, text: &mut [u8]) -> usize
 
 pub fn put_ending(ending: Ending, text: &mut [u8]) -> usize
     requires { 9 ≤ length text.old }
-    ensures { Put (blank ∷ endingName ending) text.old result text.new }
+    ensures { Put (blank ∷ ending_name ending) text.old result text.new }
 {
     text[0] = b' ';
     put_ending_name(ending, &mut text[1..]) + 1

@@ -9,136 +9,136 @@ use lib.Dec.{leb}
 use lib.IntN.{ℤ}
 use lib.ListN.{length, take}
 use borrow.Author.Tests.{leb-true, le-leb, lt-leb}
-use Rattle.words.specs.Layout.{headerFits, countFits, layout_of, storeSize}
-use Rattle.words.specs.Laws.{both, by_cases, headerFits-facts}
+use Rattle.words.specs.Layout.{header_fits, count_fits, layout_of, store_size}
+use Rattle.words.specs.Laws.{both, by_cases, header_fits-facts}
 use Rattle.words.specs.declared.Form.TheVariants.{Source}
 use Rattle.words.specs.declared.Refusal.{Refusal}
 use Rattle.words.specs.declared.Verdict.{Verdict}
 use Rattle.words.specs.declared.Verdict.TheVariants as verdicts
 use Rattle.check_source.specs.Refusal.{refusal}
-use Rattle.text_lines.specs.Line.{fields_of, numbersOf}
+use Rattle.text_lines.specs.Line.{fields_of, numbers_of}
 use Rattle.text_form.specs.Text.{malformed, parse}
 use Rattle.words.specs.Over.{over}
 use Rattle.words.specs.OverLaws.{written-part}
-use Rattle.text_form.specs.Answers.{finished, causeUnless, readResult, Reads}
+use Rattle.text_form.specs.Answers.{finished, cause_unless, read_result, Reads}
 use Rattle.text_form.specs.declared.ReadAnswer.TheVariants.{Read, Refused}
 use Rattle.text_numbers.specs.NumberLaws.{not_some}
-use Rattle.text_form.specs.AnswerLaws.{Passes, read-passing, refused-finished}
-use Rattle.text_lines.specs.Reader.{numbersIn}
+use Rattle.text_form.proofs.AnswerLaws.{Passes, read-passing, refused-finished}
+use Rattle.text_lines.specs.Reader.{numbers_in}
 use Rattle.text_form.specs.Reader.{HasLines}
-use Rattle.text_form.specs.ReaderLaws.{line-exactly, lent-line, scratch-part}
-use Rattle.text_rules.specs.Rules.{mostBytes, mostRows, mostWords, refused, accepted, checkedRule, trialCause, limitedRule, parsedRule, ruleOf, WithinLimits, IsAccepted, Holds}
+use Rattle.text_form.proofs.ReaderLaws.{line-exactly, lent-line, scratch-part}
+use Rattle.text_rules.specs.Rules.{most_bytes, most_rows, most_words, refused, accepted, checked_rule, trial_cause, limited_rule, parsed_rule, rule_of, WithinLimits, IsAccepted, Holds}
 
 -- ---- the length of a text
 
-pub long-rule : (text : List ℕ) → mostBytes < length text → ruleOf text ≡ refused 2 0
-unfolding ruleOf
-long-rule text h = rw (lt-leb (length text) mostBytes h)
+pub long-rule : (text : List ℕ) → most_bytes < length text → rule_of text ≡ refused 2 0
+unfolding rule_of
+long-rule text h = rw (lt-leb (length text) most_bytes h)
 
-pub short-rule : (text : List ℕ) → length text ≤ mostBytes → ruleOf text ≡ parsedRule (parse Source text)
-unfolding ruleOf
-short-rule text h = rw (le-leb (length text) mostBytes h)
+pub short-rule : (text : List ℕ) → length text ≤ most_bytes → rule_of text ≡ parsed_rule (parse Source text)
+unfolding rule_of
+short-rule text h = rw (le-leb (length text) most_bytes h)
 
-pub malformed-rule : (text : List ℕ) (line : ℕ) → parse Source text ≡ malformed line → parsedRule (parse Source text) ≡ refused 14 line
-unfolding parsedRule
+pub malformed-rule : (text : List ℕ) (line : ℕ) → parse Source text ≡ malformed line → parsed_rule (parse Source text) ≡ refused 14 line
+unfolding parsed_rule
 malformed-rule text line e = rw e
 
 -- ---- the causes 1 and 2
 
 -- neither turns a program away
-record Small (header : List ℤ) (rowWords : ℕ) : Type 0 where
-  passes : Passes Source header rowWords
-  few_words : storeSize (layout_of Source header) ≤ mostWords
-  few-rows : rowWords ≤ 6 * mostRows
+record Small (header : List ℤ) (row_words : ℕ) : Type 0 where
+  passes : Passes Source header row_words
+  few_words : store_size (layout_of Source header) ≤ most_words
+  few_rows : row_words ≤ 6 * most_rows
 
-no-cause-small : (header : List ℤ) (rowWords : ℕ) → trialCause header rowWords ≡ none → Small header rowWords
-unfolding trialCause causeUnless
-no-cause-small header rowWords e =
-    by_cases (headerFits Source header && leb (storeSize (layout_of Source header)) mostWords)
-    (λ h. by_cases (countFits Source rowWords && leb rowWords (6 * mostRows))
+no-cause-small : (header : List ℤ) (row_words : ℕ) → trial_cause header row_words ≡ none → Small header row_words
+unfolding trial_cause cause_unless
+no-cause-small header row_words e =
+    by_cases (header_fits Source header && leb (store_size (layout_of Source header)) most_words)
+    (λ h. by_cases (count_fits Source row_words && leb row_words (6 * most_rows))
     (λ c. let first = both _ _ h in let second = both _ _ c in record {
-      passes = record { header-fits = first.0; count_fits = second.0 };
+      passes = record { header-fits = first.0; count-fits = second.0 };
       few_words = leb-true _ _ first.1;
-      few-rows = leb-true _ _ second.1;
+      few_rows = leb-true _ _ second.1;
     })
     (λ c. not_some (sym (rw (h, c) at e))))
     (λ h. not_some (sym (rw h at e)))
 
 -- ---- a well-formed text, by its first line and the number of its row words
 
-module _ {text : List ℕ} {end numbers rowWords : ℕ} (l : HasLines 6 Source text end numbers rowWords) where
-  pub lines-cause : (table written : List ℤ) (said : Option ℕ) → written ≡ over (numbersIn (numbersOf (fields_of (take (end - 0) text)))) table
-      → said ≡ trialCause (take (numbers - 0) written) rowWords → trialCause l.program.header (length l.program.rows) ≡ said
+module _ {text : List ℕ} {end numbers row_words : ℕ} (l : HasLines 6 Source text end numbers row_words) where
+  pub lines-cause : (table written : List ℤ) (said : Option ℕ) → written ≡ over (numbers_in (numbers_of (fields_of (take (end - 0) text)))) table
+      → said ≡ trial_cause (take (numbers - 0) written) row_words → trial_cause l.program.header (length l.program.rows) ≡ said
   lines-cause table written said w e =
-      let part : take (numbers - 0) written ≡ l.program.header = scratch-part (line-exactly l) table written w ∙ ap numbersIn (lent-line l) in
-      rw (l.rows-size, ← part) (sym e)
+      let part : take (numbers - 0) written ≡ l.program.header = scratch-part (line-exactly l) table written w ∙ ap numbers_in (lent-line l) in
+      rw (l.rows_size, ← part) (sym e)
 
-  pub lines-refused : (number : ℕ) → trialCause l.program.header (length l.program.rows) ≡ some number → parsedRule (parse Source text) ≡ refused number 0
-  unfolding parsedRule limitedRule
+  pub lines-refused : (number : ℕ) → trial_cause l.program.header (length l.program.rows) ≡ some number → parsed_rule (parse Source text) ≡ refused number 0
+  unfolding parsed_rule limited_rule
   lines-refused number e = rw (l.parses, e)
 
-  pub lines-within : trialCause l.program.header (length l.program.rows) ≡ none → WithinLimits text
-  lines-within e = record { program = l.program; parses = l.parses; no-cause = e }
+  pub lines-within : trial_cause l.program.header (length l.program.rows) ≡ none → WithinLimits text
+  lines-within e = record { program = l.program; parses = l.parses; no_cause = e }
 
 -- ---- a text within the limits
 
 module _ {text : List ℕ} (w : WithinLimits text) where
-  within-rule : parsedRule (parse Source text) ≡ checkedRule (refusal w.program.header w.program.rows) w.program
-  unfolding parsedRule limitedRule
-  within-rule = rw (w.parses, w.no-cause)
+  within-rule : parsed_rule (parse Source text) ≡ checked_rule (refusal w.program.header w.program.rows) w.program
+  unfolding parsed_rule limited_rule
+  within-rule = rw (w.parses, w.no_cause)
 
   small : Small w.program.header (length w.program.rows)
-  small = no-cause-small w.program.header (length w.program.rows) w.no-cause
+  small = no-cause-small w.program.header (length w.program.rows) w.no_cause
 
   few-numbers : length w.program.header ≤ 35
-  few-numbers = let most = (headerFits-facts Source w.program.header small.passes.header-fits).most in omega arith
+  few-numbers = let most = (header_fits-facts Source w.program.header small.passes.header-fits).most in omega arith
 
   -- what the reader counts and leaves
-  pub record Tables (headerWords rowWords : ℕ) (headerLeft rowsLeft : List ℤ) : Type 0 where
-    pub header-inside : headerWords ≤ 35
-    pub rows_inside : rowWords ≤ 768
+  pub record Tables (headerWords row_words : ℕ) (headerLeft rows_left : List ℤ) : Type 0 where
+    pub header_inside : headerWords ≤ 35
+    pub rows_inside : row_words ≤ 768
     pub header_read : take (headerWords - 0) headerLeft ≡ w.program.header
-    pub rows-read : take (rowWords - 0) rowsLeft ≡ w.program.rows
+    pub rows_read : take (row_words - 0) rows_left ≡ w.program.rows
 
-  module _ (header rows headerLeft rowsLeft : List ℤ) (h : length header ≡ 35) (r : length rows ≡ 768) where
-    reads : readResult Source text header rows
+  module _ (header rows headerLeft rows_left : List ℤ) (h : length header ≡ 35) (r : length rows ≡ 768) where
+    reads : read_result Source text header rows
         ≡ record { outcome = finished (length w.program.header ∷ length w.program.rows ∷ []); header = over w.program.header header; rows = over w.program.rows rows }
-    reads = read-passing Source text w.program w.parses small.passes header rows (omega (arith, few-numbers)) (omega (arith, small.few-rows))
+    reads = read-passing Source text w.program w.parses small.passes header rows (omega (arith, few-numbers)) (omega (arith, small.few_rows))
 
-    pub within-read : (headerWords rowWords : ℕ) → Reads (readResult Source text header rows) (Read headerWords rowWords) headerLeft rowsLeft → Tables headerWords rowWords headerLeft rowsLeft
-    within-read headerWords rowWords d =
-        let counts : finished (headerWords ∷ rowWords ∷ []) ≡ finished (length w.program.header ∷ length w.program.rows ∷ []) = rw reads at d.outcome in
+    pub within-read : (headerWords row_words : ℕ) → Reads (read_result Source text header rows) (Read headerWords row_words) headerLeft rows_left → Tables headerWords row_words headerLeft rows_left
+    within-read headerWords row_words d =
+        let counts : finished (headerWords ∷ row_words ∷ []) ≡ finished (length w.program.header ∷ length w.program.rows ∷ []) = rw reads at d.outcome in
         let first : headerWords ≡ length w.program.header = cc in
-        let second : rowWords ≡ length w.program.rows = cc in
+        let second : row_words ≡ length w.program.rows = cc in
         record {
-          header-inside = omega (arith, few-numbers);
-          rows_inside = omega (arith, small.few-rows);
-          header_read = written-part w.program.header header headerLeft headerWords first (rw reads at d.header-left);
-          rows-read = written-part w.program.rows rows rowsLeft rowWords second (rw reads at d.rows_left);
+          header_inside = omega (arith, few-numbers);
+          rows_inside = omega (arith, small.few_rows);
+          header_read = written-part w.program.header header headerLeft headerWords first (rw reads at d.header_left);
+          rows_read = written-part w.program.rows rows rows_left row_words second (rw reads at d.rows-left);
         }
 
-    pub within-accepted : {G : Type 0} (refusal : Refusal) → Reads (readResult Source text header rows) (Refused refusal) headerLeft rowsLeft → G
+    pub within-accepted : {G : Type 0} (refusal : Refusal) → Reads (read_result Source text header rows) (Refused refusal) headerLeft rows_left → G
     within-accepted refusal d = refused-finished (rw reads at d.outcome)
 
   -- what the check says of the tables
-  module _ {headerWords rowWords : ℕ} {headerLeft rowsLeft : List ℤ} (t : Tables headerWords rowWords headerLeft rowsLeft) where
-    verdict-is : (verdict : Verdict) → verdict ≡ refusal (take (headerWords - 0) headerLeft) (take (rowWords - 0) rowsLeft) → refusal w.program.header w.program.rows ≡ verdict
-    verdict-is verdict e = rw (← t.header_read, ← t.rows-read) (sym e)
+  module _ {headerWords row_words : ℕ} {headerLeft rows_left : List ℤ} (t : Tables headerWords row_words headerLeft rows_left) where
+    verdict-is : (verdict : Verdict) → verdict ≡ refusal (take (headerWords - 0) headerLeft) (take (row_words - 0) rows_left) → refusal w.program.header w.program.rows ≡ verdict
+    verdict-is verdict e = rw (← t.header_read, ← t.rows_read) (sym e)
 
-    pub table-refused : (cause : Refusal) → verdicts.Refused cause ≡ refusal (take (headerWords - 0) headerLeft) (take (rowWords - 0) rowsLeft) → parsedRule (parse Source text) ≡ refused cause.number cause.place
-    unfolding checkedRule
+    pub table-refused : (cause : Refusal) → verdicts.Refused cause ≡ refusal (take (headerWords - 0) headerLeft) (take (row_words - 0) rows_left) → parsed_rule (parse Source text) ≡ refused cause.number cause.place
+    unfolding checked_rule
     table-refused cause e = within-rule ∙ rw (verdict-is (verdicts.Refused cause) e)
 
-    pub table-accepted : verdicts.Accepted ≡ refusal (take (headerWords - 0) headerLeft) (take (rowWords - 0) rowsLeft) → Holds (parsedRule (parse Source text)) headerWords rowWords headerLeft rowsLeft
-    unfolding checkedRule
+    pub table-accepted : verdicts.Accepted ≡ refusal (take (headerWords - 0) headerLeft) (take (row_words - 0) rows_left) → Holds (parsed_rule (parse Source text)) headerWords row_words headerLeft rows_left
+    unfolding checked_rule
     table-accepted e =
         let checked = verdict-is verdicts.Accepted e in
         record {
           program = w.program;
           is = within-rule ∙ rw checked;
-          allowed = record { header-fits = small.passes.header-fits; few_words = small.few_words; few-rows = small.few-rows; checked = checked };
-          header-inside = t.header-inside;
+          allowed = record { header-fits = small.passes.header-fits; few_words = small.few_words; few_rows = small.few_rows; checked = checked };
+          header_inside = t.header_inside;
           rows_inside = t.rows_inside;
           header_read = t.header_read;
-          rows-read = t.rows-read;
+          rows_read = t.rows_read;
         }

@@ -1,7 +1,7 @@
 // The causes 1 and 2, with the trial program's limits: 1,024 words of store, 128 rows.
 ghost use Rattle.std.specs.Prelude.{◌≡◌};
-ghost use Rattle.text_form.specs.Reader.{causeSays};
-ghost use Rattle.text_rules.specs.Rules.{trialCause};
+ghost use Rattle.text_form.specs.Reader.{cause_says};
+ghost use Rattle.text_rules.specs.Rules.{trial_cause};
 
 use text_form::limits::Cause;
 use words::Form;
@@ -9,7 +9,7 @@ use words::layout::{count_fits, header_fits, store_size};
 
 // All grounds for 1, then all grounds for 2.
 pub fn trial_cause(header: &[i32], row_words: usize) -> Cause
-    ensures { causeSays result ≡ trialCause header.now row_words }
+    ensures { cause_says result ≡ trial_cause header.now row_words }
 {
     if !header_fits(Form::Source, header) {
         return Cause::Number(1);

@@ -3,7 +3,7 @@ ghost use Rattle.std.specs.Prelude.{length, ◌≡◌};
 ghost use Rattle.words.specs.declared.Form.TheVariants.{Source};
 ghost use Rattle.text_form.specs.Text.{parse};
 ghost use Rattle.text_form.specs.Reader.{HasLines};
-ghost use Rattle.text_rules.specs.Rules.{parsedRule, ruleOf, WithinLimits, RuleRead};
+ghost use Rattle.text_rules.specs.Rules.{parsed_rule, rule_of, WithinLimits, RuleRead};
 
 use super::RuleAnswer;
 use super::limits::trial_cause;
@@ -19,7 +19,7 @@ fn program_rule(text: &[u8], header: &mut [i32], rows: &mut [i32]) -> RuleAnswer
     requires within_limits { WithinLimits text.now }
     requires header_len { length header.old ≡ 35 }
     requires rows_len { length rows.old ≡ 768 }
-    ensures { RuleRead (parsedRule (parse Source text.now)) result header.new rows.new }
+    ensures { RuleRead (parsed_rule (parse Source text.now)) result header.new rows.new }
 {
     let answer = text_form::read(Form::Source, text, header, rows);
     match answer {
@@ -46,7 +46,7 @@ fn lines_rule(
     requires has_lines { HasLines 6 Source text.now end numbers row_words }
     requires header_len { length header.old ≡ 35 }
     requires rows_len { length rows.old ≡ 768 }
-    ensures { RuleRead (parsedRule (parse Source text.now)) result header.new rows.new }
+    ensures { RuleRead (parsed_rule (parse Source text.now)) result header.new rows.new }
 {
     let mut first = [0i32; 35];
     store_numbers(&text[0..end], &mut first);
@@ -64,7 +64,7 @@ fn lines_rule(
 pub fn read_rule(text: &[u8], header: &mut [i32], rows: &mut [i32]) -> RuleAnswer
     requires header_len { length header.old ≡ 35 }
     requires rows_len { length rows.old ≡ 768 }
-    ensures { RuleRead (ruleOf text.now) result header.new rows.new }
+    ensures { RuleRead (rule_of text.now) result header.new rows.new }
 {
     if text.len() > 16384 {
         return RuleAnswer::Refused(Refusal {

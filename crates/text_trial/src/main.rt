@@ -5,6 +5,8 @@
 //
 // For a text that is refused it prints the number and the place. For one that is read: how many header words and row words it has,
 // whether writing them gave the same bytes, and the numbers that a text buffer, a header table and a row table too short by one give.
+#![tactic(auto)]
+
 mod source; // source.rt: the input's lines, and the texts that they stand for
 
 ghost use Rattle.std.specs.Prelude.{◌≤◌};

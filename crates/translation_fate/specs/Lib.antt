@@ -14,7 +14,3 @@ pub mod KernelForms
 pub mod DeclaredWords
 -- Parameter words: the parameters of a source program's functions have words of their own.
 pub mod ParameterWords
--- The theorem: every accepted program has such a kernel form.
-pub mod KernelFormLaws
--- A legal kernel program that shows a temporary: the view hides them in translations, not in every kernel program.
-pub mod ShownTemporary

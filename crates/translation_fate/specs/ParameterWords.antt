@@ -2,30 +2,30 @@
 -- have words of their own among those of the declarations.
 use Rattle.std.specs.Prelude.{◌≡◌, true, List, ℕ, ◌<◌, ℤ}
 use Rattle.std.proofs.Common.{sym, ◌∙◌, arith}
-use Rattle.words.specs.Table.{rowCount, number_at}
-use Rattle.words.specs.Declarations.{isDeclaration, declarationCount}
+use Rattle.words.specs.Table.{row_count, number_at}
+use Rattle.words.specs.Declarations.{is_declaration, declaration_count}
 use Rattle.language.specs.Program.{contents}
 use Rattle.check_structure.specs.Structured.{Tree}
 use Rattle.check_structure.specs.Lists.{Before, before-later}
 use Rattle.names.specs.Names.{resolved}
-use Rattle.names.specs.ScopeLaws.{word-later}
-use Rattle.names.specs.ResolvedLaws.{resolved-count, resolved-declaration}
-use Rattle.names.specs.ResolvedNames.{declaration-resolved, declaration-word}
+use Rattle.names.proofs.ScopeLaws.{word-later}
+use Rattle.names.proofs.ResolvedLaws.{resolved-count, resolved-declaration}
+use Rattle.names.proofs.ResolvedNames.{declaration-resolved, declaration-word}
 use Rattle.check_parameter_causes.specs.Demands.{Parameter}
 use Rattle.accepted_calls.specs.Tables.{FunctionTable}
-use Rattle.accepted_calls.specs.Counts.{parameter-inside}
-use Rattle.translation_legal.specs.Parameters.{OwnParameters}
-use Rattle.translation_legal.specs.ParameterLists.{own-lists}
+use Rattle.accepted_calls.proofs.Counts.{parameter-inside}
+use Rattle.translation_legal.proofs.Parameters.{OwnParameters}
+use Rattle.translation_legal.proofs.ParameterLists.{own-lists}
 
 module _ (S : ℕ) (rows : List ℤ) (t : Tree rows) (functions : FunctionTable (resolved S rows)) where
   abbrev table : List ℤ
   table = resolved S rows
 
   -- A parameter is a declaration of the program.
-  declared : {definition row : ℕ} → Parameter table definition row → isDeclaration rows row ≡ true
+  declared : {definition row : ℕ} → Parameter table definition row → is_declaration rows row ≡ true
   declared {definition} {row} own = sym (resolved-declaration S rows row) ∙ functions.links.parameter definition row own
 
-  inside : {definition row : ℕ} → Parameter table definition row → row < rowCount rows
+  inside : {definition row : ℕ} → Parameter table definition row → row < row_count rows
   inside {definition} own = rw (resolved-count S rows) at (parameter-inside table functions definition own)
 
   -- "Each declaration has its own store word".
@@ -36,8 +36,8 @@ module _ (S : ℕ) (rows : List ℤ) (t : Tree rows) (functions : FunctionTable 
       let less = word-later rows S earlier row (declared before) (before-later b) in
       omega arith
 
-  pub own-parameters : OwnParameters S (declarationCount rows) (contents table)
+  pub own-parameters : OwnParameters S (declaration_count rows) (contents table)
   own-parameters =
-      own-lists S (declarationCount rows) table functions
+      own-lists S (declaration_count rows) table functions
       (λ definition row own. let word = declaration-word S rows t row (inside own) (declared own) in record { least = word.least; most = word.most })
       words-differ

@@ -1,1 +1,2 @@
 // Demand 3 about rows and words: definitions and theorems, in specs/.
+#![tactic(auto)]

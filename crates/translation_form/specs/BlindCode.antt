@@ -4,16 +4,16 @@ use Rattle.std.specs.Prelude.{◌≡◌, Bool, true, false, List, [], ◌∷◌,
 use Rattle.std.proofs.Math.Path.{refl, ap, fun_ext}
 use Rattle.std.proofs.Common.{◌∙◌, arith}
 use Rattle.words.specs.Word.{pick}
-use Rattle.words.specs.Layout.{arrayBase, arrayLength}
-use Rattle.arithmetic.specs.Arithmetic.{Outcome, value as given, fault as faulty, isTrue, apply, minus as minusWord, element as elementWord}
-use Rattle.arithmetic.specs.Laws.{element-inside}
+use Rattle.words.specs.Layout.{array_base, array_length}
+use Rattle.arithmetic.specs.Arithmetic.{Outcome, value as given, fault as faulty, is_true, apply, minus as minus_word, element as element_word}
+use Rattle.arithmetic.proofs.Laws.{element-inside}
 use Rattle.words.specs.declared.Operator.{Operator}
 use Rattle.words.specs.declared.FaultSort.TheVariants.{Guard}
 use Rattle.computation.specs.Computation.{again, leave, Computation, ret, ◌>>◌, step, load, settle}
-use Rattle.computation.specs.Agreement.{Words, ◌within◌, Blind, blind-weaker, blind-ret, blind-then, blind-step, blind-load, blind-save, blind-fail, blind-loop, blind-again, blind-settle, afterRound, then-then}
+use Rattle.computation.proofs.Agreement.{Words, ◌within◌, Blind, blind-weaker, blind-ret, blind-then, blind-step, blind-load, blind-save, blind-fail, blind-loop, blind-again, blind-settle, after_round, then-then}
 use Rattle.computation.specs.Run.{State, Limit, and_then, run}
-use Rattle.language.specs.Trees.{Expression, constant, read, minus, binary, assign, call, variable, element, Arguments, no_more, ◌also◌, present, Mark, sameMark, Statement, empty, express, block, ifElse, while, goto, abort, giveBack, Items, none, ◌then◌, ◌here◌, define, ◌⧺◌}
-use Rattle.language.specs.Meaning.{Context, Signal, next, breaking, continuing, seeking, returning, entersStatement, entersMark, enter, evaluate, given as argumentValues, afterBody, perform, items}
+use Rattle.language.specs.Trees.{Expression, constant, read, minus, binary, assign, call, variable, element, Arguments, no_more, ◌also◌, present, Mark, same_mark, Statement, empty, express, block, if_else, while, goto, abort, give_back, Items, none, ◌then◌, ◌here◌, define, ◌⧺◌}
+use Rattle.language.specs.Meaning.{Context, Signal, next, breaking, continuing, seeking, returning, enters_statement, enters_mark, enter, evaluate, given as argument_values, after_body, perform, items}
 
 -- The words P, and the word n.
 pub data And (P : Words) (n i : ℕ) : Type 0 where
@@ -29,7 +29,7 @@ and-more n h i (new e) = new e
 pub record Ground : Type 1 where
   pub context : Context
   pub known : Words
-  pub calls-blind : (f : ℕ) (values : List ℤ) (P : Words) → known within P → Blind known P (λ _. P) (context.calling f values)
+  pub calls_blind : (f : ℕ) (values : List ℤ) (P : Words) → known within P → Blind known P (λ _. P) (context.calling f values)
 
 module _ (G : Ground) where
   abbrev pub Seen : Words
@@ -40,7 +40,7 @@ module _ (G : Ground) where
 
   -- The words of an array are known all along.
   abbrev pub ArrayKnown : ℕ → Type 0
-  ArrayKnown array = (i : ℕ) → i < arrayBase C.layout array + arrayLength C.layout array → Seen i
+  ArrayKnown array = (i : ℕ) → i < array_base C.layout array + array_length C.layout array → Seen i
 
   mutual
     -- An expression that reads words of P and elements of arrays.
@@ -96,15 +96,15 @@ module _ (G : Ground) where
       reads-blind reads-constant = blind-ret Seen _ (λ i k. k)
       reads-blind (reads_word {i} b) = blind-settle Seen (given i) load sees (λ j e. let same : i ≡ j = cc in blind-load Seen j (rw (← same) b))
       reads-blind (reads-element {array} {e} b r) =
-          blind-again Seen (enter (evaluate C e)) (λ index. settle (elementWord (arrayBase C.layout array) (arrayLength C.layout array) index)) load
-          (blind-then Seen (enter-blind (reads-blind r)) (λ index. blind-settle Seen (elementWord (arrayBase C.layout array) (arrayLength C.layout array) index) load sees
+          blind-again Seen (enter (evaluate C e)) (λ index. settle (element_word (array_base C.layout array) (array_length C.layout array) index)) load
+          (blind-then Seen (enter-blind (reads-blind r)) (λ index. blind-settle Seen (element_word (array_base C.layout array) (array_length C.layout array) index) load sees
           (λ position f. blind-load Seen position (sees position (b position (omega (arith, (element-inside _ _ index position f).most)))))))
-      reads-blind (reads-minus r) = blind-then Seen (enter-blind (reads-blind r)) (λ v. settled (minusWord v))
+      reads-blind (reads-minus r) = blind-then Seen (enter-blind (reads-blind r)) (λ v. settled (minus_word v))
       reads-blind (reads-binary {operator} r q) =
           blind-then Seen (enter-blind (reads-blind q)) (λ right. blind-then Seen (enter-blind (reads-blind r)) (λ left. settled (apply operator left right)))
-      reads-blind (reads-call {f} r) = blind-then Seen (all-blind r) (λ values. G.calls-blind f values P sees)
+      reads-blind (reads-call {f} r) = blind-then Seen (all-blind r) (λ values. G.calls_blind f values P sees)
 
-      all-blind : {arguments : Arguments} → ReadsAll P arguments → Blind Seen P (λ _. P) (argumentValues C arguments)
+      all-blind : {arguments : Arguments} → ReadsAll P arguments → Blind Seen P (λ _. P) (argument_values C arguments)
       all-blind reads_none = blind-ret Seen [] (λ i k. k)
       all-blind (reads-also r q) = blind-then Seen (all-blind q) (λ behind. blind-then Seen (enter-blind (enter-blind (reads-blind r))) (λ v. blind-ret Seen (v ∷ behind) (λ i k. k)))
 
@@ -121,12 +121,12 @@ module _ (G : Ground) where
     unfolding perform evaluate
     element-blind array r q =
         blind-then Seen (enter-blind (blind-then Seen (enter-blind (reads-blind q)) (λ v.
-        blind-then Seen (enter-blind (blind-then Seen (enter-blind (reads-blind r)) (λ w. settled (elementWord (arrayBase C.layout array) (arrayLength C.layout array) w))))
+        blind-then Seen (enter-blind (blind-then Seen (enter-blind (reads-blind r)) (λ w. settled (element_word (array_base C.layout array) (array_length C.layout array) w))))
         (λ position. blind-then Seen (blind-save Seen position v (λ j k d. k)) (λ _. blind-ret Seen v (λ j k. k))))))
         (λ _. blind-ret Seen next (λ j k. k))
 
     -- a jump under way passes a statement, and a mark that it does not seek
-    passing : (Q : Words) {m : Computation Signal} (signal : Signal) → Blind Seen P (after Q) m → Blind Seen (after P signal) (after Q) (pick (entersStatement signal) (enter m) (ret signal))
+    passing : (Q : Words) {m : Computation Signal} (signal : Signal) → Blind Seen P (after Q) m → Blind Seen (after P signal) (after Q) (pick (enters_statement signal) (enter m) (ret signal))
     passing Q next b = enter-blind b
     passing Q breaking b = blind-ret Seen breaking (λ i k. k)
     passing Q continuing b = blind-ret Seen continuing (λ i k. k)
@@ -137,11 +137,11 @@ module _ (G : Ground) where
   chosen-blind true b c = b
   chosen-blind false b c = c
 
-  at_mark : (P : Words) → Seen within P → (signal : Signal) (m : Mark) → Blind Seen (after P signal) (after Seen) (pick (entersMark signal m) (enter (ret next)) (ret signal))
+  at_mark : (P : Words) → Seen within P → (signal : Signal) (m : Mark) → Blind Seen (after P signal) (after Seen) (pick (enters_mark signal m) (enter (ret next)) (ret signal))
   at_mark P sees next m = enter-blind sees (blind-ret Seen next sees)
   at_mark P sees breaking m = blind-ret Seen breaking (λ i k. k)
   at_mark P sees continuing m = blind-ret Seen continuing (λ i k. k)
-  at_mark P sees (seeking n) m = chosen-blind (sameMark n m) (enter-blind (λ i k. k) (blind-ret Seen next (λ i k. k))) (blind-ret Seen (seeking n) (λ i k. k))
+  at_mark P sees (seeking n) m = chosen-blind (same_mark n m) (enter-blind (λ i k. k) (blind-ret Seen next (λ i k. k))) (blind-ret Seen (seeking n) (λ i k. k))
   at_mark P sees (returning v) m = blind-ret Seen (returning v) (λ i k. k)
 
   after_more : {P Q : Words} → P within Q → (signal : Signal) → after P signal within after Q signal
@@ -184,10 +184,10 @@ module _ (G : Ground) where
   unfolding perform
   items-block {Q = Q} sees b c = items-then Q sees (b.blind next) c
 
-  pub items-if : {P Q R : Words} {e : Expression} {onTrue onFalse rest : Items} → Seen within P → Reads P e → BlindItems P Q onTrue → BlindItems P Q onFalse → BlindItems Q R rest
-      → BlindItems P R (ifElse e (block onTrue) (block onFalse) then rest)
+  pub items-if : {P Q R : Words} {e : Expression} {on_true on_false rest : Items} → Seen within P → Reads P e → BlindItems P Q on_true → BlindItems P Q on_false → BlindItems Q R rest
+      → BlindItems P R (if_else e (block on_true) (block on_false) then rest)
   unfolding perform
-  items-if {Q = Q} sees r a b c = items-then Q sees (blind-then Seen (enter-blind sees (reads-blind sees r)) (λ v. chosen-blind (isTrue v) (enter-blind sees (a.blind next)) (enter-blind sees (b.blind next)))) c
+  items-if {Q = Q} sees r a b c = items-then Q sees (blind-then Seen (enter-blind sees (reads-blind sees r)) (λ v. chosen-blind (is_true v) (enter-blind sees (a.blind next)) (enter-blind sees (b.blind next)))) c
 
   -- The next item does not follow a jump, so anything may be said to be known.
   pub items-goto : {P R : Words} (Q : Words) {l : ℕ} {is : Items} → Seen within P → BlindItems Q R is → BlindItems P R (goto l then is)
@@ -198,11 +198,11 @@ module _ (G : Ground) where
   unfolding perform
   items-abort Q sees b = items-then Q sees (blind-fail Seen Guard sees) b
 
-  pub items-return : {P R : Words} (Q : Words) {e : Expression} {is : Items} → Seen within P → Reads P e → BlindItems Q R is → BlindItems P R (giveBack (present e) then is)
+  pub items-return : {P R : Words} (Q : Words) {e : Expression} {is : Items} → Seen within P → Reads P e → BlindItems Q R is → BlindItems P R (give_back (present e) then is)
   unfolding perform
   items-return Q sees r b = items-then Q sees (blind-then Seen (enter-blind sees (reads-blind sees r)) (λ v. blind-ret Seen (returning v) sees)) b
 
-  after-body : (signal : Signal) → Blind Seen (after Seen signal) (afterRound Seen Seen (after Seen)) (afterBody (ret (pos 0) >> ret again) signal)
+  after-body : (signal : Signal) → Blind Seen (after Seen signal) (after_round Seen Seen (after Seen)) (after_body (ret (pos 0) >> ret again) signal)
   after-body next = blind-then Seen (blind-ret Seen (pos 0) (λ i k. k)) (λ _. blind-ret Seen again (λ i k. k))
   after-body breaking = blind-ret Seen (leave next) (λ i k. k)
   after-body continuing = blind-then Seen (blind-ret Seen (pos 0) (λ i k. k)) (λ _. blind-ret Seen again (λ i k. k))
@@ -213,7 +213,7 @@ module _ (G : Ground) where
   pub items-while : {P R : Words} {e : Expression} {body rest : Items} → Seen within P → Reads Seen e → BlindItems Seen Seen body → BlindItems Seen R rest → BlindItems P R (while e (block body) then rest)
   unfolding perform
   items-while sees r b c = items-then Seen sees (blind-weaker Seen sees (λ _ i k. k) (blind-loop Seen (λ i k. k) (blind-then Seen (reads-blind (λ i k. k) r)
-      (λ v. chosen-blind (isTrue v) (blind-then Seen (enter-blind (λ i k. k) (b.blind next)) after-body) (blind-ret Seen (leave next) (λ i k. k)))))) c
+      (λ v. chosen-blind (is_true v) (blind-then Seen (enter-blind (λ i k. k) (b.blind next)) after-body) (blind-ret Seen (leave next) (λ i k. k)))))) c
 
   -- ---- two lists in a row
 
@@ -221,11 +221,11 @@ module _ (G : Ground) where
   unfolding run items ◌⧺◌
   run-append l none ys s σ = refl
   run-append l (x then xs) ys s σ =
-      ap (λ h. and_then (run l (pick (entersStatement s) (enter (perform C x)) (ret s)) σ) h) (fun_ext λ u. fun_ext λ τ. run-append l xs ys u τ)
-      ∙ then-then (run l (pick (entersStatement s) (enter (perform C x)) (ret s)) σ) _ _
+      ap (λ h. and_then (run l (pick (enters_statement s) (enter (perform C x)) (ret s)) σ) h) (fun_ext λ u. fun_ext λ τ. run-append l xs ys u τ)
+      ∙ then-then (run l (pick (enters_statement s) (enter (perform C x)) (ret s)) σ) _ _
   run-append l (m here xs) ys s σ =
-      ap (λ h. and_then (run l (pick (entersMark s m) (enter (ret next)) (ret s)) σ) h) (fun_ext λ u. fun_ext λ τ. run-append l xs ys u τ)
-      ∙ then-then (run l (pick (entersMark s m) (enter (ret next)) (ret s)) σ) _ _
+      ap (λ h. and_then (run l (pick (enters_mark s m) (enter (ret next)) (ret s)) σ) h) (fun_ext λ u. fun_ext λ τ. run-append l xs ys u τ)
+      ∙ then-then (run l (pick (enters_mark s m) (enter (ret next)) (ret s)) σ) _ _
   run-append l (define f words body xs) ys s σ = run-append l xs ys s σ
 
   pub items-append : {P Q R : Words} (xs ys : Items) → BlindItems P Q xs → BlindItems Q R ys → BlindItems P R (xs ⧺ ys)

@@ -12,15 +12,9 @@ pub mod TranslateNames
 pub mod MoreNames
 -- At most twice the depth, plus 1.
 pub mod TranslateDepth
--- Every translation is a kernel program's tree.
-pub mod TranslateKernel
 -- No program gets more rows or temporaries by it.
 pub mod Savings
 -- Blind code: kernel code that reads no temporary before it has written it.
 pub mod BlindCode
 -- The code of every source tree is such code.
 pub mod TranslateBlind
--- Two runs of a translation that start alike but for the temporaries show the same.
-pub mod TemporariesHidden
--- The calls of a translation are in order.
-pub mod TranslateCalls

@@ -1,6 +1,6 @@
 -- More names: a tree whose names have a property has them with every weaker one. By induction on the tree.
 use Rattle.std.specs.Prelude.{List, [], ◌∷◌, ℕ}
-use Rattle.language.specs.Trees.{Expression, constant, read, minus, not, binary, and, or, comma, conditional, assign, compound, prefix, postfix, call, Place, variable, element, Arguments, no_more, ◌also◌, Part, absent, present, Statement, empty, express, block, ifThen, ifElse, while, doWhile, for, switch, break, continue, goto, guardedIf, guardedDo, abort, declare, giveBack, Arms, no_arm, arm, Items, none, ◌then◌, ◌here◌, define}
+use Rattle.language.specs.Trees.{Expression, constant, read, minus, not, binary, and, or, comma, conditional, assign, compound, prefix, postfix, call, Place, variable, element, Arguments, no_more, ◌also◌, Part, absent, present, Statement, empty, express, block, if_then, if_else, while, do_while, for, switch, break, continue, goto, guarded_if, guarded_do, abort, declare, give_back, Arms, no_arm, arm, Items, none, ◌then◌, ◌here◌, define}
 use Rattle.language.specs.WellFormed.{NamedExpression, NamedPlace, NamedArguments, NamedWords, NamedPart, NamedStatement, NamedArms, NamedItems}
 
 module _ (Names More : ℕ → Type 0) (arrays : ℕ) (more : (i : ℕ) → Names i → More i) where
@@ -46,20 +46,20 @@ module _ (Names More : ℕ → Type 0) (arrays : ℕ) (more : (i : ℕ) → Name
     more-statement empty h = tt
     more-statement (express e) h = more-expression e h
     more-statement (block is) h = more-names is h
-    more-statement (ifThen e onTrue) h = (more-expression e h.0, more-statement onTrue h.1)
-    more-statement (ifElse e onTrue onFalse) h = (more-expression e h.0, more-statement onTrue h.1, more-statement onFalse h.2)
+    more-statement (if_then e on_true) h = (more-expression e h.0, more-statement on_true h.1)
+    more-statement (if_else e on_true on_false) h = (more-expression e h.0, more-statement on_true h.1, more-statement on_false h.2)
     more-statement (while e body) h = (more-expression e h.0, more-statement body h.1)
-    more-statement (doWhile body e) h = (more-statement body h.0, more-expression e h.1)
+    more-statement (do_while body e) h = (more-statement body h.0, more-expression e h.1)
     more-statement (for first test action body) h = (more-part first h.0, more-part test h.1, more-part action h.2, more-statement body h.3)
     more-statement (switch e is) h = (more-expression e h.0, more-names is h.1)
     more-statement break h = tt
     more-statement continue h = tt
     more-statement (goto l) h = tt
-    more-statement (guardedIf arms) h = more-arms arms h
-    more-statement (guardedDo arms) h = more-arms arms h
+    more-statement (guarded_if arms) h = more-arms arms h
+    more-statement (guarded_do arms) h = more-arms arms h
     more-statement abort h = tt
     more-statement (declare i e) h = (more i h.0, more-expression e h.1)
-    more-statement (giveBack value) h = more-part value h
+    more-statement (give_back value) h = more-part value h
 
     more-arms : (arms : Arms) → NamedArms Names arrays arms → NamedArms More arrays arms
     more-arms no_arm h = tt

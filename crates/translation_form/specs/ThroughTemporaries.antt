@@ -1,162 +1,162 @@
 -- The sizes and levels of a translation in which every result goes through a temporary, and e++ always keeps its old value: a clause a kind.
 use Rattle.std.specs.Prelude.{Bool, ℕ, ◌+◌, ◌*◌, max, length}
-use Rattle.language.specs.Trees.{Expression, constant, read, minus, not, binary, and, or, comma, conditional, assign, compound, prefix, postfix, call, Place, variable, element, Arguments, no_more, ◌also◌, Part, absent, present, Statement, empty, express, block, ifThen, ifElse, while, doWhile, for, switch, break, continue, goto, guardedIf, guardedDo, abort, declare, giveBack, Arms, no_arm, arm, Items, none, ◌then◌, ◌here◌, define}
-use Rattle.language.specs.Writes.{writes, indexWrites}
-use Rattle.language.specs.Calls.{argumentCount}
+use Rattle.language.specs.Trees.{Expression, constant, read, minus, not, binary, and, or, comma, conditional, assign, compound, prefix, postfix, call, Place, variable, element, Arguments, no_more, ◌also◌, Part, absent, present, Statement, empty, express, block, if_then, if_else, while, do_while, for, switch, break, continue, goto, guarded_if, guarded_do, abort, declare, give_back, Arms, no_arm, arm, Items, none, ◌then◌, ◌here◌, define}
+use Rattle.language.specs.Writes.{writes, index_writes}
+use Rattle.language.specs.Calls.{argument_count}
 use Rattle.translation.specs.Translate.{Atom, number, word, top, held, together, nothing, taken}
-use Rattle.translation.specs.TranslateSize.{indexRows, copyRows, holdRows, cases, roundsRows}
+use Rattle.translation.specs.TranslateSize.{index_rows, copy_rows, hold_rows, cases, rounds_rows}
 
-abbrev pub throughPart : (Expression → ℕ) → Part → ℕ
-throughPart of absent = 0
-throughPart of (present e) = of e
+abbrev pub through_part : (Expression → ℕ) → Part → ℕ
+through_part of absent = 0
+through_part of (present e) = of e
 
 -- `called f i`: whether function f can write the variable i.
 module _ (called : ℕ → ℕ → Bool) where
-  unfoldable pub throughAtom : Expression → Atom
-  throughAtom (constant v) = number v
-  throughAtom (read (variable i)) = word i
-  throughAtom (read (element array e)) = top
-  throughAtom (minus e) = top
-  throughAtom (not e) = top
-  throughAtom (binary operator a b) = top
-  throughAtom (and a b) = top
-  throughAtom (or a b) = top
-  throughAtom (comma a b) = throughAtom b
-  throughAtom (conditional c a b) = top
-  throughAtom (assign p e) = held (throughAtom e) (indexWrites called p)
-  throughAtom (compound operator p e) = top
-  throughAtom (prefix operator p) = top
-  throughAtom (postfix operator p) = top
-  throughAtom (call f arguments) = top
+  unfoldable pub through_atom : Expression → Atom
+  through_atom (constant v) = number v
+  through_atom (read (variable i)) = word i
+  through_atom (read (element array e)) = top
+  through_atom (minus e) = top
+  through_atom (not e) = top
+  through_atom (binary operator a b) = top
+  through_atom (and a b) = top
+  through_atom (or a b) = top
+  through_atom (comma a b) = through_atom b
+  through_atom (conditional c a b) = top
+  through_atom (assign p e) = held (through_atom e) (index_writes called p)
+  through_atom (compound operator p e) = top
+  through_atom (prefix operator p) = top
+  through_atom (postfix operator p) = top
+  through_atom (call f arguments) = top
 
   -- How many temporaries arguments take.
-  unfoldable pub throughTaken : Arguments → (ℕ → Bool) → ℕ
-  throughTaken no_more W = 0
-  throughTaken (e also arguments) W = throughTaken arguments (together (writes called e) W) + taken (held (throughAtom e) W)
+  unfoldable pub through_taken : Arguments → (ℕ → Bool) → ℕ
+  through_taken no_more W = 0
+  through_taken (e also arguments) W = through_taken arguments (together (writes called e) W) + taken (held (through_atom e) W)
 
   unfoldable mutual
-    pub throughSize : Expression → ℕ
-    throughSize (constant v) = 0
-    throughSize (read p) = 5 * indexRows p + throughIndex p
-    throughSize (minus e) = 5 + throughSize e
-    throughSize (not e) = 6 + throughSize e
-    throughSize (binary operator a b) = 6 + holdRows (throughAtom b) (writes called a) + throughSize a + throughSize b
-    throughSize (and a b) = 14 + throughSize a + throughSize b
-    throughSize (or a b) = 14 + throughSize a + throughSize b
-    throughSize (comma a b) = throughSize a + throughSize b
-    throughSize (conditional c a b) = 4 + copyRows (throughAtom a) + copyRows (throughAtom b) + throughSize c + throughSize a + throughSize b
-    throughSize (assign p e) = 4 + indexRows p + holdRows (throughAtom e) (indexWrites called p) + throughIndex p + throughSize e
-    throughSize (compound operator p e) = 10 + 6 * indexRows p + holdRows (throughAtom e) (indexWrites called p) + throughIndex p + throughSize e
-    throughSize (prefix operator p) = 10 + 6 * indexRows p + throughIndex p
-    throughSize (postfix operator p) = 10 + 6 * indexRows p + throughIndex p
-    throughSize (call f arguments) = 4 + 2 * argumentCount arguments + throughArguments arguments nothing
+    pub through_size : Expression → ℕ
+    through_size (constant v) = 0
+    through_size (read p) = 5 * index_rows p + through_index p
+    through_size (minus e) = 5 + through_size e
+    through_size (not e) = 6 + through_size e
+    through_size (binary operator a b) = 6 + hold_rows (through_atom b) (writes called a) + through_size a + through_size b
+    through_size (and a b) = 14 + through_size a + through_size b
+    through_size (or a b) = 14 + through_size a + through_size b
+    through_size (comma a b) = through_size a + through_size b
+    through_size (conditional c a b) = 4 + copy_rows (through_atom a) + copy_rows (through_atom b) + through_size c + through_size a + through_size b
+    through_size (assign p e) = 4 + index_rows p + hold_rows (through_atom e) (index_writes called p) + through_index p + through_size e
+    through_size (compound operator p e) = 10 + 6 * index_rows p + hold_rows (through_atom e) (index_writes called p) + through_index p + through_size e
+    through_size (prefix operator p) = 10 + 6 * index_rows p + through_index p
+    through_size (postfix operator p) = 10 + 6 * index_rows p + through_index p
+    through_size (call f arguments) = 4 + 2 * argument_count arguments + through_arguments arguments nothing
 
-    pub throughIndex : Place → ℕ
-    throughIndex (variable i) = 0
-    throughIndex (element array e) = throughSize e
+    pub through_index : Place → ℕ
+    through_index (variable i) = 0
+    through_index (element array e) = through_size e
 
-    pub throughArguments : Arguments → (ℕ → Bool) → ℕ
-    throughArguments no_more W = 0
-    throughArguments (e also arguments) W = holdRows (throughAtom e) W + throughSize e + throughArguments arguments (together (writes called e) W)
-
-  unfoldable mutual
-    pub throughLevels : Expression → ℕ
-    throughLevels (constant v) = 0
-    throughLevels (read p) = max (taken (throughAtom (read p))) (throughIndexLevels p)
-    throughLevels (minus e) = max 1 (throughLevels e)
-    throughLevels (not e) = max 1 (throughLevels e)
-    throughLevels (binary operator a b) = max 1 (max (throughLevels b) (taken (held (throughAtom b) (writes called a)) + throughLevels a))
-    throughLevels (and a b) = max 1 (max (throughLevels a) (throughLevels b))
-    throughLevels (or a b) = max 1 (max (throughLevels a) (throughLevels b))
-    throughLevels (comma a b) = max (throughLevels a) (throughLevels b)
-    throughLevels (conditional c a b) = max 1 (max (throughLevels c) (max (throughLevels a) (throughLevels b)))
-    throughLevels (assign p e) = max (throughLevels e) (taken (held (throughAtom e) (indexWrites called p)) + throughIndexLevels p)
-    throughLevels (compound operator p e) = max (throughLevels e) (1 + throughUpdateLevels p)
-    throughLevels (prefix operator p) = 1 + throughUpdateLevels p
-    throughLevels (postfix operator p) = 1 + throughUpdateLevels p
-    throughLevels (call f arguments) = max 1 (throughArgumentsLevels arguments nothing)
-
-    pub throughIndexLevels : Place → ℕ
-    throughIndexLevels (variable i) = 0
-    throughIndexLevels (element array e) = throughLevels e
-
-    pub throughUpdateLevels : Place → ℕ
-    throughUpdateLevels (variable i) = 0
-    throughUpdateLevels (element array e) = max (throughLevels e) (taken (throughAtom e) + 1)
-
-    pub throughArgumentsLevels : Arguments → (ℕ → Bool) → ℕ
-    throughArgumentsLevels no_more W = 0
-    throughArgumentsLevels (e also arguments) W =
-        max (throughArgumentsLevels arguments (together (writes called e) W)) (throughTaken arguments (together (writes called e) W) + max (throughLevels e) (taken (held (throughAtom e) W)))
+    pub through_arguments : Arguments → (ℕ → Bool) → ℕ
+    through_arguments no_more W = 0
+    through_arguments (e also arguments) W = hold_rows (through_atom e) W + through_size e + through_arguments arguments (together (writes called e) W)
 
   unfoldable mutual
-    pub throughStatement : Statement → ℕ
-    throughStatement empty = 1
-    throughStatement (express e) = max 1 (throughSize e)
-    throughStatement (block is) = 1 + throughItems is
-    throughStatement (ifThen e onTrue) = 4 + throughSize e + throughStatement onTrue
-    throughStatement (ifElse e onTrue onFalse) = 4 + throughSize e + throughStatement onTrue + throughStatement onFalse
-    throughStatement (while e body) = 10 + throughSize e + throughStatement body
-    throughStatement (doWhile body e) = 10 + throughSize e + throughStatement body
-    throughStatement (for first test action body) = 5 + throughPart throughSize first + throughPart (λ e. throughSize e + 5) test + throughPart throughSize action + throughStatement body
-    throughStatement (switch e is) = 2 + throughSize e + 11 * cases is + throughItems is
-    throughStatement break = 1
-    throughStatement continue = 1
-    throughStatement (goto l) = 1
-    throughStatement (guardedIf arms) = 2 + throughArms arms
-    throughStatement (guardedDo arms) = roundsRows arms + throughArms arms
-    throughStatement abort = 1
-    throughStatement (declare i e) = 4 + throughSize e
-    throughStatement (giveBack value) = 2 + throughPart throughSize value
+    pub through_levels : Expression → ℕ
+    through_levels (constant v) = 0
+    through_levels (read p) = max (taken (through_atom (read p))) (through_index_levels p)
+    through_levels (minus e) = max 1 (through_levels e)
+    through_levels (not e) = max 1 (through_levels e)
+    through_levels (binary operator a b) = max 1 (max (through_levels b) (taken (held (through_atom b) (writes called a)) + through_levels a))
+    through_levels (and a b) = max 1 (max (through_levels a) (through_levels b))
+    through_levels (or a b) = max 1 (max (through_levels a) (through_levels b))
+    through_levels (comma a b) = max (through_levels a) (through_levels b)
+    through_levels (conditional c a b) = max 1 (max (through_levels c) (max (through_levels a) (through_levels b)))
+    through_levels (assign p e) = max (through_levels e) (taken (held (through_atom e) (index_writes called p)) + through_index_levels p)
+    through_levels (compound operator p e) = max (through_levels e) (1 + through_update_levels p)
+    through_levels (prefix operator p) = 1 + through_update_levels p
+    through_levels (postfix operator p) = 1 + through_update_levels p
+    through_levels (call f arguments) = max 1 (through_arguments_levels arguments nothing)
 
-    pub throughArms : Arms → ℕ
-    throughArms no_arm = 0
-    throughArms (arm e s arms) = 5 + throughSize e + throughStatement s + throughArms arms
+    pub through_index_levels : Place → ℕ
+    through_index_levels (variable i) = 0
+    through_index_levels (element array e) = through_levels e
 
-    pub throughItems : Items → ℕ
-    throughItems none = 0
-    throughItems (s then is) = throughStatement s + throughItems is
-    throughItems (m here is) = 1 + throughItems is
-    throughItems (define f words body is) = throughItems is
+    pub through_update_levels : Place → ℕ
+    through_update_levels (variable i) = 0
+    through_update_levels (element array e) = max (through_levels e) (taken (through_atom e) + 1)
 
-  unfoldable pub throughProgram : Items → ℕ
-  throughProgram none = throughItems none
-  throughProgram (s then is) = throughItems (s then is)
-  throughProgram (m here is) = throughItems (m here is)
-  throughProgram (define f words body is) = 2 + length words + throughItems body + throughProgram is
+    pub through_arguments_levels : Arguments → (ℕ → Bool) → ℕ
+    through_arguments_levels no_more W = 0
+    through_arguments_levels (e also arguments) W =
+        max (through_arguments_levels arguments (together (writes called e) W)) (through_taken arguments (together (writes called e) W) + max (through_levels e) (taken (held (through_atom e) W)))
 
   unfoldable mutual
-    pub throughStatementLevels : Statement → ℕ
-    throughStatementLevels empty = 0
-    throughStatementLevels (express e) = throughLevels e
-    throughStatementLevels (block is) = throughItemsLevels is
-    throughStatementLevels (ifThen e onTrue) = max (throughLevels e) (throughStatementLevels onTrue)
-    throughStatementLevels (ifElse e onTrue onFalse) = max (throughLevels e) (max (throughStatementLevels onTrue) (throughStatementLevels onFalse))
-    throughStatementLevels (while e body) = max (throughLevels e) (throughStatementLevels body)
-    throughStatementLevels (doWhile body e) = max (throughLevels e) (throughStatementLevels body)
-    throughStatementLevels (for first test action body) = max (max (throughPart throughLevels first) (throughPart throughLevels test)) (max (throughPart throughLevels action) (throughStatementLevels body))
-    throughStatementLevels (switch e is) = max (taken (throughAtom e) + 1) (max (throughLevels e) (throughItemsLevels is))
-    throughStatementLevels break = 0
-    throughStatementLevels continue = 0
-    throughStatementLevels (goto l) = 0
-    throughStatementLevels (guardedIf arms) = throughArmsLevels arms
-    throughStatementLevels (guardedDo arms) = throughArmsLevels arms
-    throughStatementLevels abort = 0
-    throughStatementLevels (declare i e) = throughLevels e
-    throughStatementLevels (giveBack value) = throughPart throughLevels value
+    pub through_statement : Statement → ℕ
+    through_statement empty = 1
+    through_statement (express e) = max 1 (through_size e)
+    through_statement (block is) = 1 + through_items is
+    through_statement (if_then e on_true) = 4 + through_size e + through_statement on_true
+    through_statement (if_else e on_true on_false) = 4 + through_size e + through_statement on_true + through_statement on_false
+    through_statement (while e body) = 10 + through_size e + through_statement body
+    through_statement (do_while body e) = 10 + through_size e + through_statement body
+    through_statement (for first test action body) = 5 + through_part through_size first + through_part (λ e. through_size e + 5) test + through_part through_size action + through_statement body
+    through_statement (switch e is) = 2 + through_size e + 11 * cases is + through_items is
+    through_statement break = 1
+    through_statement continue = 1
+    through_statement (goto l) = 1
+    through_statement (guarded_if arms) = 2 + through_arms arms
+    through_statement (guarded_do arms) = rounds_rows arms + through_arms arms
+    through_statement abort = 1
+    through_statement (declare i e) = 4 + through_size e
+    through_statement (give_back value) = 2 + through_part through_size value
 
-    pub throughArmsLevels : Arms → ℕ
-    throughArmsLevels no_arm = 0
-    throughArmsLevels (arm e s arms) = max (throughLevels e) (max (throughStatementLevels s) (throughArmsLevels arms))
+    pub through_arms : Arms → ℕ
+    through_arms no_arm = 0
+    through_arms (arm e s arms) = 5 + through_size e + through_statement s + through_arms arms
 
-    pub throughItemsLevels : Items → ℕ
-    throughItemsLevels none = 0
-    throughItemsLevels (s then is) = max (throughStatementLevels s) (throughItemsLevels is)
-    throughItemsLevels (m here is) = throughItemsLevels is
-    throughItemsLevels (define f words body is) = throughItemsLevels is
+    pub through_items : Items → ℕ
+    through_items none = 0
+    through_items (s then is) = through_statement s + through_items is
+    through_items (m here is) = 1 + through_items is
+    through_items (define f words body is) = through_items is
 
-  unfoldable pub throughProgramLevels : Items → ℕ
-  throughProgramLevels none = throughItemsLevels none
-  throughProgramLevels (s then is) = throughItemsLevels (s then is)
-  throughProgramLevels (m here is) = throughItemsLevels (m here is)
-  throughProgramLevels (define f words body is) = throughItemsLevels body + throughProgramLevels is
+  unfoldable pub through_program : Items → ℕ
+  through_program none = through_items none
+  through_program (s then is) = through_items (s then is)
+  through_program (m here is) = through_items (m here is)
+  through_program (define f words body is) = 2 + length words + through_items body + through_program is
+
+  unfoldable mutual
+    pub through_statement_levels : Statement → ℕ
+    through_statement_levels empty = 0
+    through_statement_levels (express e) = through_levels e
+    through_statement_levels (block is) = through_items_levels is
+    through_statement_levels (if_then e on_true) = max (through_levels e) (through_statement_levels on_true)
+    through_statement_levels (if_else e on_true on_false) = max (through_levels e) (max (through_statement_levels on_true) (through_statement_levels on_false))
+    through_statement_levels (while e body) = max (through_levels e) (through_statement_levels body)
+    through_statement_levels (do_while body e) = max (through_levels e) (through_statement_levels body)
+    through_statement_levels (for first test action body) = max (max (through_part through_levels first) (through_part through_levels test)) (max (through_part through_levels action) (through_statement_levels body))
+    through_statement_levels (switch e is) = max (taken (through_atom e) + 1) (max (through_levels e) (through_items_levels is))
+    through_statement_levels break = 0
+    through_statement_levels continue = 0
+    through_statement_levels (goto l) = 0
+    through_statement_levels (guarded_if arms) = through_arms_levels arms
+    through_statement_levels (guarded_do arms) = through_arms_levels arms
+    through_statement_levels abort = 0
+    through_statement_levels (declare i e) = through_levels e
+    through_statement_levels (give_back value) = through_part through_levels value
+
+    pub through_arms_levels : Arms → ℕ
+    through_arms_levels no_arm = 0
+    through_arms_levels (arm e s arms) = max (through_levels e) (max (through_statement_levels s) (through_arms_levels arms))
+
+    pub through_items_levels : Items → ℕ
+    through_items_levels none = 0
+    through_items_levels (s then is) = max (through_statement_levels s) (through_items_levels is)
+    through_items_levels (m here is) = through_items_levels is
+    through_items_levels (define f words body is) = through_items_levels is
+
+  unfoldable pub through_program_levels : Items → ℕ
+  through_program_levels none = through_items_levels none
+  through_program_levels (s then is) = through_items_levels (s then is)
+  through_program_levels (m here is) = through_items_levels (m here is)
+  through_program_levels (define f words body is) = through_items_levels body + through_program_levels is

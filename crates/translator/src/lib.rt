@@ -1,12 +1,14 @@
 // The translator: writes the kernel header and the kernel rows of a source program that the check accepts.
+#![tactic(auto)]
+
 ghost use Rattle.std.specs.Prelude.{◌≡◌};
 ghost use Rattle.words.specs.declared.Form.TheVariants.{Source};
 ghost use Rattle.words.specs.declared.Verdict.TheVariants.{Accepted};
-ghost use Rattle.language_programs.specs.Program.{resolvedRows};
-ghost use Rattle.check_source.specs.Refusal.{refusal as sourceRefusal};
+ghost use Rattle.language_programs.specs.Program.{resolved_rows};
+ghost use Rattle.check_source.specs.Refusal.{refusal as source_refusal};
 ghost use Rattle.measures_table.specs.Measures.{Measured};
 ghost use Rattle.translation_fate.specs.KernelForms.{HasKernelForm};
-ghost use Rattle.translator.specs.Translation.{answerAndTables, translateAfter, translateResult, WritesKernelForm};
+ghost use Rattle.translator.specs.Translation.{answer_and_tables, translate_after, translate_result, WritesKernelForm};
 
 use accepted_rows::resolve_accepted;
 use header::write_header;
@@ -20,7 +22,7 @@ use writers_programs::program::write_program;
 pub mod header; // header.rt: the kernel header
 
 // What the translation answers: how many words the kernel header and the kernel rows have.
-#[derive(Drop)]
+#[derive(Clone, Copy)]
 pub enum TranslateAnswer {
     Translated(usize, usize),
     Refused(Refusal),
@@ -35,8 +37,8 @@ fn write_measured(
     kernel_header: &mut [i32],
     kernel_rows: &mut [i32],
 ) -> TranslateAnswer
-    requires { (sourceRefusal header.now rows.now ≡ Accepted) × (resolved.now ≡ resolvedRows Source header.now rows.now) × Measured resolved.now table.now }
-    ensures { answerAndTables result kernel_header.new kernel_rows.new ≡ translateAfter Accepted header.now rows.now kernel_header.old kernel_rows.old }
+    requires { (source_refusal header.now rows.now ≡ Accepted) × (resolved.now ≡ resolved_rows Source header.now rows.now) × Measured resolved.now table.now }
+    ensures { answer_and_tables result kernel_header.new kernel_rows.new ≡ translate_after Accepted header.now rows.now kernel_header.old kernel_rows.old }
 {
     let program = measured_program(resolved, table);
     let header_words = header.len() + 2;
@@ -75,8 +77,8 @@ fn translate_table(
     kernel_header: &mut [i32],
     kernel_rows: &mut [i32],
 ) -> TranslateAnswer
-    requires { (sourceRefusal header.now rows.now ≡ Accepted) × (resolved.now ≡ resolvedRows Source header.now rows.now) }
-    ensures { answerAndTables result kernel_header.new kernel_rows.new ≡ translateAfter Accepted header.now rows.now kernel_header.old kernel_rows.old }
+    requires { (source_refusal header.now rows.now ≡ Accepted) × (resolved.now ≡ resolved_rows Source header.now rows.now) }
+    ensures { answer_and_tables result kernel_header.new kernel_rows.new ≡ translate_after Accepted header.now rows.now kernel_header.old kernel_rows.old }
 {
     let store = store_size(Form::Source, header);
     let mut table = [0usize; 38912];
@@ -91,8 +93,8 @@ fn translate_resolved(
     kernel_header: &mut [i32],
     kernel_rows: &mut [i32],
 ) -> TranslateAnswer
-    requires { sourceRefusal header.now rows.now ≡ Accepted }
-    ensures { answerAndTables result kernel_header.new kernel_rows.new ≡ translateAfter Accepted header.now rows.now kernel_header.old kernel_rows.old }
+    requires { source_refusal header.now rows.now ≡ Accepted }
+    ensures { answer_and_tables result kernel_header.new kernel_rows.new ≡ translate_after Accepted header.now rows.now kernel_header.old kernel_rows.old }
 {
     let words = rows.len();
     let mut resolved = [0i32; 12288];
@@ -114,8 +116,8 @@ pub fn translate_accepted(
     kernel_header: &mut [i32],
     kernel_rows: &mut [i32],
 ) -> TranslateAnswer
-    requires { sourceRefusal header.now rows.now ≡ Accepted }
-    ensures kernel_rows_after { answerAndTables result kernel_header.new kernel_rows.new ≡ translateResult header.now rows.now kernel_header.old kernel_rows.old }
+    requires { source_refusal header.now rows.now ≡ Accepted }
+    ensures kernel_rows_after { answer_and_tables result kernel_header.new kernel_rows.new ≡ translate_result header.now rows.now kernel_header.old kernel_rows.old }
     ensures has_kernel_form { HasKernelForm header.now rows.now }
     ensures writes_kernel_form { WritesKernelForm header.now rows.now result kernel_header.new kernel_rows.new }
 {
@@ -133,7 +135,7 @@ pub fn translate(
     kernel_header: &mut [i32],
     kernel_rows: &mut [i32],
 ) -> TranslateAnswer
-    ensures kernel_rows_after { answerAndTables result kernel_header.new kernel_rows.new ≡ translateResult header.now rows.now kernel_header.old kernel_rows.old }
+    ensures kernel_rows_after { answer_and_tables result kernel_header.new kernel_rows.new ≡ translate_result header.now rows.now kernel_header.old kernel_rows.old }
     ensures has_kernel_form { HasKernelForm header.now rows.now }
     ensures writes_kernel_form { WritesKernelForm header.now rows.now result kernel_header.new kernel_rows.new }
 {

@@ -1,43 +1,43 @@
 -- Conditions: what the functions that make the output are lent. `room` is the number of bytes that they may write.
 use Rattle.std.specs.Prelude.{◌≡◌, true, List, ℕ, ◌+◌, ◌*◌, ◌≤◌, ℤ, length}
-use Rattle.words.specs.Declarations.{declarationLimit}
-use Rattle.words.specs.Layout.{headerFits, layout_of, storeSize, store_words, zeros}
+use Rattle.words.specs.Declarations.{declaration_limit}
+use Rattle.words.specs.Layout.{header_fits, layout_of, store_size, store_words, zeros}
 use Rattle.words.specs.declared.Form.TheVariants.{Source, Kernel}
 use Rattle.words.specs.declared.Verdict.TheVariants.{Accepted}
-use Rattle.text_report.specs.Lines.{lineRoom}
-use Rattle.program_runs.specs.Runs.{refusalOf}
-use Rattle.text_rules.specs.Rules.{mostRows, mostWords}
+use Rattle.text_report.specs.Lines.{line_room}
+use Rattle.program_runs.specs.Runs.{refusal_of}
+use Rattle.text_rules.specs.Rules.{most_rows, most_words}
 
 -- Bytes enough for both lines: 24,672.
-abbrev pub trialRoom : ℕ
-trialRoom = 2 * lineRoom mostWords
+abbrev pub trial_room : ℕ
+trial_room = 2 * line_room most_words
 
 -- A program is within the limits, and both lines have room.
 pub record Fits (header rows : List ℤ) (room : ℕ) : Type 0 where
-  pub header-fits : headerFits Source header ≡ true
-  pub few_words : storeSize (layout_of Source header) ≤ mostWords
-  pub few-rows : length rows ≤ 6 * mostRows
-  pub both-lines : trialRoom ≤ room
+  pub header-fits : header_fits Source header ≡ true
+  pub few_words : store_size (layout_of Source header) ≤ most_words
+  pub few_rows : length rows ≤ 6 * most_rows
+  pub both_lines : trial_room ≤ room
 
 -- The same of an accepted program, with the store that the source run starts from.
 pub record FromZeros (header rows store : List ℤ) (room : ℕ) : Type 0 where
   pub fits : Fits header rows room
-  pub accepted : refusalOf Source header rows ≡ Accepted
+  pub accepted : refusal_of Source header rows ≡ Accepted
   pub starts : store ≡ zeros (store_words Source header rows)
 
 -- An accepted program within the limits, and room for its kernel line.
 pub record Translates (header rows : List ℤ) (room : ℕ) : Type 0 where
-  pub accepted : refusalOf Source header rows ≡ Accepted
-  pub few_words : storeSize (layout_of Source header) ≤ mostWords
-  pub few-rows : length rows ≤ 6 * mostRows
-  pub line : lineRoom (storeSize (layout_of Source header)) ≤ room
+  pub accepted : refusal_of Source header rows ≡ Accepted
+  pub few_words : store_size (layout_of Source header) ≤ most_words
+  pub few_rows : length rows ≤ 6 * most_rows
+  pub line : line_room (store_size (layout_of Source header)) ≤ room
 
 -- An accepted kernel program whose store is that of a translation within the limits, and room for a line with some of its words.
 pub record KernelFits (header rows : List ℤ) (words room : ℕ) : Type 0 where
-  pub accepted : refusalOf Kernel header rows ≡ Accepted
+  pub accepted : refusal_of Kernel header rows ≡ Accepted
   pub inside : words ≤ store_words Kernel header rows
-  pub few_words : store_words Kernel header rows ≤ mostWords + (declarationLimit + 4 * mostRows)
-  pub line : lineRoom words ≤ room
+  pub few_words : store_words Kernel header rows ≤ most_words + (declaration_limit + 4 * most_rows)
+  pub line : line_room words ≤ room
 
 -- The same, with the store that the kernel run starts from.
 pub record KernelFromZeros (header rows : List ℤ) (words : ℕ) (store : List ℤ) (room : ℕ) : Type 0 where

@@ -1,6 +1,8 @@
 // The trial program: reads a source text from standard input, runs it in both forms, and prints the two lines or the refusal.
 //
 // What is printed for a text is the contract of `output::trial`; this file only reads, calls and writes.
+#![tactic(auto)]
+
 mod output; // output.rt: what is printed for a text
 mod runs; // runs.rt: both runs, each from zeros, and their lines
 

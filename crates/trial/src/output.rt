@@ -1,8 +1,8 @@
 // What is printed for a text, at the start of `output`; the answer is how many bytes it is.
 ghost use Rattle.std.specs.Prelude.{◌≤◌, length};
 ghost use Rattle.text_numbers.specs.Writer.{Put};
-ghost use Rattle.trial.specs.Output.{trialOutput};
-ghost use Rattle.trial.specs.Conditions.{trialRoom};
+ghost use Rattle.trial.specs.Output.{trial_output};
+ghost use Rattle.trial.specs.Conditions.{trial_room};
 
 use super::runs::run_source;
 use text_report::line::refused_line;
@@ -11,8 +11,8 @@ use text_rules::rule::read_rule;
 
 // Document 01, the end of "Text": the rule is read and checked, then both forms run.
 pub fn trial(text: &[u8], output: &mut [u8]) -> usize
-    requires { trialRoom ≤ length output.old }
-    ensures { Put (trialOutput text.now) output.old result output.new }
+    requires { trial_room ≤ length output.old }
+    ensures { Put (trial_output text.now) output.old result output.new }
 {
     let mut header = [0i32; 35];
     let mut rows = [0i32; 768];

@@ -1,12 +1,12 @@
 // Both runs of a program, each from zeros with budget 100,000, and their lines at the start of `output`.
 ghost use Rattle.std.specs.Prelude.{◌≡◌, length};
-ghost use Rattle.words.specs.Layout.{layout_of, storeSize};
+ghost use Rattle.words.specs.Layout.{layout_of, store_size};
 ghost use Rattle.words.specs.declared.Form.TheVariants.{Source};
 ghost use Rattle.words.specs.declared.Verdict.TheVariants.{Accepted};
 ghost use Rattle.text_numbers.specs.Writer.{Put};
-ghost use Rattle.translation_fate.specs.KernelForms.{kernelHeaderOf, kernelRowsOf};
-ghost use Rattle.program_runs.specs.Runs.{refusalOf};
-ghost use Rattle.trial.specs.Output.{kernelOutput, runsOutput};
+ghost use Rattle.translation_fate.specs.KernelForms.{kernel_header_of, kernel_rows_of};
+ghost use Rattle.program_runs.specs.Runs.{refusal_of};
+ghost use Rattle.trial.specs.Output.{kernel_output, runs_output};
 ghost use Rattle.trial.specs.Conditions.{Fits, FromZeros, KernelFits, KernelFromZeros, Translates};
 
 use program_runs::run_accepted;
@@ -25,7 +25,7 @@ fn run_kernel_on(
     output: &mut [u8],
 ) -> usize
     requires { KernelFromZeros header.now rows.now words store.old (length output.old) }
-    ensures { Put (kernelOutput words header.now rows.now) output.old result output.new }
+    ensures { Put (kernel_output words header.now rows.now) output.old result output.new }
 {
     let answer = run_accepted(Form::Kernel, header, rows, store, 100000);
     let ending = answer.ending;
@@ -35,7 +35,7 @@ fn run_kernel_on(
 // The line of a kernel program that the check accepts, with the first `words` words of its store.
 fn run_kernel(header: &[i32], rows: &[i32], words: usize, output: &mut [u8]) -> usize
     requires { KernelFits header.now rows.now words (length output.old) }
-    ensures { Put (kernelOutput words header.now rows.now) output.old result output.new }
+    ensures { Put (kernel_output words header.now rows.now) output.old result output.new }
 {
     let size = store_words(Form::Kernel, header, rows);
     let mut store = [0i32; 1600];
@@ -45,7 +45,7 @@ fn run_kernel(header: &[i32], rows: &[i32], words: usize, output: &mut [u8]) -> 
 // The line of an accepted program's translation. The translator does not refuse it: 128 rows give at most 2,580.
 fn run_translation(header: &[i32], rows: &[i32], output: &mut [u8]) -> usize
     requires { Translates header.now rows.now (length output.old) }
-    ensures { Put (kernelOutput (storeSize (layout_of Source header.now)) (kernelHeaderOf header.now rows.now) (kernelRowsOf header.now rows.now)) output.old result output.new }
+    ensures { Put (kernel_output (store_size (layout_of Source header.now)) (kernel_header_of header.now rows.now) (kernel_rows_of header.now rows.now)) output.old result output.new }
 {
     let words = store_size(Form::Source, header);
     let mut kernel_header = [0i32; 35];
@@ -65,7 +65,7 @@ fn run_translation(header: &[i32], rows: &[i32], output: &mut [u8]) -> usize
 // The lines of an accepted program: the source run on a store of zeros, then the translation's.
 fn run_source_on(header: &[i32], rows: &[i32], store: &mut [i32], output: &mut [u8]) -> usize
     requires { FromZeros header.now rows.now store.old (length output.old) }
-    ensures { Put (runsOutput header.now rows.now) output.old result output.new }
+    ensures { Put (runs_output header.now rows.now) output.old result output.new }
 {
     let answer = run_accepted(Form::Source, header, rows, store, 100000);
     let ending = answer.ending;
@@ -78,8 +78,8 @@ fn run_source_on(header: &[i32], rows: &[i32], store: &mut [i32], output: &mut [
 // Both lines of an accepted program within the limits.
 pub fn run_source(header: &[i32], rows: &[i32], output: &mut [u8]) -> usize
     requires fits { Fits header.now rows.now (length output.old) }
-    requires rows_value { refusalOf Source header.now rows.now ≡ Accepted }
-    ensures { Put (runsOutput header.now rows.now) output.old result output.new }
+    requires rows_value { refusal_of Source header.now rows.now ≡ Accepted }
+    ensures { Put (runs_output header.now rows.now) output.old result output.new }
 {
     let size = store_words(Form::Source, header, rows);
     let mut store = [0i32; 1088];

@@ -12,7 +12,7 @@ use lib.ListN.{length, get_or, take, drop, length-drop, drop_of_length-le}
 use lib.Seq.{drop-cons, take_all}
 use borrow.Author.Tests.{le-leb, lt-leb}
 use Rattle.words.specs.Word.{natural}
-use Rattle.words.specs.Layout.{leading, layout_of, sum, storeSize, allWithin}
+use Rattle.words.specs.Layout.{leading, layout_of, sum, store_size, all_within}
 use Rattle.words.specs.declared.Form.{Form}
 use Rattle.words.proofs.Signed.{again, natural-again}
 
@@ -39,17 +39,17 @@ module _ {words : List ℤ} {i n : ℕ} (r : Read words i n) where
   unfolding sum
   sum-rest = ap sum read-cons
 
-  within-rest : allWithin 4096 (rest words i) ≡ ((leb 1 n && leb n 4096) && allWithin 4096 (rest words (i + 1)))
-  unfolding allWithin
-  within-rest = ap (allWithin 4096) read-cons
+  within-rest : all_within 4096 (rest words i) ≡ ((leb 1 n && leb n 4096) && all_within 4096 (rest words (i + 1)))
+  unfolding all_within
+  within-rest = ap (all_within 4096) read-cons
 
-  pub length_none : n < 1 → allWithin 4096 (rest words i) ≡ false
+  pub length_none : n < 1 → all_within 4096 (rest words i) ≡ false
   length_none l = rw (within-rest, lt-leb _ _ l)
 
-  pub length_over : 1 ≤ n → 4096 < n → allWithin 4096 (rest words i) ≡ false
+  pub length_over : 1 ≤ n → 4096 < n → all_within 4096 (rest words i) ≡ false
   length_over l m = rw (within-rest, le-leb _ _ l, lt-leb _ _ m)
 
-  pub length-within : 1 ≤ n → n ≤ 4096 → allWithin 4096 (rest words i) ≡ allWithin 4096 (rest words (i + 1))
+  pub length-within : 1 ≤ n → n ≤ 4096 → all_within 4096 (rest words i) ≡ all_within 4096 (rest words (i + 1))
   length-within l m = rw (within-rest, le-leb _ _ l, le-leb _ _ m)
 
 -- past the last length
@@ -61,9 +61,9 @@ module _ (words : List ℤ) (i : ℕ) (h : length words ≤ i) where
   unfolding sum
   sum-end = ap sum none
 
-  pub within_end : allWithin 4096 (rest words i) ≡ true
-  unfolding allWithin
-  within_end = ap (allWithin 4096) none
+  pub within_end : all_within 4096 (rest words i) ≡ true
+  unfolding all_within
+  within_end = ap (all_within 4096) none
 
 -- a part that runs to the end, as the code lends it
 pub part : (words : List ℤ) (first : ℕ) → take (length words - first) (drop first words) ≡ drop first words
@@ -71,6 +71,6 @@ part words first = take_all (length words - first) (drop first words) (omega (ar
 
 -- the code's sum is the store's size
 pub size_is : (form : Form) (header : List ℤ) (first : ℕ) → first ≡ leading form
-    → natural (get_or header 0 (pos 0)) + sum (map natural (take (length header - first) (drop first header))) ≡ storeSize (layout_of form header)
-unfolding storeSize layout_of
+    → natural (get_or header 0 (pos 0)) + sum (map natural (take (length header - first) (drop first header))) ≡ store_size (layout_of form header)
+unfolding store_size layout_of
 size_is form header first e = rw (part header first, e)

@@ -13,39 +13,39 @@ pub record Told : Type 0 where
   pub number : ℕ
   pub name : List ℕ
 
-abbrev pub faultTold : FaultSort → Told
-faultTold Overflow = record { number = 2; name = 111 ∷ 118 ∷ 101 ∷ 114 ∷ 102 ∷ 108 ∷ 111 ∷ 119 ∷ [] }
-faultTold ZeroDivisor = record { number = 3; name = 122 ∷ 101 ∷ 114 ∷ 111 ∷ [] }
-faultTold Index = record { number = 4; name = 105 ∷ 110 ∷ 100 ∷ 101 ∷ 120 ∷ [] }
-faultTold Guard = record { number = 5; name = 103 ∷ 117 ∷ 97 ∷ 114 ∷ 100 ∷ [] }
+abbrev pub fault_told : FaultSort → Told
+fault_told Overflow = record { number = 2; name = 111 ∷ 118 ∷ 101 ∷ 114 ∷ 102 ∷ 108 ∷ 111 ∷ 119 ∷ [] }
+fault_told ZeroDivisor = record { number = 3; name = 122 ∷ 101 ∷ 114 ∷ 111 ∷ [] }
+fault_told Index = record { number = 4; name = 105 ∷ 110 ∷ 100 ∷ 101 ∷ 120 ∷ [] }
+fault_told Guard = record { number = 5; name = 103 ∷ 117 ∷ 97 ∷ 114 ∷ 100 ∷ [] }
 
-abbrev pub endingTold : Ending → Told
-endingTold Plain = record { number = 0; name = 101 ∷ 110 ∷ 100 ∷ 101 ∷ 100 ∷ [] }
-endingTold Spent = record { number = 1; name = 115 ∷ 112 ∷ 101 ∷ 110 ∷ 116 ∷ [] }
-endingTold (Fault sort) = faultTold sort
+abbrev pub ending_told : Ending → Told
+ending_told Plain = record { number = 0; name = 101 ∷ 110 ∷ 100 ∷ 101 ∷ 100 ∷ [] }
+ending_told Spent = record { number = 1; name = 115 ∷ 112 ∷ 101 ∷ 110 ∷ 116 ∷ [] }
+ending_told (Fault sort) = fault_told sort
 
-abbrev pub faultNumber : FaultSort → ℕ
-faultNumber sort = (faultTold sort).number
+abbrev pub fault_number : FaultSort → ℕ
+fault_number sort = (fault_told sort).number
 
-abbrev pub faultName : FaultSort → List ℕ
-faultName sort = (faultTold sort).name
+abbrev pub fault_name : FaultSort → List ℕ
+fault_name sort = (fault_told sort).name
 
-abbrev pub endingNumber : Ending → ℕ
-endingNumber ending = (endingTold ending).number
+abbrev pub ending_number : Ending → ℕ
+ending_number ending = (ending_told ending).number
 
-abbrev pub endingName : Ending → List ℕ
-endingName ending = (endingTold ending).name
+abbrev pub ending_name : Ending → List ℕ
+ending_name ending = (ending_told ending).name
 
 -- The fault with a number; Index where it is no other's.
-abbrev pub faultAmong : List FaultSort → ℕ → FaultSort
-faultAmong [] number = Index
-faultAmong (sort ∷ sorts) number = pick (eqb number (faultNumber sort)) sort (faultAmong sorts number)
+abbrev pub fault_among : List FaultSort → ℕ → FaultSort
+fault_among [] number = Index
+fault_among (sort ∷ sorts) number = pick (eqb number (fault_number sort)) sort (fault_among sorts number)
 
-abbrev pub otherFaults : List FaultSort
-otherFaults = Overflow ∷ ZeroDivisor ∷ Guard ∷ []
+abbrev pub other_faults : List FaultSort
+other_faults = Overflow ∷ ZeroDivisor ∷ Guard ∷ []
 
-unfoldable pub faultNumbered : ℕ → FaultSort
-faultNumbered number = faultAmong otherFaults number
+unfoldable pub fault_numbered : ℕ → FaultSort
+fault_numbered number = fault_among other_faults number
 
 -- The code's name is these bytes.
 pub record Names (told : Name) (bytes : List ℕ) : Type 0 where

@@ -4,7 +4,7 @@ use Rattle.std.proofs.Common.{sym, ap, ◌∙◌, arith, eqb-true, leb-true}
 use Rattle.std.proofs.lemmas.Bool.{eqb-false}
 use Rattle.words.specs.Word.{pick}
 use Rattle.words.specs.Table.{number_at}
-use Rattle.words.specs.Kinds.{kinds, kindIn, kind_of, kind_at, operators, operatorOf, isExpressionKind, isStatementKind, between, expression, place, branch, bodyBlock, arm_row, argumentRow, isLink, isRequired, kindRow, expressionFields, statementFields, markFields, definitionFields, memberFields, sortIn, isFunctionNumber, isPlaceKind}
+use Rattle.words.specs.Kinds.{kinds, kind_in, kind_of, kind_at, operators, operator_of, is_expression_kind, is_statement_kind, between, expression, place, branch, body_block, arm_row, argument_row, is_link, is_required, kind_row, expression_fields, statement_fields, mark_fields, definition_fields, member_fields, sort_in, is_function_number, is_place_kind}
 use Rattle.words.specs.Laws.{both, by_cases}
 use Rattle.words.specs.declared.Operator.{Operator}
 use Rattle.words.specs.declared.Kind.{Kind}
@@ -16,39 +16,39 @@ use Rattle.words.specs.declared.ExpressionKind.{ExpressionKind}
 use Rattle.words.specs.declared.ExpressionKind.TheVariants.{Constant, Variable, Element, Minus, Not, Binary, And, Or, Conditional, Comma, Assign, Compound, Prefix, Postfix, Call}
 
 -- A test that every line of the table passes.
-unfoldable pub everyLine : (ℕ → Kind → Bool) → List (ℕ × Kind) → Bool
-everyLine test [] = true
-everyLine test (k ∷ ks) = test k.0 k.1 && everyLine test ks
+unfoldable pub every_line : (ℕ → Kind → Bool) → List (ℕ × Kind) → Bool
+every_line test [] = true
+every_line test (k ∷ ks) = test k.0 k.1 && every_line test ks
 
 -- What every line passes, and a number without a kind too, every number passes.
-pub every-number : (test : ℕ → Kind → Bool) → everyLine test kinds ≡ true → ((number : ℕ) → test number Other ≡ true) → (number : ℕ) → test number (kind_of number) ≡ true
-unfolding kind_of kindIn everyLine
+pub every-number : (test : ℕ → Kind → Bool) → every_line test kinds ≡ true → ((number : ℕ) → test number Other ≡ true) → (number : ℕ) → test number (kind_of number) ≡ true
+unfolding kind_of kind_in every_line
 every-number test passed other number = go kinds passed
   where
-    go : (ks : List (ℕ × Kind)) → everyLine test ks ≡ true → test number (kindIn ks number) ≡ true
+    go : (ks : List (ℕ × Kind)) → every_line test ks ≡ true → test number (kind_in ks number) ≡ true
     go [] e = other number
-    go (k ∷ ks) e = by (eqb number k.0) refl (both (test k.0 k.1) (everyLine test ks) e).0 (go ks (both (test k.0 k.1) (everyLine test ks) e).1)
+    go (k ∷ ks) e = by (eqb number k.0) refl (both (test k.0 k.1) (every_line test ks) e).0 (go ks (both (test k.0 k.1) (every_line test ks) e).1)
       where
-        by : (same : Bool) → eqb number k.0 ≡ same → test k.0 k.1 ≡ true → test number (kindIn ks number) ≡ true → test number (pick same k.1 (kindIn ks number)) ≡ true
+        by : (same : Bool) → eqb number k.0 ≡ same → test k.0 k.1 ≡ true → test number (kind_in ks number) ≡ true → test number (pick same k.1 (kind_in ks number)) ≡ true
         by true s here later = rw (eqb-true number k.0 s) here
         by false s here later = later
 
 -- A link that must be there is a link.
-pub required-link : (sort : ℕ) → isRequired sort ≡ true → isLink sort ≡ true
-unfolding isRequired isLink
+pub required-link : (sort : ℕ) → is_required sort ≡ true → is_link sort ≡ true
+unfolding is_required is_link
 required-link sort r = by (eqb sort expression) refl r
   where
-    by : (t : Bool) → eqb sort expression ≡ t → (t || (eqb sort place || (eqb sort branch || eqb sort bodyBlock))) ≡ true → isLink sort ≡ true
+    by : (t : Bool) → eqb sort expression ≡ t → (t || (eqb sort place || (eqb sort branch || eqb sort body_block))) ≡ true → is_link sort ≡ true
     by true e r = rw (eqb-true sort expression e)
     by false e r = by_place (eqb sort place) refl r
       where
-        by_place : (t : Bool) → eqb sort place ≡ t → (t || (eqb sort branch || eqb sort bodyBlock)) ≡ true → isLink sort ≡ true
+        by_place : (t : Bool) → eqb sort place ≡ t → (t || (eqb sort branch || eqb sort body_block)) ≡ true → is_link sort ≡ true
         by_place true e r = rw (eqb-true sort place e)
         by_place false e r = by-branch (eqb sort branch) refl r
           where
-            by-branch : (t : Bool) → eqb sort branch ≡ t → (t || eqb sort bodyBlock) ≡ true → isLink sort ≡ true
+            by-branch : (t : Bool) → eqb sort branch ≡ t → (t || eqb sort body_block) ≡ true → is_link sort ≡ true
             by-branch true e r = rw (eqb-true sort branch e)
-            by-branch false e r = rw (eqb-true sort bodyBlock r)
+            by-branch false e r = rw (eqb-true sort body_block r)
 
 -- ---- the kind of a row, from its number
 
@@ -57,29 +57,29 @@ unfolding kind_at
 kind-numbered rows row p key e = ap kind_of (sym p ∙ e)
 
 -- The numbers that some kinds have: `these` tells the kinds, `numbers` their numbers.
-numbers_of : (these : Kind → Bool) (numbers : ℕ → Bool) → everyLine (λ number kind. pick (these kind) (numbers number) true) kinds ≡ true → these Other ≡ false
+numbers-of : (these : Kind → Bool) (numbers : ℕ → Bool) → every_line (λ number kind. pick (these kind) (numbers number) true) kinds ≡ true → these Other ≡ false
     → (number : ℕ) → these (kind_of number) ≡ true → numbers number ≡ true
-numbers_of these numbers passed other number t = rw t at (every-number (λ number kind. pick (these kind) (numbers number) true) passed (λ number. rw other) number)
+numbers-of these numbers passed other number t = rw t at (every-number (λ number kind. pick (these kind) (numbers number) true) passed (λ number. rw other) number)
 
 pub between-both : (least most number : ℕ) → between least most number ≡ true → (least ≤ number) × (number ≤ most)
 between-both least most number e = let parts = both _ _ e in (leb-true least number parts.0, leb-true number most parts.1)
 
 -- A number that no expression has, and one that no statement has.
-pub no-expression : (number : ℕ) → ((1 ≤ number) × (number ≤ 31) → ⊥) → isExpressionKind (kind_of number) ≡ false
-unfolding everyLine kinds
+pub no-expression : (number : ℕ) → ((1 ≤ number) × (number ≤ 31) → ⊥) → is_expression_kind (kind_of number) ≡ false
+unfolding every_line kinds
 no-expression number beyond =
-    by_cases (isExpressionKind (kind_of number)) (λ e. absurd (beyond (between-both 1 31 number (numbers_of isExpressionKind (between 1 31) refl refl number e)))) (λ e. e)
+    by_cases (is_expression_kind (kind_of number)) (λ e. absurd (beyond (between-both 1 31 number (numbers-of is_expression_kind (between 1 31) refl refl number e)))) (λ e. e)
 
 -- The numbers of statements, marks and definitions apart.
-abbrev statementNumbers : ℕ → Bool
-statementNumbers n = between 40 47 n || (between 50 52 n || (between 54 55 n || (between 57 58 n || eqb n 60)))
+abbrev statement_numbers : ℕ → Bool
+statement_numbers n = between 40 47 n || (between 50 52 n || (between 54 55 n || (between 57 58 n || eqb n 60)))
 
 pub no-statement : (number : ℕ) → ((40 ≤ number) × (number ≤ 47) → ⊥) → ((50 ≤ number) × (number ≤ 52) → ⊥) → ((54 ≤ number) × (number ≤ 55) → ⊥) → ((57 ≤ number) × (number ≤ 58) → ⊥) → (number ≡ 60 → ⊥)
-    → isStatementKind (kind_of number) ≡ false
-unfolding everyLine kinds
+    → is_statement_kind (kind_of number) ≡ false
+unfolding every_line kinds
 no-statement number plain jumps guarded others last =
-    by_cases (isStatementKind (kind_of number))
-    (λ e. let inside = numbers_of isStatementKind statementNumbers refl refl number e in
+    by_cases (is_statement_kind (kind_of number))
+    (λ e. let inside = numbers-of is_statement_kind statement_numbers refl refl number e in
     by_cases (between 40 47 number) (λ t. absurd (plain (between-both 40 47 number t)))
     (λ t. by_cases (between 50 52 number) (λ u. absurd (jumps (between-both 50 52 number u)))
     (λ u. by_cases (between 54 55 number) (λ v. absurd (guarded (between-both 54 55 number v)))
@@ -88,45 +88,45 @@ no-statement number plain jumps guarded others last =
     (λ e. e)
 
 -- A place is a variable or an element.
-pub place-cases : {A : Type 0} (number : ℕ) → isPlaceKind (kind_of number) ≡ true → (number ≡ 2 → A) → (number ≡ 3 → A) → A
-unfolding everyLine kinds isPlaceKind sortIn kindRow expressionFields statementFields markFields definitionFields memberFields
+pub place-cases : {A : Type 0} (number : ℕ) → is_place_kind (kind_of number) ≡ true → (number ≡ 2 → A) → (number ≡ 3 → A) → A
+unfolding every_line kinds is_place_kind sort_in kind_row expression_fields statement_fields mark_fields definition_fields member_fields
 place-cases number e f g =
-    let inside = between-both 2 3 number (numbers_of isPlaceKind (between 2 3) refl refl number e) in
+    let inside = between-both 2 3 number (numbers-of is_place_kind (between 2 3) refl refl number e) in
     by_cases (eqb number 2) (λ t. f (eqb-true number 2 t)) (λ t. g (omega (arith, eqb-false number 2 t, inside.0, inside.1)))
 
 -- An arm's row is of the kind of arms.
-abbrev ownArm : ℕ → Kind → Bool
-ownArm number kind = pick (eqb (sortIn kind 0) arm_row) (eqb number 56) true
+abbrev own_arm : ℕ → Kind → Bool
+own_arm number kind = pick (eqb (sort_in kind 0) arm_row) (eqb number 56) true
 
-pub arm-kind : (number : ℕ) → eqb (sortIn (kind_of number) 0) arm_row ≡ true → kind_of number ≡ OfMember Arm
-unfolding everyLine kinds kind_of kindIn sortIn kindRow expressionFields statementFields markFields definitionFields memberFields
-arm-kind number e = rw (eqb-true number 56 (rw e at (every-number ownArm refl (λ n. refl) number)))
+pub arm-kind : (number : ℕ) → eqb (sort_in (kind_of number) 0) arm_row ≡ true → kind_of number ≡ OfMember Arm
+unfolding every_line kinds kind_of kind_in sort_in kind_row expression_fields statement_fields mark_fields definition_fields member_fields
+arm-kind number e = rw (eqb-true number 56 (rw e at (every-number own_arm refl (λ n. refl) number)))
 
 -- An argument's row is of the kind of arguments.
-abbrev ownArgument : ℕ → Kind → Bool
-ownArgument number kind = pick (eqb (sortIn kind 0) argumentRow) (eqb number 32) true
+abbrev own_argument : ℕ → Kind → Bool
+own_argument number kind = pick (eqb (sort_in kind 0) argument_row) (eqb number 32) true
 
-pub argument-kind : (number : ℕ) → eqb (sortIn (kind_of number) 0) argumentRow ≡ true → kind_of number ≡ OfMember Argument
-unfolding everyLine kinds kind_of kindIn sortIn kindRow expressionFields statementFields markFields definitionFields memberFields
-argument-kind number e = rw (eqb-true number 32 (rw e at (every-number ownArgument refl (λ n. refl) number)))
+pub argument-kind : (number : ℕ) → eqb (sort_in (kind_of number) 0) argument_row ≡ true → kind_of number ≡ OfMember Argument
+unfolding every_line kinds kind_of kind_in sort_in kind_row expression_fields statement_fields mark_fields definition_fields member_fields
+argument-kind number e = rw (eqb-true number 32 (rw e at (every-number own_argument refl (λ n. refl) number)))
 
 -- The number of a mark.
-abbrev pub markNumber : MarkKind → ℕ
-markNumber Case = 48
-markNumber Default = 49
-markNumber Label = 53
+abbrev pub mark_number : MarkKind → ℕ
+mark_number Case = 48
+mark_number Default = 49
+mark_number Label = 53
 
-abbrev ownNumber : ℕ → Kind → Bool
-ownNumber number (OfExpression kind) = true
-ownNumber number (OfStatement kind) = true
-ownNumber number (OfMark kind) = eqb number (markNumber kind)
-ownNumber number (OfMember kind) = true
-ownNumber number Definition = true
-ownNumber number Other = true
+abbrev own_number : ℕ → Kind → Bool
+own_number number (OfExpression kind) = true
+own_number number (OfStatement kind) = true
+own_number number (OfMark kind) = eqb number (mark_number kind)
+own_number number (OfMember kind) = true
+own_number number Definition = true
+own_number number Other = true
 
-pub mark-number : (number : ℕ) {kind : MarkKind} → kind_of number ≡ OfMark kind → number ≡ markNumber kind
-unfolding everyLine kinds
-mark-number number {kind} k = eqb-true number (markNumber kind) (rw k at (every-number ownNumber refl (λ n. refl) number))
+pub mark-number : (number : ℕ) {kind : MarkKind} → kind_of number ≡ OfMark kind → number ≡ mark_number kind
+unfolding every_line kinds
+mark-number number {kind} k = eqb-true number (mark_number kind) (rw k at (every-number own_number refl (λ n. refl) number))
 
 -- ---- kinds that differ in an operator
 
@@ -141,25 +141,25 @@ each from (suc more) holds e k p q =
     by_cases (eqb k from) (λ t. rw (eqb-true k from t) e.0) (λ t. each (suc from) more holds e.1 k (omega (arith, eqb-false k from t)) (omega arith))
 
 -- The kinds from `first` to `last` have the operators in their order.
-ranged : (first last : ℕ) (kind : Operator → Kind) → Each first (last - first) (λ n. kind_of n ≡ kind (operatorOf (n - first)))
-    → (number : ℕ) → first ≤ number → number ≤ last → kind_of number ≡ kind (operatorOf (number - first))
-ranged first last kind lines number p q = each first (last - first) (λ n. kind_of n ≡ kind (operatorOf (n - first))) lines number p (omega arith)
+ranged : (first last : ℕ) (kind : Operator → Kind) → Each first (last - first) (λ n. kind_of n ≡ kind (operator_of (n - first)))
+    → (number : ℕ) → first ≤ number → number ≤ last → kind_of number ≡ kind (operator_of (number - first))
+ranged first last kind lines number p q = each first (last - first) (λ n. kind_of n ≡ kind (operator_of (n - first))) lines number p (omega arith)
 
 module _ (number : ℕ) where
-  pub binary-kind : 6 ≤ number → number ≤ 16 → kind_of number ≡ OfExpression (Binary (operatorOf (number - 6)))
-  unfolding kinds kindIn kind_of operators operatorOf
+  pub binary-kind : 6 ≤ number → number ≤ 16 → kind_of number ≡ OfExpression (Binary (operator_of (number - 6)))
+  unfolding kinds kind_in kind_of operators operator_of
   binary-kind p q = ranged 6 16 (λ o. OfExpression (Binary o)) (refl, (refl, (refl, (refl, (refl, (refl, (refl, (refl, (refl, (refl, refl)))))))))) number p q
 
-  pub compound-kind : 22 ≤ number → number ≤ 26 → kind_of number ≡ OfExpression (Compound (operatorOf (number - 22)))
-  unfolding kinds kindIn kind_of operators operatorOf
+  pub compound-kind : 22 ≤ number → number ≤ 26 → kind_of number ≡ OfExpression (Compound (operator_of (number - 22)))
+  unfolding kinds kind_in kind_of operators operator_of
   compound-kind p q = ranged 22 26 (λ o. OfExpression (Compound o)) (refl, (refl, (refl, (refl, refl)))) number p q
 
-  pub prefix-kind : 27 ≤ number → number ≤ 28 → kind_of number ≡ OfExpression (Prefix (operatorOf (number - 27)))
-  unfolding kinds kindIn kind_of operators operatorOf
+  pub prefix-kind : 27 ≤ number → number ≤ 28 → kind_of number ≡ OfExpression (Prefix (operator_of (number - 27)))
+  unfolding kinds kind_in kind_of operators operator_of
   prefix-kind p q = ranged 27 28 (λ o. OfExpression (Prefix o)) (refl, refl) number p q
 
-  pub postfix-kind : 29 ≤ number → number ≤ 30 → kind_of number ≡ OfExpression (Postfix (operatorOf (number - 29)))
-  unfolding kinds kindIn kind_of operators operatorOf
+  pub postfix-kind : 29 ≤ number → number ≤ 30 → kind_of number ≡ OfExpression (Postfix (operator_of (number - 29)))
+  unfolding kinds kind_in kind_of operators operator_of
   postfix-kind p q = ranged 29 30 (λ o. OfExpression (Postfix o)) (refl, refl) number p q
 
 -- ---- what the last arm of a match knows: the number is none of those before it
@@ -193,20 +193,20 @@ is_call (Prefix operator) = false
 is_call (Postfix operator) = false
 is_call Call = true
 
-abbrev ownFunction : ℕ → Kind → Bool
-ownFunction number (OfExpression kind) = pick (is_call kind) (isFunctionNumber number) true
-ownFunction number (OfStatement kind) = true
-ownFunction number (OfMark kind) = true
-ownFunction number (OfMember kind) = true
-ownFunction number Definition = isFunctionNumber number
-ownFunction number Other = true
+abbrev own_function : ℕ → Kind → Bool
+own_function number (OfExpression kind) = pick (is_call kind) (is_function_number number) true
+own_function number (OfStatement kind) = true
+own_function number (OfMark kind) = true
+own_function number (OfMember kind) = true
+own_function number Definition = is_function_number number
+own_function number Other = true
 
-own-function : (number : ℕ) → ownFunction number (kind_of number) ≡ true
-unfolding everyLine kinds isFunctionNumber
-own-function number = every-number ownFunction refl (λ n. refl) number
+own-function : (number : ℕ) → own_function number (kind_of number) ≡ true
+unfolding every_line kinds is_function_number
+own-function number = every-number own_function refl (λ n. refl) number
 
-pub definition-number : (number : ℕ) → kind_of number ≡ Definition → isFunctionNumber number ≡ true
+pub definition-number : (number : ℕ) → kind_of number ≡ Definition → is_function_number number ≡ true
 definition-number number k = rw k at (own-function number)
 
-pub call-number : (number : ℕ) → kind_of number ≡ OfExpression Call → isFunctionNumber number ≡ true
+pub call-number : (number : ℕ) → kind_of number ≡ OfExpression Call → is_function_number number ≡ true
 call-number number k = rw k at (own-function number)

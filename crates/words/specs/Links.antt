@@ -3,52 +3,52 @@
 use Rattle.std.specs.Prelude.{Bool, false, ◌&&◌, ◌||◌, List, ℕ, zero, suc, ◌*◌, ◌/◌, ◌%◌, eqb, ℤ}
 use Rattle.words.specs.Word.{pick}
 use Rattle.words.specs.Table.{number_at}
-use Rattle.words.specs.Declarations.{isDeclaration}
-use Rattle.words.specs.Kinds.{expression, optionalExpression, place, optionalItem, bodyBlock, optionalArm, optionalArgument, optionalParameter, absentLink, expressionRow, placeRow, statementRow, arm_row, argumentRow, between, isLink, sortAt}
+use Rattle.words.specs.Declarations.{is_declaration}
+use Rattle.words.specs.Kinds.{expression, optional_expression, place, optional_item, body_block, optional_arm, optional_argument, optional_parameter, absent_link, expression_row, place_row, statement_row, arm_row, argument_row, between, is_link, sort_at}
 use Rattle.words.specs.Search.{lowest}
 use Rattle.words.specs.declared.Found.{Found}
 use Rattle.words.specs.declared.Found.TheVariants.{At, Nothing}
 
 -- "Kinds 1 to 30 are expressions", places among them, and so is a call; "the rest statements".
-unfoldable pub isExpression : List ℤ → ℕ → Bool
-isExpression rows row = between expressionRow placeRow (sortAt rows row 0)
+unfoldable pub is_expression : List ℤ → ℕ → Bool
+is_expression rows row = between expression_row place_row (sort_at rows row 0)
 
 -- "'Place' means a row of kind 2 or 3."
-unfoldable pub isPlace : List ℤ → ℕ → Bool
-isPlace rows row = eqb (sortAt rows row 0) placeRow
+unfoldable pub is_place : List ℤ → ℕ → Bool
+is_place rows row = eqb (sort_at rows row 0) place_row
 
-unfoldable pub isStatement : List ℤ → ℕ → Bool
-isStatement rows row = eqb (sortAt rows row 0) statementRow
+unfoldable pub is_statement : List ℤ → ℕ → Bool
+is_statement rows row = eqb (sort_at rows row 0) statement_row
 
-unfoldable pub isBlock : List ℤ → ℕ → Bool
-isBlock rows row = eqb (number_at rows row 0) 42
+unfoldable pub is_block : List ℤ → ℕ → Bool
+is_block rows row = eqb (number_at rows row 0) 42
 
-unfoldable pub isArm : List ℤ → ℕ → Bool
-isArm rows row = eqb (sortAt rows row 0) arm_row
+unfoldable pub is_arm : List ℤ → ℕ → Bool
+is_arm rows row = eqb (sort_at rows row 0) arm_row
 
-unfoldable pub isArgument : List ℤ → ℕ → Bool
-isArgument rows row = eqb (sortAt rows row 0) argumentRow
+unfoldable pub is_argument : List ℤ → ℕ → Bool
+is_argument rows row = eqb (sort_at rows row 0) argument_row
 
 -- The row that a field links; "0 means absent".
 unfoldable pub link : List ℤ → ℕ → ℕ → ℕ
-link rows row field = pick (isLink (sortAt rows row field)) (number_at rows row field) 0
+link rows row field = pick (is_link (sort_at rows row field)) (number_at rows row field) 0
 
 -- The same for links to members, and to branches and bodies: "a branch or body" has next 0. "An arm elsewhere, or another kind among arms,
 -- gets 4." Arguments likewise: "elsewhere, or another kind among arguments, 4". A parameter is of kind 58, "else 4".
-abbrev pub fitsPart : List ℤ → ℕ → ℕ → Bool
-fitsPart rows sort row =
-    pick (eqb sort optionalArm) (isArm rows row)
-    (pick (eqb sort optionalArgument) (isArgument rows row)
-    (pick (eqb sort optionalParameter) (isDeclaration rows row)
-    (pick (eqb sort absentLink) false
-    (pick (eqb sort bodyBlock) (isBlock rows row) (isStatement rows row) && eqb (number_at rows row 5) 0))))
+abbrev pub fits_part : List ℤ → ℕ → ℕ → Bool
+fits_part rows sort row =
+    pick (eqb sort optional_arm) (is_arm rows row)
+    (pick (eqb sort optional_argument) (is_argument rows row)
+    (pick (eqb sort optional_parameter) (is_declaration rows row)
+    (pick (eqb sort absent_link) false
+    (pick (eqb sort body_block) (is_block rows row) (is_statement rows row) && eqb (number_at rows row 5) 0))))
 
 -- A row is of the sort that a link asks for.
 unfoldable pub fits : List ℤ → ℕ → ℕ → Bool
 fits rows sort row =
-    pick (eqb sort expression || eqb sort optionalExpression) (isExpression rows row)
-    (pick (eqb sort place) (isPlace rows row)
-    (pick (eqb sort optionalItem) (isStatement rows row) (fitsPart rows sort row)))
+    pick (eqb sort expression || eqb sort optional_expression) (is_expression rows row)
+    (pick (eqb sort place) (is_place rows row)
+    (pick (eqb sort optional_item) (is_statement rows row) (fits_part rows sort row)))
 
 -- ---- along the links
 
@@ -67,9 +67,9 @@ received hand first note_of Nothing = first
 received hand first note_of (At word) = hand (word / 6) (word % 6) (note_of (word / 6))
 
 -- Links lead to later rows, so `row` links are enough to come from row 0 to a row.
-unfoldable pub noteBy : ℕ → (ℕ → ℕ → ℕ → ℕ) → ℕ → List ℤ → ℕ → ℕ
-noteBy zero hand first rows row = first
-noteBy (suc links) hand first rows row = received hand first (noteBy links hand first rows) (linker rows row)
+unfoldable pub note_by : ℕ → (ℕ → ℕ → ℕ → ℕ) → ℕ → List ℤ → ℕ → ℕ
+note_by zero hand first rows row = first
+note_by (suc links) hand first rows row = received hand first (note_by links hand first rows) (linker rows row)
 
 unfoldable pub note : (ℕ → ℕ → ℕ → ℕ) → ℕ → List ℤ → ℕ → ℕ
-note hand first rows row = noteBy row hand first rows row
+note hand first rows row = note_by row hand first rows row

@@ -1,7 +1,7 @@
 -- Numbers: an entry's answer in document 01's numbers. Cause 0 means that the entry did its work, and two values say what it gave;
 -- else the cause's number, with the place as the first value.
 use Rattle.std.specs.Prelude.{ℕ}
-use Rattle.words.specs.Answers.{endingNumber}
+use Rattle.words.specs.Answers.{ending_number}
 use Rattle.words.specs.declared.Verdict.{Verdict}
 use Rattle.words.specs.declared.Verdict.TheVariants.{Accepted, Refused}
 use Rattle.words.specs.declared.RunVerdict.{RunVerdict}
@@ -19,11 +19,11 @@ abbrev pub refused : ℕ → ℕ → Numbers
 refused number place = record { cause = number; first = place; second = 0 }
 
 -- A check: nothing more than acceptance, or the refusal.
-abbrev pub verdictNumbers : Verdict → Numbers
-verdictNumbers Accepted = done 0 0
-verdictNumbers (Refused refusal) = refused refusal.number refusal.place
+abbrev pub verdict_numbers : Verdict → Numbers
+verdict_numbers Accepted = done 0 0
+verdict_numbers (Refused refusal) = refused refusal.number refusal.place
 
 -- A run: the ending's number and the count, or the refusal.
-abbrev pub runNumbers : RunVerdict → Numbers
-runNumbers (Ran run) = done (endingNumber run.ending) run.count
-runNumbers (RunRefused refusal) = refused refusal.number refusal.place
+abbrev pub run_numbers : RunVerdict → Numbers
+run_numbers (Ran run) = done (ending_number run.ending) run.count
+run_numbers (RunRefused refusal) = refused refusal.number refusal.place

@@ -58,8 +58,8 @@ module _ {A : Type 0} where
   pub part-is : (k : ℕ) (l : List A) → part k l ≡ drop k l
   part-is k l = rest_of l k
 
-  rest-is : (k : ℕ) (l : List A) → post_of k (length l - k) l ≡ []
-  rest-is k l = drop_of_length-le (drop k l) {i = length l - k} (rw length-drop (omega arith))
+  rest_is : (k : ℕ) (l : List A) → post_of k (length l - k) l ≡ []
+  rest_is k l = drop_of_length-le (drop k l) {i = length l - k} (rw length-drop (omega arith))
 
   -- values v written from k on, after k values u were written from the start
   pub over-next : (u v l l1 l2 : List A) (k : ℕ) → k ≡ length u → l1 ≡ over u l → l2 ≡ over v (part k l1) → back_in k l1 l2 ≡ over (u ++ v) l
@@ -69,4 +69,4 @@ module _ {A : Type 0} where
       let d : drop k l1 ≡ drop k l = rw e1 (drop_at u _ k h ∙ ap (λ (n : ℕ). drop n l) h) in
       let t : take k l1 ≡ u = rw e1 (take_at u _ k h) in
       let e : l2 ≡ v ++ drop (length v) (drop k l) = e2 ∙ ap (λ (m : List A). v ++ drop (length v) m) (part-is k l1 ∙ d) in
-      rw (rest-is k l1) (simp (append-nil, t, e, drop-drop, length-append, append_assoc, h))
+      rw (rest_is k l1) (simp (append-nil, t, e, drop-drop, length-append, append_assoc, h))

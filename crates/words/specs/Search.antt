@@ -1,7 +1,7 @@
 -- Searches: the lowest number, or the lowest row, with a property.
 use Rattle.std.specs.Prelude.{Bool, true, false, List, ℕ, zero, suc, ◌+◌, ℤ}
 use Rattle.words.specs.Word.{pick}
-use Rattle.words.specs.Table.{rowCount}
+use Rattle.words.specs.Table.{row_count}
 use Rattle.words.specs.declared.Found.{Found}
 use Rattle.words.specs.declared.Found.TheVariants.{At, Nothing}
 
@@ -16,9 +16,9 @@ some property from zero = false
 some property from (suc count) = let rest = some property (from + 1) count in pick (property from) true rest
 
 -- ".. then the lowest row."
-unfoldable pub lowestRow : List ℤ → (ℕ → Bool) → Found
-lowestRow rows property = lowest property 0 (rowCount rows)
+unfoldable pub lowest_row : List ℤ → (ℕ → Bool) → Found
+lowest_row rows property = lowest property 0 (row_count rows)
 
 -- One of a row's six fields has the property.
-unfoldable pub someField : (ℕ → Bool) → Bool
-someField property = some property 0 6
+unfoldable pub some_field : (ℕ → Bool) → Bool
+some_field property = some property 0 6

@@ -7,8 +7,8 @@ use native.Mathlib.Omega.{arith}
 use Rattle.std.proofs.Math.Decide.{ℕ_discrete}
 use Rattle.std.proofs.Math.Arith.{lt_of_le-ne}
 use Rattle.words.specs.Word.{pick}
-use Rattle.words.specs.Table.{rowCount}
-use Rattle.words.specs.Search.{lowest, some, lowestRow, someField}
+use Rattle.words.specs.Table.{row_count}
+use Rattle.words.specs.Search.{lowest, some, lowest_row, some_field}
 use Rattle.words.specs.declared.Found.{Found}
 use Rattle.words.specs.declared.Found.TheVariants.{At, Nothing}
 
@@ -137,21 +137,21 @@ all-some p zero j h = refl
 all-some p (suc d) j h = rw (h j (omega arith) (omega arith)) (all-some p d (j + 1) (λ i a b. h i (omega arith) (omega arith)))
 
 -- the same for rows, and for the fields of a row
-pub lowestRow-all : (rows : List ℤ) (p : ℕ → Bool) → lowestRow rows p ≡ Nothing → (row : ℕ) → row < rowCount rows → p row ≡ false
-unfolding lowestRow
-lowestRow-all rows p e row h = lowest-all p (rowCount rows) 0 e row (omega arith) (omega arith)
+pub lowest_row-all : (rows : List ℤ) (p : ℕ → Bool) → lowest_row rows p ≡ Nothing → (row : ℕ) → row < row_count rows → p row ≡ false
+unfolding lowest_row
+lowest_row-all rows p e row h = lowest-all p (row_count rows) 0 e row (omega arith) (omega arith)
 
-pub all-lowestRow : (rows : List ℤ) (p : ℕ → Bool) → ((row : ℕ) → row < rowCount rows → p row ≡ false) → lowestRow rows p ≡ Nothing
-unfolding lowestRow
-all-lowestRow rows p h = all-lowest p (rowCount rows) 0 (λ i a b. h i (omega arith))
+pub all-lowest_row : (rows : List ℤ) (p : ℕ → Bool) → ((row : ℕ) → row < row_count rows → p row ≡ false) → lowest_row rows p ≡ Nothing
+unfolding lowest_row
+all-lowest_row rows p h = all-lowest p (row_count rows) 0 (λ i a b. h i (omega arith))
 
-pub someField-all : (p : ℕ → Bool) → someField p ≡ false → (field : ℕ) → field < 6 → p field ≡ false
-unfolding someField
-someField-all p e field h = some-all p 6 0 e field (omega arith) h
+pub some_field-all : (p : ℕ → Bool) → some_field p ≡ false → (field : ℕ) → field < 6 → p field ≡ false
+unfolding some_field
+some_field-all p e field h = some-all p 6 0 e field (omega arith) h
 
-pub all-someField : (p : ℕ → Bool) → ((field : ℕ) → field < 6 → p field ≡ false) → someField p ≡ false
-unfolding someField
-all-someField p h = all-some p 6 0 (λ i a b. h i b)
+pub all-some_field : (p : ℕ → Bool) → ((field : ℕ) → field < 6 → p field ≡ false) → some_field p ≡ false
+unfolding some_field
+all-some_field p h = all-some p 6 0 (λ i a b. h i b)
 
 -- ---- what a search finds
 
@@ -179,6 +179,6 @@ unfolding lowest
 lowest-same p q zero j h = refl
 lowest-same p q (suc d) j h = rw (h j (omega arith), lowest-same p q d (j + 1) (λ i k. h i (omega arith)))
 
-pub lowestRow-same : (rows : List ℤ) (p q : ℕ → Bool) → ((row : ℕ) → row < rowCount rows → p row ≡ q row) → lowestRow rows p ≡ lowestRow rows q
-unfolding lowestRow
-lowestRow-same rows p q h = lowest-same p q (rowCount rows) 0 (λ i k. h i (omega arith))
+pub lowest_row-same : (rows : List ℤ) (p q : ℕ → Bool) → ((row : ℕ) → row < row_count rows → p row ≡ q row) → lowest_row rows p ≡ lowest_row rows q
+unfolding lowest_row
+lowest_row-same rows p q h = lowest-same p q (row_count rows) 0 (λ i k. h i (omega arith))

@@ -3,15 +3,15 @@ use Rattle.std.specs.Prelude.{Bool, true, false, ℕ, ◌^◌, ltb, eqb, ℤ, po
 use Rattle.std.specs.Int.Signed.{mag}
 
 -- "Values are signed 32-bit integers": −2147483648 to 2147483647. (`mag` is n for n, and for −(n + 1).)
-unfoldable pub isWord : ℤ → Bool
-isWord z = ltb (mag z) (2 ^ 31)
+unfoldable pub is_word : ℤ → Bool
+is_word z = ltb (mag z) (2 ^ 31)
 
 -- Two words are equal.
-unfoldable pub sameWord : ℤ → ℤ → Bool
-sameWord (pos m) (pos n) = eqb m n
-sameWord (pos m) (negsuc n) = false
-sameWord (negsuc m) (pos n) = false
-sameWord (negsuc m) (negsuc n) = eqb m n
+unfoldable pub same_word : ℤ → ℤ → Bool
+same_word (pos m) (pos n) = eqb m n
+same_word (pos m) (negsuc n) = false
+same_word (negsuc m) (pos n) = false
+same_word (negsuc m) (negsuc n) = eqb m n
 
 -- The number that a word names, as a link, an index, a variable, array or label number. A negative word names nothing: it
 -- is read as 2 ^ 32, which is above every limit.

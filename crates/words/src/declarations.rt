@@ -1,7 +1,7 @@
 // Which rows are declarations, and how many there are.
 ghost use Rattle.std.specs.Prelude.{◌≡◌, ◌+◌, ◌*◌, ◌<◌, ◌≤◌, length};
 ghost use Rattle.words.specs.Word.{one};
-ghost use Rattle.words.specs.Declarations.{isDeclaration, declarationCount};
+ghost use Rattle.words.specs.Declarations.{is_declaration, declaration_count};
 
 use super::table::number_at;
 
@@ -10,7 +10,7 @@ const DECLARATION: usize = 58;
 
 pub fn is_declaration(rows: &[i32], row: usize) -> bool
     requires { 6 * row < length rows.now }
-    ensures { result ≡ isDeclaration rows.now row }
+    ensures { result ≡ is_declaration rows.now row }
 {
     number_at(rows, row, 0) == DECLARATION
 }
@@ -18,7 +18,7 @@ pub fn is_declaration(rows: &[i32], row: usize) -> bool
 // One row more.
 pub fn counted(rows: &[i32], row: usize, count: usize) -> usize
     requires { (6 * row < length rows.now) × (count ≤ row) }
-    ensures { result ≡ count + one (isDeclaration rows.now row) }
+    ensures { result ≡ count + one (is_declaration rows.now row) }
 {
     if is_declaration(rows, row) {
         return count + 1;
@@ -28,7 +28,7 @@ pub fn counted(rows: &[i32], row: usize, count: usize) -> usize
 
 // D: how many declarations a table has.
 pub fn declaration_count(rows: &[i32]) -> usize
-    ensures { result ≡ declarationCount rows.now }
+    ensures { result ≡ declaration_count rows.now }
 {
     let mut count: usize = 0;
     for row in 0..rows.len() / 6 {

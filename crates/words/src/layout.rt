@@ -1,7 +1,7 @@
 // The header's limits, and the sizes it gives.
 ghost use Rattle.std.specs.Prelude.{◌≡◌, true, ◌&&◌, map, ◌+◌, ◌*◌, ◌<◌, ◌≤◌, leb, length};
-ghost use Rattle.words.specs.Word.{natural as naturalOf};
-ghost use Rattle.words.specs.Layout.{leading as leadingOf, rowLimit, kernelNumber, declaredOf, temporariesOf, layout_of, sum, storeSize, headerStore, store_words, allWithin, headerFits, countFits};
+ghost use Rattle.words.specs.Word.{natural as natural_of};
+ghost use Rattle.words.specs.Layout.{leading as leading_of, row_limit, kernel_number, declared_of, temporaries_of, layout_of, sum, store_size, header_store, store_words, all_within, header_fits, count_fits};
 
 use super::Form;
 use super::declarations::declaration_count;
@@ -9,7 +9,7 @@ use super::table::natural;
 
 // How many words the header has before the array lengths.
 pub fn leading(form: Form) -> usize
-    ensures { result ≡ leadingOf form }
+    ensures { result ≡ leading_of form }
 {
     match form {
         Form::Source => 1,
@@ -18,7 +18,7 @@ pub fn leading(form: Form) -> usize
 }
 
 pub fn row_limit(form: Form) -> usize
-    ensures { result ≡ rowLimit form }
+    ensures { result ≡ row_limit form }
 {
     match form {
         Form::Source => 2048,
@@ -28,8 +28,8 @@ pub fn row_limit(form: Form) -> usize
 
 // A number of a kernel's header, by its place before the array lengths; 0 in the source form.
 fn kernel_number(form: Form, header: &[i32], place: usize) -> usize
-    requires { (leadingOf form ≤ length header.now) × (place < 3) }
-    ensures { result ≡ kernelNumber form header.now place }
+    requires { (leading_of form ≤ length header.now) × (place < 3) }
+    ensures { result ≡ kernel_number form header.now place }
 {
     match form {
         Form::Source => 0,
@@ -39,16 +39,16 @@ fn kernel_number(form: Form, header: &[i32], place: usize) -> usize
 
 // D, or 0 in the source form, whose rows say it.
 pub fn declared(form: Form, header: &[i32]) -> usize
-    requires { leadingOf form ≤ length header.now }
-    ensures { result ≡ declaredOf form header.now }
+    requires { leading_of form ≤ length header.now }
+    ensures { result ≡ declared_of form header.now }
 {
     kernel_number(form, header, 1)
 }
 
 // T, or 0 in the source form.
 pub fn temporaries(form: Form, header: &[i32]) -> usize
-    requires { leadingOf form ≤ length header.now }
-    ensures { result ≡ temporariesOf form header.now }
+    requires { leading_of form ≤ length header.now }
+    ensures { result ≡ temporaries_of form header.now }
 {
     kernel_number(form, header, 2)
 }
@@ -56,7 +56,7 @@ pub fn temporaries(form: Form, header: &[i32]) -> usize
 // The array lengths are within their limits, and with the variables the store is.
 fn lengths_fit(lengths: &[i32], variables: usize) -> bool
     requires { (length lengths.now ≤ 32) × (variables ≤ 256) }
-    ensures { result ≡ (allWithin 4096 (map naturalOf lengths.now) && leb (variables + sum (map naturalOf lengths.now)) 8192) }
+    ensures { result ≡ (all_within 4096 (map natural_of lengths.now) && leb (variables + sum (map natural_of lengths.now)) 8192) }
 {
     let mut total = variables;
     let mut i: usize = 0;
@@ -76,7 +76,7 @@ fn lengths_fit(lengths: &[i32], variables: usize) -> bool
 
 // Cause 1: the header is within its limits.
 pub fn header_fits(form: Form, header: &[i32]) -> bool
-    ensures { result ≡ headerFits form header.now }
+    ensures { result ≡ header_fits form header.now }
 {
     let first = leading(form);
     let n = header.len();
@@ -101,7 +101,7 @@ pub fn header_fits(form: Form, header: &[i32]) -> bool
 
 // Cause 2: a table of so many words has as many rows as its form may.
 pub fn count_fits(form: Form, words: usize) -> bool
-    ensures { result ≡ countFits form words }
+    ensures { result ≡ count_fits form words }
 {
     if words < 6 {
         return false;
@@ -114,8 +114,8 @@ pub fn count_fits(form: Form, words: usize) -> bool
 
 // The sum of the array lengths.
 fn sum_of(lengths: &[i32]) -> usize
-    requires { sum (map naturalOf lengths.now) ≤ 8192 }
-    ensures { result ≡ sum (map naturalOf lengths.now) }
+    requires { sum (map natural_of lengths.now) ≤ 8192 }
+    ensures { result ≡ sum (map natural_of lengths.now) }
 {
     let mut total: usize = 0;
     let mut i: usize = 0;
@@ -128,8 +128,8 @@ fn sum_of(lengths: &[i32]) -> usize
 
 // S.
 pub fn store_size(form: Form, header: &[i32]) -> usize
-    requires { headerFits form header.now ≡ true }
-    ensures { result ≡ storeSize (layout_of form header.now) }
+    requires { header_fits form header.now ≡ true }
+    ensures { result ≡ store_size (layout_of form header.now) }
 {
     let first = leading(form);
     let total = sum_of(&header[first..]);
@@ -138,8 +138,8 @@ pub fn store_size(form: Form, header: &[i32]) -> usize
 
 // The store words that a header gives: S (source) or S+D+T (kernel).
 pub fn header_store(form: Form, header: &[i32]) -> usize
-    requires { headerFits form header.now ≡ true }
-    ensures { result ≡ headerStore form header.now }
+    requires { header_fits form header.now ≡ true }
+    ensures { result ≡ header_store form header.now }
 {
     let behind = declared(form, header) + temporaries(form, header);
     store_size(form, header) + behind
@@ -147,7 +147,7 @@ pub fn header_store(form: Form, header: &[i32]) -> usize
 
 // The words that a run's store has: with a word for each declaration in the source form.
 pub fn store_words(form: Form, header: &[i32], rows: &[i32]) -> usize
-    requires { headerFits form header.now ≡ true }
+    requires { header_fits form header.now ≡ true }
     ensures { result ≡ store_words form header.now rows.now }
 {
     match form {

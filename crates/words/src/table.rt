@@ -1,11 +1,11 @@
 // The words of a row, and the numbers they name.
 ghost use Rattle.std.specs.Prelude.{◌≡◌, ◌+◌, ◌*◌, ◌<◌, length};
-ghost use Rattle.words.specs.Word.{natural as naturalOf};
+ghost use Rattle.words.specs.Word.{natural as natural_of};
 ghost use Rattle.words.specs.Table.{word_at, number_at};
 
 // A word as a number. A negative word names nothing, and becomes a number above every limit.
 pub fn natural(word: i32) -> usize
-    ensures { result ≡ naturalOf word }
+    ensures { result ≡ natural_of word }
 {
     if word < 0 {
         return 4294967296;

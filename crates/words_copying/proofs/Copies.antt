@@ -19,9 +19,9 @@ put-more d s o i v h l e f =
     let p = paste-suc d 0 s i (pos 0) (omega arith) h in
     rw (e, f, add-one) (ap (λ (k : ℕ). set (paste d 0 s i) k (get_or s i (pos 0))) (sym z) ∙ p)
 
-pub put_all : (d s : List ℤ) → paste d 0 s (length s) ≡ over s d
+pub put-all : (d s : List ℤ) → paste d 0 s (length s) ≡ over s d
 unfolding over
-put_all d s = rw (take-length, zero-add)
+put-all d s = rw (take-length, zero-add)
 
 pub put-kept : (d s o : List ℤ) (i : ℕ) → i ≤ length s → length s ≤ length d → o ≡ paste d 0 s i → length o ≡ length d
 put-kept d s o i h l e = ap length e ∙ length-paste d 0 s i (omega arith) h

@@ -1,4 +1,6 @@
 // Words copied to the start of a table.
+#![tactic(auto)]
+
 ghost use Rattle.std.specs.Prelude.{◌≡◌, ◌≤◌, length};
 ghost use Rattle.words.specs.Over.{over};
 

@@ -1,11 +1,13 @@
 // The endings of a run: the number of each, and the word that is printed for it.
+#![tactic(auto)]
+
 ghost use Rattle.std.specs.Prelude.{◌≡◌};
-ghost use Rattle.words.specs.Answers.{faultNumber, faultNumbered, faultName, endingNumber, endingName, Names};
+ghost use Rattle.words.specs.Answers.{fault_number, fault_numbered, fault_name, ending_number, ending_name, Names};
 
 use words::{Ending, FaultSort, Name};
 
 pub fn fault_number(sort: FaultSort) -> u32
-    ensures { result ≡ faultNumber sort }
+    ensures { result ≡ fault_number sort }
 {
     match sort {
         FaultSort::Overflow => 2,
@@ -17,7 +19,7 @@ pub fn fault_number(sort: FaultSort) -> u32
 
 // The fault with a number.
 pub fn fault_numbered(number: u64) -> FaultSort
-    ensures { result ≡ faultNumbered number }
+    ensures { result ≡ fault_numbered number }
 {
     match number {
         2 => FaultSort::Overflow,
@@ -28,7 +30,7 @@ pub fn fault_numbered(number: u64) -> FaultSort
 }
 
 pub fn fault_name(sort: FaultSort) -> Name
-    ensures { Names result (faultName sort) }
+    ensures { Names result (fault_name sort) }
 {
     match sort {
         FaultSort::Overflow => Name {
@@ -51,7 +53,7 @@ pub fn fault_name(sort: FaultSort) -> Name
 }
 
 pub fn ending_number(ending: Ending) -> u32
-    ensures { result ≡ endingNumber ending }
+    ensures { result ≡ ending_number ending }
 {
     match ending {
         Ending::Plain => 0,
@@ -61,7 +63,7 @@ pub fn ending_number(ending: Ending) -> u32
 }
 
 pub fn ending_name(ending: Ending) -> Name
-    ensures { Names result (endingName ending) }
+    ensures { Names result (ending_name ending) }
 {
     match ending {
         Ending::Plain => Name {

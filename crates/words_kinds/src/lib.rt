@@ -1,6 +1,8 @@
 // Kinds and operators by their numbers, and the kind of a row.
+#![tactic(auto)]
+
 ghost use Rattle.std.specs.Prelude.{◌≡◌, ◌*◌, ◌<◌, length};
-ghost use Rattle.words.specs.Kinds.{kind_of, kind_at, operatorOf};
+ghost use Rattle.words.specs.Kinds.{kind_of, kind_at, operator_of};
 
 use words::table::number_at;
 use words::{ExpressionKind, Kind, MarkKind, MemberKind, Operator, StatementKind};
@@ -76,7 +78,7 @@ pub fn kind_at(rows: &[i32], row: usize) -> Kind
 
 // The operator at a position of their order: kinds that differ in an operator stand in this order.
 pub fn operator_of(position: usize) -> Operator
-    ensures { result ≡ operatorOf position }
+    ensures { result ≡ operator_of position }
 {
     match position {
         0 => Operator::Add,

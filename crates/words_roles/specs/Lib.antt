@@ -7,8 +7,3 @@ pub mod Roles
 pub mod Demands
 -- Passes: what the pass that marks the parameters computes.
 pub mod Passes
--- ---- laws
--- Laws of roles: the search finds the parameters and no others; a field is a link in both roles or in neither.
-pub mod RoleLaws
--- Laws of the marks: one row after the other marks every parameter.
-pub mod MarkLaws

@@ -1,14 +1,16 @@
 // The two roles of kind 58: which rows are parameters, and the pass that marks them.
+#![tactic(auto)]
+
 ghost use Rattle.std.specs.Prelude.{◌≡◌, ◌+◌, ◌*◌, ◌/◌, ◌<◌, ◌≤◌, eqb, length, get_or};
-ghost use Rattle.words_roles.specs.Roles.{isDefinition};
-ghost use Rattle.words_roles.specs.Passes.{parameterLink, markedLink, Blank, Parameters};
+ghost use Rattle.words_roles.specs.Roles.{is_definition};
+ghost use Rattle.words_roles.specs.Passes.{parameter_link, marked_link, Blank, Parameters};
 
 use words::declarations::is_declaration;
 use words::table::number_at;
 
 pub fn is_definition(rows: &[i32], row: usize) -> bool
     requires { 6 * row < length rows.now }
-    ensures { result ≡ isDefinition rows.now row }
+    ensures { result ≡ is_definition rows.now row }
 {
     number_at(rows, row, 0) == 59
 }
@@ -16,7 +18,7 @@ pub fn is_definition(rows: &[i32], row: usize) -> bool
 // The row that a row makes a parameter, if it is a later one of kind 58. The row's own mark says whether it is a parameter.
 fn parameter_link(rows: &[i32], mark: u8, row: usize) -> usize
     requires { 6 * row + 5 < length rows.now }
-    ensures { result ≡ parameterLink (eqb mark 1) rows.now row }
+    ensures { result ≡ parameter_link (eqb mark 1) rows.now row }
 {
     if is_definition(rows, row) {
         return number_at(rows, row, 2);
@@ -30,7 +32,7 @@ fn parameter_link(rows: &[i32], mark: u8, row: usize) -> usize
 // Marks that row, if it is one.
 fn mark_link(rows: &[i32], marks: &mut [u8], row: usize, linked: usize)
     requires { length rows.now / 6 ≤ length marks.old }
-    ensures { marks.new ≡ markedLink rows.now row linked marks.old }
+    ensures { marks.new ≡ marked_link rows.now row linked marks.old }
 {
     if row < linked {
         if linked < rows.len() / 6 {

@@ -6,9 +6,9 @@ use Rattle.std.proofs.lemmas.Bool.{eqb-false}
 use Rattle.std.specs.Int.Bits.{bit_or, or_zero_l}
 use Rattle.words.specs.Word.{pick}
 use Rattle.words.specs.Laws.{by_cases}
-use Rattle.write_sets.specs.Bits.{hasBit, bit-or, bit-none, bit-single, bit-shift}
+use Rattle.write_sets.specs.Bits.{has_bit, bit-or, bit-none, bit-single, bit-shift}
 use Rattle.write_sets.specs.Named.{Named}
-use Rattle.write_sets.specs.Sets.{bit_of, word_of, member, variableBit, declaredBit, memberArray, nothing, join, bitIn, single}
+use Rattle.write_sets.specs.Sets.{bit_of, word_of, member, variable_bit, declared_bit, member_array, nothing, join, bit_in, single}
 use Rattle.write_sets.specs.declared.Bit.{Bit}
 use Rattle.write_sets.specs.declared.WriteSet.{WriteSet}
 
@@ -32,12 +32,12 @@ bit-behind S i h k = let same : i ≡ S + (i - S) = omega arith in ap (bit_of S)
 
 -- ---- the bits of a name's word
 
-pub member-variable : (S : ℕ) (s : WriteSet) (i : ℕ) → i < S → member S s i ≡ variableBit s i
-unfolding member variableBit
+pub member-variable : (S : ℕ) (s : WriteSet) (i : ℕ) → i < S → member S s i ≡ variable_bit s i
+unfolding member variable_bit
 member-variable S s i h = rw (bit-variable S i h)
 
-pub member-declared : (S : ℕ) (s : WriteSet) (i : ℕ) → i < 64 → member S s (S + i) ≡ declaredBit s i
-unfolding member declaredBit
+pub member-declared : (S : ℕ) (s : WriteSet) (i : ℕ) → i < 64 → member S s (S + i) ≡ declared_bit s i
+unfolding member declared_bit
 member-declared S s i h = rw (bit-declared S i h)
 
 -- ---- in either set
@@ -50,12 +50,12 @@ word-join a b (suc (suc (suc zero))) = refl
 word-join a b (suc (suc (suc (suc zero)))) = refl
 word-join a b (suc (suc (suc (suc (suc k))))) = sym (or_zero_l 0)
 
-pub variable-join : (a b : WriteSet) (i : ℕ) → variableBit (join a b) i ≡ (variableBit a i || variableBit b i)
-unfolding variableBit
-variable-join a b i = ap (λ (n : ℕ). hasBit n (i % 64)) (word-join a b (i / 64)) ∙ bit-or (word_of a (i / 64)) (word_of b (i / 64)) (i % 64)
+pub variable-join : (a b : WriteSet) (i : ℕ) → variable_bit (join a b) i ≡ (variable_bit a i || variable_bit b i)
+unfolding variable_bit
+variable-join a b i = ap (λ (n : ℕ). has_bit n (i % 64)) (word-join a b (i / 64)) ∙ bit-or (word_of a (i / 64)) (word_of b (i / 64)) (i % 64)
 
-pub declared-join : (a b : WriteSet) (i : ℕ) → declaredBit (join a b) i ≡ (declaredBit a i || declaredBit b i)
-unfolding declaredBit
+pub declared-join : (a b : WriteSet) (i : ℕ) → declared_bit (join a b) i ≡ (declared_bit a i || declared_bit b i)
+unfolding declared_bit
 declared-join a b i = bit-or a.word4 b.word4 i
 
 -- ---- in the empty set
@@ -68,17 +68,17 @@ word_none (suc (suc (suc zero))) = refl
 word_none (suc (suc (suc (suc zero)))) = refl
 word_none (suc (suc (suc (suc (suc k))))) = refl
 
-pub variable-nothing : (i : ℕ) → variableBit nothing i ≡ false
-unfolding variableBit
-variable-nothing i = ap (λ (n : ℕ). hasBit n (i % 64)) (word_none (i / 64)) ∙ bit-none (i % 64)
+pub variable-nothing : (i : ℕ) → variable_bit nothing i ≡ false
+unfolding variable_bit
+variable-nothing i = ap (λ (n : ℕ). has_bit n (i % 64)) (word_none (i / 64)) ∙ bit-none (i % 64)
 
-pub declared-nothing : (i : ℕ) → declaredBit nothing i ≡ false
-unfolding declaredBit
+pub declared-nothing : (i : ℕ) → declared_bit nothing i ≡ false
+unfolding declared_bit
 declared-nothing i = bit-none i
 
 -- ---- in a set of one
 
-word-single : (S i k : ℕ) → k < 5 → word_of (single S i) k ≡ bitIn S i k
+word-single : (S i k : ℕ) → k < 5 → word_of (single S i) k ≡ bit_in S i k
 word-single S i zero h = refl
 word-single S i (suc zero) h = refl
 word-single S i (suc (suc zero)) h = refl
@@ -87,7 +87,7 @@ word-single S i (suc (suc (suc (suc zero)))) h = refl
 word-single S i (suc (suc (suc (suc (suc k))))) h = absurd (omega arith)
 
 -- the bit at a place of a word, where the one bit stands at another or the same
-bit-alone : (at : Bit) (word place : ℕ) → hasBit (pick (eqb at.word word) (2 ^ at.place) 0) place ≡ (eqb at.word word && eqb at.place place)
+bit-alone : (at : Bit) (word place : ℕ) → has_bit (pick (eqb at.word word) (2 ^ at.place) 0) place ≡ (eqb at.word word && eqb at.place place)
 bit-alone at word place = by_cases (eqb at.word word) (λ e. rw e (bit-single at.place place)) (λ e. rw e (bit-none place))
 
 same_bit : (i j : ℕ) → (eqb (i / 64) (j / 64) && eqb (i % 64) (j % 64)) ≡ eqb i j
@@ -101,9 +101,9 @@ other_word : (k word place other : ℕ) → (k ≡ word → ⊥) → (eqb k word
 other_word k word place other h = rw (ne_eqb k word h)
 
 -- a variable alone is the one bit of its own; a declared word is none of the variables
-pub variable-single : (S i j : ℕ) → Named S i → j < 256 → variableBit (single S i) j ≡ (ltb j S && eqb i j)
-unfolding variableBit
-variable-single S i j n h = ap (λ (w : ℕ). hasBit w (j % 64)) (word-single S i (j / 64) (omega arith)) ∙ bit-alone (bit_of S i) (j / 64) (j % 64) ∙ by_cases (ltb i S)
+pub variable-single : (S i j : ℕ) → Named S i → j < 256 → variable_bit (single S i) j ≡ (ltb j S && eqb i j)
+unfolding variable_bit
+variable-single S i j n h = ap (λ (w : ℕ). has_bit w (j % 64)) (word-single S i (j / 64) (omega arith)) ∙ bit-alone (bit_of S i) (j / 64) (j % 64) ∙ by_cases (ltb i S)
     (λ e. let below = ltb-true i S e in rw (bit-variable S i below) (same_bit i j ∙ by_cases (eqb i j)
     (λ d. let same = eqb-true i j d in rw (d, lt-ltb j S (omega arith)))
     (λ d. rw d (sym (and-false (ltb j S))))))
@@ -112,8 +112,8 @@ variable-single S i j n h = ap (λ (w : ℕ). hasBit w (j % 64)) (word-single S 
     (λ d. rw d))))
 
 -- a declared word alone is the one bit of its own; a variable is none of the declared words
-pub declared-single : (S i j : ℕ) → Named S i → j < 64 → declaredBit (single S i) j ≡ eqb i (S + j)
-unfolding declaredBit
+pub declared-single : (S i j : ℕ) → Named S i → j < 64 → declared_bit (single S i) j ≡ eqb i (S + j)
+unfolding declared_bit
 declared-single S i j n h = bit-alone (bit_of S i) 4 j ∙ by_cases (ltb i S)
     (λ e. let below = ltb-true i S e in rw (bit-variable S i below) (other_word (i / 64) 4 (i % 64) j (λ q. omega (arith, n.variable below)) ∙ sym (ne_eqb i (S + j) (λ q. omega arith))))
     (λ e. let behind = ltb-false i S e in rw (bit-behind S i behind n.within) (by_cases (eqb (i - S) j)
@@ -122,22 +122,22 @@ declared-single S i j n h = bit-alone (bit_of S i) 4 j ∙ by_cases (ltb i S)
 
 -- ---- arrays
 
-pub array-none : (array : ℕ) → memberArray 0 array ≡ false
-unfolding memberArray
+pub array-none : (array : ℕ) → member_array 0 array ≡ false
+unfolding member_array
 array-none array = bit-none array
 
-pub array-join : (a b array : ℕ) → memberArray (bit_or a b) array ≡ (memberArray a array || memberArray b array)
-unfolding memberArray
+pub array-join : (a b array : ℕ) → member_array (bit_or a b) array ≡ (member_array a array || member_array b array)
+unfolding member_array
 array-join a b array = bit-or a b array
 
-pub array-alone : (a array : ℕ) → memberArray (2 ^ a) array ≡ eqb a array
-unfolding memberArray
+pub array-alone : (a array : ℕ) → member_array (2 ^ a) array ≡ eqb a array
+unfolding member_array
 array-alone a array = bit-single a array
 
 -- ---- what the functions compute
 
-pub array-shift : (arrays array : ℕ) → eqb (arrays / 2 ^ array % 2) 1 ≡ memberArray arrays array
-unfolding memberArray
+pub array-shift : (arrays array : ℕ) → eqb (arrays / 2 ^ array % 2) 1 ≡ member_array arrays array
+unfolding member_array
 array-shift arrays array = bit-shift arrays array
 
 pub word-rest : (s : WriteSet) (k : ℕ) → 4 < k → 0 ≡ word_of s k
@@ -165,12 +165,12 @@ pub member-shift : (S : ℕ) (s : WriteSet) (i : ℕ) {at : Bit} {word : ℕ} �
 unfolding member
 member-shift S s i {at} e w = rw (w, e) (bit-shift (word_of s (bit_of S i).word) (bit_of S i).place)
 
-pub variable-shift : (s : WriteSet) (i : ℕ) {word : ℕ} → word ≡ word_of s (i / 64) → eqb (word / 2 ^ (i % 64) % 2) 1 ≡ variableBit s i
-unfolding variableBit
+pub variable-shift : (s : WriteSet) (i : ℕ) {word : ℕ} → word ≡ word_of s (i / 64) → eqb (word / 2 ^ (i % 64) % 2) 1 ≡ variable_bit s i
+unfolding variable_bit
 variable-shift s i w = rw w (bit-shift (word_of s (i / 64)) (i % 64))
 
-pub declared-shift : (s : WriteSet) (i : ℕ) → eqb (s.word4 / 2 ^ i % 2) 1 ≡ declaredBit s i
-unfolding declaredBit
+pub declared-shift : (s : WriteSet) (i : ℕ) → eqb (s.word4 / 2 ^ i % 2) 1 ≡ declared_bit s i
+unfolding declared_bit
 declared-shift s i = bit-shift s.word4 i
 
 pub single-words : (S i : ℕ) {at : Bit} {bit a b d e f : ℕ} → at ≡ bit_of S i → bit ≡ 2 ^ at.place → a ≡ pick (eqb at.word 0) bit 0 → b ≡ pick (eqb at.word 1) bit 0 → d ≡ pick (eqb at.word 2) bit 0 → e ≡ pick (eqb at.word 3) bit 0 → f ≡ pick (eqb at.word 4) bit 0

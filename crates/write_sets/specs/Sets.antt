@@ -3,20 +3,20 @@
 use Rattle.std.specs.Prelude.{Bool, ℕ, zero, suc, ◌+◌, ◌-◌, ◌/◌, ◌%◌, ◌^◌, eqb, ltb}
 use Rattle.std.specs.Int.Bits.{bit_or}
 use Rattle.words.specs.Word.{pick}
-use Rattle.write_sets.specs.Bits.{hasBit}
+use Rattle.write_sets.specs.Bits.{has_bit}
 use Rattle.write_sets.specs.declared.Bit.{Bit}
 use Rattle.write_sets.specs.declared.WriteSet.{WriteSet}
 
 -- As many variables as four words hold, as many declared words as one, and as many arrays as one of half the size: "V variables (0 to
 -- 256) and up to 32 array lengths", "at most 64" declarations.
-abbrev pub variableBits : ℕ
-variableBits = 256
+abbrev pub variable_bits : ℕ
+variable_bits = 256
 
-abbrev pub declaredBits : ℕ
-declaredBits = 64
+abbrev pub declared_bits : ℕ
+declared_bits = 64
 
-abbrev pub arrayBits : ℕ
-arrayBits = 32
+abbrev pub array_bits : ℕ
+array_bits = 32
 
 -- Where the bit of a name's word stands: a variable's in the first four words, a declared word's in the fifth, from S on.
 unfoldable pub bit_of : ℕ → ℕ → Bit
@@ -33,18 +33,18 @@ word_of s (suc (suc (suc (suc (suc k))))) = 0
 
 -- Whether the word i, which a name means, is in the set.
 unfoldable pub member : ℕ → WriteSet → ℕ → Bool
-member S s i = hasBit (word_of s (bit_of S i).word) (bit_of S i).place
+member S s i = has_bit (word_of s (bit_of S i).word) (bit_of S i).place
 
 -- The bit of the variable i, and that of the declared word i, from 0.
-unfoldable pub variableBit : WriteSet → ℕ → Bool
-variableBit s i = hasBit (word_of s (i / 64)) (i % 64)
+unfoldable pub variable_bit : WriteSet → ℕ → Bool
+variable_bit s i = has_bit (word_of s (i / 64)) (i % 64)
 
-unfoldable pub declaredBit : WriteSet → ℕ → Bool
-declaredBit s i = hasBit s.word4 i
+unfoldable pub declared_bit : WriteSet → ℕ → Bool
+declared_bit s i = has_bit s.word4 i
 
 -- Whether the array is in the set.
-unfoldable pub memberArray : ℕ → ℕ → Bool
-memberArray arrays array = hasBit arrays array
+unfoldable pub member_array : ℕ → ℕ → Bool
+member_array arrays array = has_bit arrays array
 
 abbrev pub nothing : WriteSet
 nothing = record { word0 = 0; word1 = 0; word2 = 0; word3 = 0; word4 = 0 }
@@ -53,8 +53,8 @@ abbrev pub join : WriteSet → WriteSet → WriteSet
 join a b = record { word0 = bit_or a.word0 b.word0; word1 = bit_or a.word1 b.word1; word2 = bit_or a.word2 b.word2; word3 = bit_or a.word3 b.word3; word4 = bit_or a.word4 b.word4 }
 
 -- The bit of the word i, where the word n of the set holds it; else 0.
-abbrev pub bitIn : ℕ → ℕ → ℕ → ℕ
-bitIn S i n = pick (eqb (bit_of S i).word n) (2 ^ (bit_of S i).place) 0
+abbrev pub bit_in : ℕ → ℕ → ℕ → ℕ
+bit_in S i n = pick (eqb (bit_of S i).word n) (2 ^ (bit_of S i).place) 0
 
 abbrev pub single : ℕ → ℕ → WriteSet
-single S i = record { word0 = bitIn S i 0; word1 = bitIn S i 1; word2 = bitIn S i 2; word3 = bitIn S i 3; word4 = bitIn S i 4 }
+single S i = record { word0 = bit_in S i 0; word1 = bit_in S i 1; word2 = bit_in S i 2; word3 = bit_in S i 3; word4 = bit_in S i 4 }

@@ -1,11 +1,11 @@
 // Sets of arrays: array a is bit a of one 32-bit word.
 ghost use Rattle.std.specs.Prelude.{◌≡◌, ◌<◌, ◌^◌};
 ghost use Rattle.std.specs.Int.Bits.{bit_or};
-ghost use Rattle.write_sets.specs.Sets.{memberArray, arrayBits};
+ghost use Rattle.write_sets.specs.Sets.{member_array, array_bits};
 
 // The array alone.
 pub fn array_bit(array: usize) -> u32
-    requires { array < arrayBits }
+    requires { array < array_bits }
     ensures { result ≡ 2 ^ array }
 {
     1u32 << array
@@ -20,8 +20,8 @@ pub fn join_arrays(a: u32, b: u32) -> u32
 
 // Whether the array is in the set.
 pub fn has_array(arrays: u32, array: usize) -> bool
-    requires { array < arrayBits }
-    ensures { result ≡ memberArray arrays array }
+    requires { array < array_bits }
+    ensures { result ≡ member_array arrays array }
 {
     (arrays >> array) % 2 == 1
 }

@@ -1,21 +1,23 @@
 // Write sets: which of 256 variables can be written, a bit for each, in four 64-bit words, which of 64 declared words, in a fifth, and
 // which of 32 arrays, in one 32-bit word.
+#![tactic(auto)]
+
 pub mod arrays; // arrays.rt: the word of the arrays
 
 ghost use Rattle.std.specs.Prelude.{◌≡◌, ◌+◌, ◌<◌, ◌^◌, eqb};
 ghost use Rattle.words.specs.Word.{pick};
-ghost use Rattle.write_sets.specs.Sets.{bit_of, word_of, member, variableBits, declaredBits, variableBit, declaredBit, nothing as nothingOf, single as singleOf, join as join_of};
-ghost use Rattle.write_sets.specs.Counts.{countBelow};
+ghost use Rattle.write_sets.specs.Sets.{bit_of, word_of, member, variable_bits, declared_bits, variable_bit, declared_bit, nothing as nothing_of, single as single_of, join as join_of};
+ghost use Rattle.write_sets.specs.Counts.{count_below};
 
 // Where a bit stands: its word, and its place in the word.
-#[derive(Drop)]
+#[derive(Clone, Copy)]
 pub struct Bit {
     pub word: usize,
     pub place: usize,
 }
 
 // The variables, and in the fifth word the declared words, a bit each; `bit_of` says which.
-#[derive(Drop)]
+#[derive(Clone, Copy)]
 pub struct WriteSet {
     pub word0: u64,
     pub word1: u64,
@@ -43,7 +45,7 @@ pub fn bit_of(store: usize, i: usize) -> Bit
 
 // The empty set.
 pub fn nothing() -> WriteSet
-    ensures { result ≡ nothingOf }
+    ensures { result ≡ nothing_of }
 {
     WriteSet {
         word0: 0,
@@ -86,7 +88,7 @@ fn power(i: usize) -> u64
 
 // The word i alone.
 pub fn single(store: usize, i: usize) -> WriteSet
-    ensures { result ≡ singleOf store i }
+    ensures { result ≡ single_of store i }
 {
     let at = bit_of(store, i);
     let k = at.word;
@@ -126,7 +128,7 @@ pub fn has(store: usize, s: WriteSet, i: usize) -> bool
 
 // Whether the variable i is in the set.
 pub fn has_variable(s: WriteSet, i: usize) -> bool
-    ensures { result ≡ variableBit s i }
+    ensures { result ≡ variable_bit s i }
 {
     let place = i % 64;
     let word = word_at(s, i / 64);
@@ -135,15 +137,15 @@ pub fn has_variable(s: WriteSet, i: usize) -> bool
 
 // Whether the declared word i, from 0, is in the set.
 pub fn has_declared(s: WriteSet, i: usize) -> bool
-    requires { i < declaredBits }
-    ensures { result ≡ declaredBit s i }
+    requires { i < declared_bits }
+    ensures { result ≡ declared_bit s i }
 {
     (s.word4 >> i) % 2 == 1
 }
 
 // How many variables and declared words are in the set: the ones in its words.
 pub fn count(s: WriteSet) -> u32
-    ensures { result ≡ countBelow variableBits (variableBit s) + countBelow declaredBits (declaredBit s) }
+    ensures { result ≡ count_below variable_bits (variable_bit s) + count_below declared_bits (declared_bit s) }
 {
     u64::count_ones(s.word0)
         + u64::count_ones(s.word1)

@@ -11,7 +11,7 @@ use Rattle.words.specs.declared.Verdict.TheVariants as verdict
 use Rattle.check_source.specs.Refusal.{refusal}
 use Rattle.words.specs.declared.Form.TheVariants.{Source as SourceForm}
 use Rattle.language_shapes.specs.Source.{NamesFrom, Source}
-use Rattle.language_programs.specs.Program.{sourceSize, resolvedRows}
+use Rattle.language_programs.specs.Program.{source_size, resolved_rows}
 use Rattle.accepted_rows.specs.ResolvedPrograms.{lent-table}
 use Rattle.translator.specs.AcceptedLaws.{accepted-source, names-from}
 use Rattle.write_sets_programs.specs.ProgramWrites.{written, WritesAre}
@@ -23,21 +23,21 @@ module _ (header rows : List ℤ) {v : Verdict} (is : v ≡ refusal header rows)
   pub accepted-of : v ≡ verdict.Accepted → refusal header rows ≡ verdict.Accepted
   accepted-of e = sym is ∙ e
 
-  pub told-sets : {w : Writes} → v ≡ verdict.Accepted → WritesAre (sourceSize header) w (resolvedRows SourceForm header rows) → Told header rows (refusal header rows) (Written w)
+  pub told-sets : {w : Writes} → v ≡ verdict.Accepted → WritesAre (source_size header) w (resolved_rows SourceForm header rows) → Told header rows (refusal header rows) (Written w)
   told-sets {w = w} e x = subst (λ (u : Verdict). Told header rows u (Written w)) (sym (accepted-of e)) (sets x)
 
   pub told-refused : (r : Refusal) → v ≡ verdict.Refused r → Told header rows (refusal header rows) (Refused r)
   told-refused r e = subst (λ (u : Verdict). Told header rows u (Refused r)) (sym (sym is ∙ e)) told-refusal
 
-  pub count-accepted : {n : ℕ} → v ≡ verdict.Accepted → n ≡ written (sourceSize header) (resolvedRows SourceForm header rows) → n ≡ count_of (refusal header rows) header rows
+  pub count-accepted : {n : ℕ} → v ≡ verdict.Accepted → n ≡ written (source_size header) (resolved_rows SourceForm header rows) → n ≡ count_of (refusal header rows) header rows
   count-accepted e x = x ∙ sym (ap (λ (u : Verdict). count_of u header rows) (accepted-of e))
 
   pub count-refused : (r : Refusal) → v ≡ verdict.Refused r → 0 ≡ count_of (refusal header rows) header rows
   count-refused r e = sym (ap (λ (u : Verdict). count_of u header rows) (sym is ∙ e))
 
 -- The resolved table as it was written at the start of another and is lent.
-module _ (header rows table left : List ℤ) (accepted : refusal header rows ≡ verdict.Accepted) {size : ℕ} (is : size ≡ sourceSize header) (stands : left ≡ over (resolvedRows SourceForm header rows) table) where
-  lent : take (length rows - 0) left ≡ resolvedRows SourceForm header rows
+module _ (header rows table left : List ℤ) (accepted : refusal header rows ≡ verdict.Accepted) {size : ℕ} (is : size ≡ source_size header) (stands : left ≡ over (resolved_rows SourceForm header rows) table) where
+  lent : take (length rows - 0) left ≡ resolved_rows SourceForm header rows
   lent = lent-table header rows table left (length rows) refl stands
 
   pub lent-source : Source (take (length rows - 0) left) × NamesFrom size (take (length rows - 0) left)
@@ -46,5 +46,5 @@ module _ (header rows table left : List ℤ) (accepted : refusal header rows ≡
     subst (λ (l : List ℤ). NamesFrom size l) (sym lent) (names-from header rows accepted is),
   )
 
-  pub lent-writes : {w : Writes} → WritesAre size w (take (length rows - 0) left) → WritesAre (sourceSize header) w (resolvedRows SourceForm header rows)
-  lent-writes {w} x = subst (λ (S : ℕ). WritesAre S w (resolvedRows SourceForm header rows)) is (subst (λ (l : List ℤ). WritesAre size w l) lent x)
+  pub lent-writes : {w : Writes} → WritesAre size w (take (length rows - 0) left) → WritesAre (source_size header) w (resolved_rows SourceForm header rows)
+  lent-writes {w} x = subst (λ (S : ℕ). WritesAre S w (resolved_rows SourceForm header rows)) is (subst (λ (l : List ℤ). WritesAre size w l) lent x)

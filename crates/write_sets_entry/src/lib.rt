@@ -1,8 +1,10 @@
 // What a source program can write, for any words: the check's refusal, or the sets of an accepted program.
+#![tactic(auto)]
+
 ghost use Rattle.std.specs.Prelude.{◌≡◌};
 ghost use Rattle.words.specs.declared.Form.TheVariants.{Source};
 ghost use Rattle.words.specs.declared.Verdict.TheVariants.{Accepted};
-ghost use Rattle.language_programs.specs.Program.{sourceSize, resolvedRows};
+ghost use Rattle.language_programs.specs.Program.{source_size, resolved_rows};
 ghost use Rattle.write_sets_programs.specs.ProgramWrites.{written, WritesAre};
 ghost use Rattle.check_source.specs.Refusal.{refusal};
 ghost use Rattle.write_sets_entry.specs.Told.{Told, count_of};
@@ -14,7 +16,7 @@ use write_sets::count;
 use write_sets_programs::Writes;
 use write_sets_programs::program::program_writes;
 
-#[derive(Drop)]
+#[derive(Clone, Copy)]
 pub enum WritesVerdict {
     Written(Writes),
     Refused(Refusal),
@@ -23,7 +25,7 @@ pub enum WritesVerdict {
 // What an accepted program can write: read off its resolved table, which stands in this frame alone.
 fn accepted_writes(header: &[i32], rows: &[i32]) -> Writes
     requires { refusal header.now rows.now ≡ Accepted }
-    ensures { WritesAre (sourceSize header.now) result (resolvedRows Source header.now rows.now) }
+    ensures { WritesAre (source_size header.now) result (resolved_rows Source header.now rows.now) }
 {
     let store = store_size(Form::Source, header);
     let words = rows.len();
@@ -35,7 +37,7 @@ fn accepted_writes(header: &[i32], rows: &[i32]) -> Writes
 // How many variables and declared words it can write: the ones in the five words.
 pub fn accepted_count(header: &[i32], rows: &[i32]) -> u32
     requires { refusal header.now rows.now ≡ Accepted }
-    ensures { result ≡ written (sourceSize header.now) (resolvedRows Source header.now rows.now) }
+    ensures { result ≡ written (source_size header.now) (resolved_rows Source header.now rows.now) }
 {
     let sets = accepted_writes(header, rows);
     count(sets.variables)

@@ -1,11 +1,11 @@
 // What the expression at a link can write, by a walk down its links; `known` functions have their sets in the table, the others are taken to
 // write nothing. The declared words begin at `store`.
 ghost use Rattle.std.specs.Prelude.{◌<◌};
-ghost use Rattle.words.specs.Table.{rowCount};
-ghost use Rattle.language.specs.Decode.{part_at, argumentListAt};
-ghost use Rattle.language.specs.Writes.{argumentsWrite};
-ghost use Rattle.write_sets_rows.specs.WriteSets.{SetIs, partWrites};
-ghost use Rattle.write_sets_functions.specs.Walks.{lowerCalled, Walks};
+ghost use Rattle.words.specs.Table.{row_count};
+ghost use Rattle.language.specs.Decode.{part_at, argument_list_at};
+ghost use Rattle.language.specs.Writes.{arguments_write};
+ghost use Rattle.write_sets_rows.specs.WriteSets.{SetIs, part_writes};
+ghost use Rattle.write_sets_functions.specs.Walks.{lower_called, Walks};
 
 use language_shapes::ArgumentShape;
 use language_shapes::rows::argument_at;
@@ -13,7 +13,7 @@ use words::table::number_at;
 use write_sets::{WriteSet, join, nothing};
 use write_sets_rows::reaches::reach_at;
 
-#[cycle(walk_arguments_walk_expression)]
+#[cycle(walk_expressions)]
 pub fn walk_expression(
     store: usize,
     rows: &[i32],
@@ -21,8 +21,8 @@ pub fn walk_expression(
     known: usize,
     link: usize,
 ) -> WriteSet
-    requires { Walks store rows.now sets.now known × (link < rowCount rows.now) }
-    ensures { SetIs store result (partWrites (lowerCalled rows.now known) (part_at rows.now link)) }
+    requires { Walks store rows.now sets.now known × (link < row_count rows.now) }
+    ensures { SetIs store result (part_writes (lower_called rows.now known) (part_at rows.now link)) }
 {
     if link == 0 {
         return nothing();
@@ -36,10 +36,10 @@ pub fn walk_expression(
 }
 
 // The arguments from a link on; they are at most 64.
-#[cycle(walk_arguments_walk_expression)]
+#[cycle(walk_expressions)]
 fn walk_arguments(store: usize, rows: &[i32], sets: &[u64], known: usize, link: usize) -> WriteSet
-    requires { Walks store rows.now sets.now known × (link < rowCount rows.now) }
-    ensures { SetIs store result (argumentsWrite (lowerCalled rows.now known) (argumentListAt rows.now link)) }
+    requires { Walks store rows.now sets.now known × (link < row_count rows.now) }
+    ensures { SetIs store result (arguments_write (lower_called rows.now known) (argument_list_at rows.now link)) }
 {
     if link == 0 {
         return nothing();

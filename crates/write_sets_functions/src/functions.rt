@@ -1,12 +1,12 @@
 // What each function can write, in order of number, each from those before it: its parameters, and what its block can. A function's set
 // stands in the table at its number. The declared words begin at `store`.
 ghost use Rattle.std.specs.Prelude.{◌*◌, ◌≤◌, ◌<◌, length};
-ghost use Rattle.words.specs.Table.{rowCount};
-ghost use Rattle.language.specs.Decode.{parameterListAt};
-ghost use Rattle.language.specs.FunctionWrites.{isAmong};
+ghost use Rattle.words.specs.Table.{row_count};
+ghost use Rattle.language.specs.Decode.{parameter_list_at};
+ghost use Rattle.language.specs.FunctionWrites.{is_among};
 ghost use Rattle.language_shapes.specs.Source.{NamesFrom, Source};
-ghost use Rattle.measures_table.specs.Parts.{calledIn};
-ghost use Rattle.write_sets_rows.specs.WriteSets.{SetIs, setWidth, FunctionSets};
+ghost use Rattle.measures_table.specs.Parts.{called_in};
+ghost use Rattle.write_sets_rows.specs.WriteSets.{SetIs, set_width, FunctionSets};
 ghost use Rattle.write_sets_functions.specs.Walks.{Walks};
 ghost use Rattle.write_sets_functions.specs.Definitions.{FunctionHere};
 
@@ -18,8 +18,8 @@ use write_sets_rows::table::put_set;
 
 // The words of the parameters from a link on.
 fn parameter_words(store: usize, rows: &[i32], first: usize) -> WriteSet
-    requires { Source rows.now × NamesFrom store rows.now × (first < rowCount rows.now) }
-    ensures { SetIs store result (λ i. isAmong i (parameterListAt rows.now first)) }
+    requires { Source rows.now × NamesFrom store rows.now × (first < row_count rows.now) }
+    ensures { SetIs store result (λ i. is_among i (parameter_list_at rows.now first)) }
 {
     let mut any = nothing();
     let mut row = first;
@@ -33,7 +33,7 @@ fn parameter_words(store: usize, rows: &[i32], first: usize) -> WriteSet
 // What the function that a row defines can write, from what those before it can.
 fn function_writes(store: usize, rows: &[i32], sets: &[u64], known: usize, row: usize) -> WriteSet
     requires { Walks store rows.now sets.now known × FunctionHere rows.now known row }
-    ensures { SetIs store result (calledIn rows.now known) }
+    ensures { SetIs store result (called_in rows.now known) }
 {
     let parameters = parameter_words(store, rows, number_at(rows, row, 2));
     let body = number_at(rows, row, 3);
@@ -43,8 +43,8 @@ fn function_writes(store: usize, rows: &[i32], sets: &[u64], known: usize, row: 
 
 // Puts the sets of the functions into the table.
 pub fn gather_functions(store: usize, rows: &[i32], sets: &mut [u64])
-    requires { Source rows.now × NamesFrom store rows.now × (setWidth * rowCount rows.now ≤ length sets.old) }
-    ensures { FunctionSets store rows.now sets.new (rowCount rows.now) }
+    requires { Source rows.now × NamesFrom store rows.now × (set_width * row_count rows.now ≤ length sets.old) }
+    ensures { FunctionSets store rows.now sets.new (row_count rows.now) }
 {
     let mut row = number_at(rows, 0, 1);
     let mut known: usize = 0;

@@ -1,4 +1,6 @@
 // The functions of a program: their definitions, and what each of them can write, found by walks down the links of its block.
+#![tactic(auto)]
+
 use write_sets::WriteSet;
 
 pub mod definitions; // definitions.rt: the definitions and parameters at a list's rows
@@ -9,7 +11,7 @@ pub mod steps; // steps.rt: what a statement's own row writes, and the links at 
 
 // What a statement writes: what its own row does, and what is written at its links, of which 0 is absent: up to three expressions, two
 // statements, a list of items, and arms.
-#[derive(Drop)]
+#[derive(Clone, Copy)]
 pub struct Step {
     pub own: WriteSet,
     pub first: usize,
@@ -22,7 +24,7 @@ pub struct Step {
 }
 
 // The links of an arm, of which 0 is absent: its guard, its block, and the arm behind it.
-#[derive(Drop)]
+#[derive(Clone, Copy)]
 pub struct ArmLinks {
     pub guard: usize,
     pub body: usize,

@@ -1,21 +1,21 @@
 // What the statement at a link can write, by a walk down its links: statements, lists and arms call each other, as deep as the program.
 ghost use Rattle.std.specs.Prelude.{◌<◌};
-ghost use Rattle.words.specs.Table.{rowCount};
-ghost use Rattle.language.specs.Decode.{listAt, armListAt};
-ghost use Rattle.language.specs.FunctionWrites.{itemsWrite, armsWrite};
+ghost use Rattle.words.specs.Table.{row_count};
+ghost use Rattle.language.specs.Decode.{list_at, arm_list_at};
+ghost use Rattle.language.specs.FunctionWrites.{items_write, arms_write};
 ghost use Rattle.write_sets_rows.specs.WriteSets.{SetIs};
-ghost use Rattle.write_sets_functions.specs.Walks.{lowerCalled, Walks};
-ghost use Rattle.write_sets_functions.specs.Steps.{bodyWrites};
+ghost use Rattle.write_sets_functions.specs.Walks.{lower_called, Walks};
+ghost use Rattle.write_sets_functions.specs.Steps.{body_writes};
 
 use super::expressions::walk_expression;
 use super::steps::{arm_links, item_statement, step_at};
 use words::table::number_at;
 use write_sets::{WriteSet, join, nothing};
 
-#[cycle(walk_arms_walk_list_walk_statement)]
+#[cycle(walk_statements)]
 fn walk_statement(store: usize, rows: &[i32], sets: &[u64], known: usize, link: usize) -> WriteSet
-    requires { Walks store rows.now sets.now known × (link < rowCount rows.now) }
-    ensures { SetIs store result (bodyWrites (lowerCalled rows.now known) rows.now link) }
+    requires { Walks store rows.now sets.now known × (link < row_count rows.now) }
+    ensures { SetIs store result (body_writes (lower_called rows.now known) rows.now link) }
 {
     if link == 0 {
         return nothing();
@@ -33,10 +33,10 @@ fn walk_statement(store: usize, rows: &[i32], sets: &[u64], known: usize, link: 
 }
 
 // The items from a link on.
-#[cycle(walk_arms_walk_list_walk_statement)]
+#[cycle(walk_statements)]
 pub fn walk_list(store: usize, rows: &[i32], sets: &[u64], known: usize, first: usize) -> WriteSet
-    requires { Walks store rows.now sets.now known × (first < rowCount rows.now) }
-    ensures { SetIs store result (itemsWrite (lowerCalled rows.now known) (listAt rows.now first)) }
+    requires { Walks store rows.now sets.now known × (first < row_count rows.now) }
+    ensures { SetIs store result (items_write (lower_called rows.now known) (list_at rows.now first)) }
 {
     let mut any = nothing();
     let mut row = first;
@@ -49,10 +49,10 @@ pub fn walk_list(store: usize, rows: &[i32], sets: &[u64], known: usize, first: 
 }
 
 // The arms from a link on.
-#[cycle(walk_arms_walk_list_walk_statement)]
+#[cycle(walk_statements)]
 fn walk_arms(store: usize, rows: &[i32], sets: &[u64], known: usize, first: usize) -> WriteSet
-    requires { Walks store rows.now sets.now known × (first < rowCount rows.now) }
-    ensures { SetIs store result (armsWrite (lowerCalled rows.now known) (armListAt rows.now first)) }
+    requires { Walks store rows.now sets.now known × (first < row_count rows.now) }
+    ensures { SetIs store result (arms_write (lower_called rows.now known) (arm_list_at rows.now first)) }
 {
     let mut any = nothing();
     let mut row = first;

@@ -1,9 +1,9 @@
 // What a statement's own row writes, and the links at which more is written; and the links of an item and of an arm.
 ghost use Rattle.std.specs.Prelude.{◌≡◌, ◌<◌};
-ghost use Rattle.words.specs.Table.{rowCount};
+ghost use Rattle.words.specs.Table.{row_count};
 ghost use Rattle.language_shapes.specs.Source.{NamesFrom, Source, StatementAt};
 ghost use Rattle.language_shapes.specs.declared.StatementShape.TheVariants.{Declare};
-ghost use Rattle.write_sets_functions.specs.Steps.{stepTo, Stepped, StatementItem, ArmLinksAt};
+ghost use Rattle.write_sets_functions.specs.Steps.{step_to, Stepped, StatementItem, ArmLinksAt};
 
 use super::{ArmLinks, Step};
 use language_shapes::rows::{arm_at, item_at, statement_at};
@@ -21,7 +21,7 @@ fn step_to(
     list: usize,
     arms: usize,
 ) -> Step
-    ensures { result ≡ stepTo first second third body other list arms }
+    ensures { result ≡ step_to first second third body other list arms }
 {
     Step {
         own: nothing(),
@@ -52,7 +52,7 @@ fn declare_step(store: usize, rows: &[i32], row: usize, word: usize, e: usize) -
 }
 
 pub fn step_at(store: usize, rows: &[i32], row: usize) -> Step
-    requires { Source rows.now × NamesFrom store rows.now × (row < rowCount rows.now) }
+    requires { Source rows.now × NamesFrom store rows.now × (row < row_count rows.now) }
     ensures { Stepped store rows.now row result }
 {
     let shape = statement_at(rows, row);
@@ -80,7 +80,7 @@ pub fn step_at(store: usize, rows: &[i32], row: usize) -> Step
 
 // The statement of an item; 0 for a mark and for a definition, which writes nothing where it stands.
 pub fn item_statement(rows: &[i32], row: usize) -> usize
-    requires { Source rows.now × (row < rowCount rows.now) × (0 < row) }
+    requires { Source rows.now × (row < row_count rows.now) × (0 < row) }
     ensures { StatementItem rows.now row result }
 {
     let item = item_at(rows, row);
@@ -93,7 +93,7 @@ pub fn item_statement(rows: &[i32], row: usize) -> usize
 
 // The links of the arm at a row; a row that is no arm ends the arms.
 pub fn arm_links(rows: &[i32], row: usize) -> ArmLinks
-    requires { Source rows.now × (row < rowCount rows.now) }
+    requires { Source rows.now × (row < row_count rows.now) }
     ensures { ArmLinksAt rows.now row result }
 {
     let next = number_at(rows, row, 5);

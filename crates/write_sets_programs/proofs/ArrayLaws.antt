@@ -10,11 +10,11 @@ use lib.Bits.{bit_or}
 use lib.IntN.{ℤ}
 use lib.ListN.{length, set, get_or, length-set}
 use lib.Seq.{get_or-set_same, get_or-set_other}
-use Rattle.words.specs.Table.{rowCount}
+use Rattle.words.specs.Table.{row_count}
 use Rattle.language.specs.Trees.{Expression, Place, Arguments}
-use Rattle.language.specs.Decode.{place_of, expressionAt, argumentListAt}
-use Rattle.language_shapes.specs.Shapes.{placeTree, expressionTree, Onward, OptionalOnward, ExpressionOnward, ArgumentAt}
-use Rattle.language_shapes.specs.Source.{Name, mostArrays, Source, PlaceAt, ExpressionAt}
+use Rattle.language.specs.Decode.{place_of, expression_at, argument_list_at}
+use Rattle.language_shapes.specs.Shapes.{place_tree, expression_tree, Onward, OptionalOnward, ExpressionOnward, ArgumentAt}
+use Rattle.language_shapes.specs.Source.{Name, most_arrays, Source, PlaceAt, ExpressionAt}
 use Rattle.language_shapes.specs.declared.PlaceShape.TheVariants.{Variable, Element}
 use Rattle.language_shapes.specs.declared.OperationShape.TheVariants.{Minus, Not, Binary, Comma, Assign, Compound, Prefix, Postfix}
 use Rattle.language_shapes.specs.declared.ChoiceShape.TheVariants.{And, Or, Conditional}
@@ -22,11 +22,11 @@ use Rattle.language_shapes.specs.declared.ExpressionShape.{ExpressionShape}
 use Rattle.language_shapes.specs.declared.ExpressionShape.TheVariants.{Number, Read, Operation, Choice, Call}
 use Rattle.language_shapes.specs.declared.ArgumentShape.TheVariants.{Argument, NoArgument}
 use Rattle.write_sets_rows.proofs.ArgumentLaws.{list-some}
-use Rattle.write_sets.specs.Sets.{memberArray}
+use Rattle.write_sets.specs.Sets.{member_array}
 use Rattle.write_sets.specs.SetLaws.{array-none, array-join, array-alone}
-use Rattle.write_sets_programs.specs.ArrayWrites.{isElement, writesArray, indexWritesArray, argumentsWriteArray, placeWritesArray}
-use Rattle.write_sets_programs.specs.Links.{linksOf}
-use Rattle.write_sets_programs.specs.Arrays.{ArraysAre, linkWrites, storedArrays, arraysAt, linkedArrays, LinkHeld, LinksHeld, ArraysFrom}
+use Rattle.write_sets_programs.specs.ArrayWrites.{is_element, writes_array, index_writes_array, arguments_write_array, place_writes_array}
+use Rattle.write_sets_programs.specs.Links.{links_of}
+use Rattle.write_sets_programs.specs.Arrays.{ArraysAre, link_writes, stored_arrays, arrays_at, linked_arrays, LinkHeld, LinksHeld, ArraysFrom}
 use Rattle.write_sets_programs.specs.declared.Links.{Links}
 
 -- ---- words of arrays
@@ -38,7 +38,7 @@ pub arrays-none : ArraysAre 0 (λ n. false)
 arrays-none = record { are = λ n. array-none n }
 
 pub arrays-join : {w : ℕ} (a b : ℕ) (A B : ℕ → Bool) → ArraysAre a A → ArraysAre b B → w ≡ bit_or a b → ArraysAre w (λ n. A n || B n)
-arrays-join a b A B x y e = record { are = λ n. ap (λ (w : ℕ). memberArray w n) e ∙ array-join a b n ∙ ap₂ ◌||◌ (x.are n) (y.are n) }
+arrays-join a b A B x y e = record { are = λ n. ap (λ (w : ℕ). member_array w n) e ∙ array-join a b n ∙ ap₂ ◌||◌ (x.are n) (y.are n) }
 
 or-none : (a : Bool) → (a || false) ≡ a
 or-none true = refl
@@ -50,23 +50,23 @@ or_assoc false b c = refl
 
 -- ---- links
 
-link-some : (rows : List ℤ) (link n : ℕ) → 0 < link → linkWrites rows link n ≡ writesArray (expressionAt rows link) n
+link-some : (rows : List ℤ) (link n : ℕ) → 0 < link → link_writes rows link n ≡ writes_array (expression_at rows link) n
 link-some rows zero n h = absurd (omega arith)
 link-some rows (suc link) n h = refl
 
-pub stored_some : (rows : List ℤ) (link : ℕ) {w : ℕ} → 0 < link → ArraysAre w (placeWritesArray (place_of (expressionAt rows link))) → ArraysAre w (storedArrays rows link)
+pub stored_some : (rows : List ℤ) (link : ℕ) {w : ℕ} → 0 < link → ArraysAre w (place_writes_array (place_of (expression_at rows link))) → ArraysAre w (stored_arrays rows link)
 stored_some rows zero h x = absurd (omega arith)
 stored_some rows (suc link) h x = x
 
-stored_is : (rows : List ℤ) (link n : ℕ) → 0 < link → storedArrays rows link n ≡ placeWritesArray (place_of (expressionAt rows link)) n
+stored_is : (rows : List ℤ) (link n : ℕ) → 0 < link → stored_arrays rows link n ≡ place_writes_array (place_of (expression_at rows link)) n
 stored_is rows zero n h = absurd (omega arith)
 stored_is rows (suc link) n h = refl
 
-pub stored-none : (rows : List ℤ) (link : ℕ) → link ≡ 0 → ArraysAre 0 (storedArrays rows link)
+pub stored-none : (rows : List ℤ) (link : ℕ) → link ≡ 0 → ArraysAre 0 (stored_arrays rows link)
 stored-none rows zero e = arrays-none
 stored-none rows (suc link) e = absurd (omega arith)
 
-pub at_some : (arrays : List ℕ) (link : ℕ) → 0 < link → get_or arrays link 0 ≡ arraysAt arrays link
+pub at_some : (arrays : List ℕ) (link : ℕ) → 0 < link → get_or arrays link 0 ≡ arrays_at arrays link
 at_some arrays zero h = absurd (omega arith)
 at_some arrays (suc link) h = refl
 
@@ -79,9 +79,9 @@ pub record LinksOnward (rows : List ℤ) (row : ℕ) (links : Links) : Type 0 wh
   pub arguments : OptionalOnward rows row links.arguments
 
 -- what the links write, in the order of the code
-abbrev linksWrite : List ℤ → Links → ℕ → Bool
-linksWrite rows links n =
-    storedArrays rows links.place n || ((linkWrites rows links.first n || (linkWrites rows links.second n || linkWrites rows links.third n)) || argumentsWriteArray (argumentListAt rows links.arguments) n)
+abbrev links_write : List ℤ → Links → ℕ → Bool
+links_write rows links n =
+    stored_arrays rows links.place n || ((link_writes rows links.first n || (link_writes rows links.second n || link_writes rows links.third n)) || arguments_write_array (argument_list_at rows links.arguments) n)
 
 module _ {rows : List ℤ} {row : ℕ} where
   absent : OptionalOnward rows row 0
@@ -90,7 +90,7 @@ module _ {rows : List ℤ} {row : ℕ} where
   here : {link : ℕ} → Onward rows row link → OptionalOnward rows row link
   here o h = o
 
-  links-onward : (sh : ExpressionShape) → ExpressionOnward rows row (Name rows) mostArrays sh → LinksOnward rows row (linksOf sh)
+  links-onward : (sh : ExpressionShape) → ExpressionOnward rows row (Name rows) most_arrays sh → LinksOnward rows row (links_of sh)
   links-onward (Number v) o = record { first = absent; second = absent; third = absent; place = absent; arguments = absent }
   links-onward (Read (Variable i)) o = record { first = absent; second = absent; third = absent; place = absent; arguments = absent }
   links-onward (Read (Element array index)) o = record { first = here o.1; second = absent; third = absent; place = absent; arguments = absent }
@@ -107,22 +107,22 @@ module _ {rows : List ℤ} {row : ℕ} where
   links-onward (Choice (Conditional c a b)) o = record { first = here o.0; second = here o.1; third = here o.2; place = absent; arguments = absent }
   links-onward (Call f arguments) o = record { first = absent; second = absent; third = absent; place = absent; arguments = o }
 
-  one : (n : ℕ) {a : ℕ} → Onward rows row a → (linkWrites rows a n || false) ≡ writesArray (expressionAt rows a) n
+  one : (n : ℕ) {a : ℕ} → Onward rows row a → (link_writes rows a n || false) ≡ writes_array (expression_at rows a) n
   one n {a} o = or-none _ ∙ link-some rows a n (omega (arith, o.later))
 
-  two : (n : ℕ) {a b : ℕ} → Onward rows row a → Onward rows row b → (linkWrites rows a n || (linkWrites rows b n || false)) ≡ (writesArray (expressionAt rows a) n || writesArray (expressionAt rows b) n)
+  two : (n : ℕ) {a b : ℕ} → Onward rows row a → Onward rows row b → (link_writes rows a n || (link_writes rows b n || false)) ≡ (writes_array (expression_at rows a) n || writes_array (expression_at rows b) n)
   two n {a} {b} oa ob = ap₂ ◌||◌ (link-some rows a n (omega (arith, oa.later))) (one n ob)
 
   -- an update of a place by a value
-  valued : (n : ℕ) {p e : ℕ} → Onward rows row p → Onward rows row e → (storedArrays rows p n || (linkWrites rows e n || false)) ≡ (isElement (place_of (expressionAt rows p)) n || (indexWritesArray (place_of (expressionAt rows p)) n || writesArray (expressionAt rows e) n))
-  valued n {p} {e} op oe = ap₂ ◌||◌ (stored_is rows p n (omega (arith, op.later))) (one n oe) ∙ or_assoc (isElement (place_of (expressionAt rows p)) n) (indexWritesArray (place_of (expressionAt rows p)) n) (writesArray (expressionAt rows e) n)
+  valued : (n : ℕ) {p e : ℕ} → Onward rows row p → Onward rows row e → (stored_arrays rows p n || (link_writes rows e n || false)) ≡ (is_element (place_of (expression_at rows p)) n || (index_writes_array (place_of (expression_at rows p)) n || writes_array (expression_at rows e) n))
+  valued n {p} {e} op oe = ap₂ ◌||◌ (stored_is rows p n (omega (arith, op.later))) (one n oe) ∙ or_assoc (is_element (place_of (expression_at rows p)) n) (index_writes_array (place_of (expression_at rows p)) n) (writes_array (expression_at rows e) n)
 
   -- by one
-  stepped : (n : ℕ) {p : ℕ} → Onward rows row p → (storedArrays rows p n || false) ≡ placeWritesArray (place_of (expressionAt rows p)) n
+  stepped : (n : ℕ) {p : ℕ} → Onward rows row p → (stored_arrays rows p n || false) ≡ place_writes_array (place_of (expression_at rows p)) n
   stepped n {p} o = or-none _ ∙ stored_is rows p n (omega (arith, o.later))
 
-links-write : (rows : List ℤ) (row n : ℕ) (sh : ExpressionShape) → ExpressionOnward rows row (Name rows) mostArrays sh → linksWrite rows (linksOf sh) n ≡ writesArray (expressionTree rows sh) n
-unfolding writesArray indexWritesArray argumentsWriteArray
+links-write : (rows : List ℤ) (row n : ℕ) (sh : ExpressionShape) → ExpressionOnward rows row (Name rows) most_arrays sh → links_write rows (links_of sh) n ≡ writes_array (expression_tree rows sh) n
+unfolding writes_array index_writes_array arguments_write_array
 links-write rows row n (Number v) o = refl
 links-write rows row n (Read (Variable i)) o = refl
 links-write rows row n (Read (Element array index)) o = or-none _ ∙ one n o.1
@@ -130,8 +130,8 @@ links-write rows row n (Operation (Minus a)) o = or-none _ ∙ one n o
 links-write rows row n (Operation (Not a)) o = or-none _ ∙ one n o
 links-write rows row n (Operation (Binary operator a b)) o = or-none _ ∙ two n o.0 o.1
 links-write rows row n (Operation (Comma a b)) o = or-none _ ∙ two n o.0 o.1
-links-write rows row n (Operation (Assign p e)) o = ap (λ (b : Bool). storedArrays rows p n || b) (or-none (linkWrites rows e n || false)) ∙ valued n o.0 o.1
-links-write rows row n (Operation (Compound operator p e)) o = ap (λ (b : Bool). storedArrays rows p n || b) (or-none (linkWrites rows e n || false)) ∙ valued n o.0 o.1
+links-write rows row n (Operation (Assign p e)) o = ap (λ (b : Bool). stored_arrays rows p n || b) (or-none (link_writes rows e n || false)) ∙ valued n o.0 o.1
+links-write rows row n (Operation (Compound operator p e)) o = ap (λ (b : Bool). stored_arrays rows p n || b) (or-none (link_writes rows e n || false)) ∙ valued n o.0 o.1
 links-write rows row n (Operation (Prefix operator p)) o = stepped n o
 links-write rows row n (Operation (Postfix operator p)) o = stepped n o
 links-write rows row n (Choice (And a b)) o = or-none _ ∙ two n o.0 o.1
@@ -141,11 +141,11 @@ links-write rows row n (Choice (Conditional test a b)) o =
 links-write rows row n (Call f arguments) o = refl
 
 -- the links that were found lead on
-pub found-onward : {rows : List ℤ} {row : ℕ} {sh : ExpressionShape} {links : Links} → ExpressionAt rows row sh → links ≡ linksOf sh → LinksOnward rows row links
+pub found-onward : {rows : List ℤ} {row : ℕ} {sh : ExpressionShape} {links : Links} → ExpressionAt rows row sh → links ≡ links_of sh → LinksOnward rows row links
 found-onward {rows} {row} {sh} f e = subst (λ (l : Links). LinksOnward rows row l) (sym e) (links-onward sh f.onward)
 
 pub from_less : {rows : List ℤ} {arrays : List ℕ} {k : ℕ} (j : ℕ) → ArraysFrom rows arrays k → k ≤ j → ArraysFrom rows arrays j
-from_less j m h = record { source = m.source; room = m.room; row-arrays = λ row l. m.row-arrays row (omega arith) }
+from_less j m h = record { source = m.source; room = m.room; row_arrays = λ row l. m.row_arrays row (omega arith) }
 
 module _ {rows : List ℤ} {arrays : List ℕ} {row : ℕ} (m : ArraysFrom rows arrays (row + 1)) where
   pub link-held : {link : ℕ} → OptionalOnward rows row link → LinkHeld arrays link
@@ -154,64 +154,64 @@ module _ {rows : List ℤ} {arrays : List ℕ} {row : ℕ} (m : ArraysFrom rows 
   pub links-held : {links : Links} → LinksOnward rows row links → LinksHeld arrays links
   links-held o = record { first = link-held o.first; second = link-held o.second; third = link-held o.third }
 
-  pub linked-are : (link : ℕ) → OptionalOnward rows row link → ArraysAre (arraysAt arrays link) (linkWrites rows link)
+  pub linked-are : (link : ℕ) → OptionalOnward rows row link → ArraysAre (arrays_at arrays link) (link_writes rows link)
   linked-are zero o = arrays-none
-  linked-are (suc link) o = let x = o (omega arith) in m.row-arrays (suc link) (omega (arith, x.later)) x.inside
+  linked-are (suc link) o = let x = o (omega arith) in m.row_arrays (suc link) (omega (arith, x.later)) x.inside
 
   -- ---- a place
 
-  pub element-arrays : {array index bit word w : ℕ} → PlaceAt rows row (Element array index) → bit ≡ 2 ^ array → word ≡ arraysAt arrays index → w ≡ bit_or bit word → ArraysAre w (placeWritesArray (place_of (expressionAt rows row)))
-  unfolding indexWritesArray
+  pub element-arrays : {array index bit word w : ℕ} → PlaceAt rows row (Element array index) → bit ≡ 2 ^ array → word ≡ arrays_at arrays index → w ≡ bit_or bit word → ArraysAre w (place_writes_array (place_of (expression_at rows row)))
+  unfolding index_writes_array
   element-arrays {array} {index} {bit} {word} f eb ew e =
       rw f.is
-      (arrays-as _ _ (arrays-join bit word (λ n. isElement (placeTree rows (Element array index)) n) (linkWrites rows index)
-      (record { are = λ n. ap (λ (b : ℕ). memberArray b n) eb ∙ array-alone array n })
-      (subst (λ (x : ℕ). ArraysAre x (linkWrites rows index)) (sym ew) (linked-are index (λ h. f.onward.1))) e)
-      (λ n. ap (λ (b : Bool). isElement (placeTree rows (Element array index)) n || b) (link-some rows index n (omega (arith, f.onward.1.later)))))
+      (arrays-as _ _ (arrays-join bit word (λ n. is_element (place_tree rows (Element array index)) n) (link_writes rows index)
+      (record { are = λ n. ap (λ (b : ℕ). member_array b n) eb ∙ array-alone array n })
+      (subst (λ (x : ℕ). ArraysAre x (link_writes rows index)) (sym ew) (linked-are index (λ h. f.onward.1))) e)
+      (λ n. ap (λ (b : Bool). is_element (place_tree rows (Element array index)) n || b) (link-some rows index n (omega (arith, f.onward.1.later)))))
 
   -- ---- an expression
 
-  pub row-arrays-are : {sh : ExpressionShape} {links : Links} {own operands passed all w : ℕ} → ExpressionAt rows row sh → links ≡ linksOf sh → ArraysAre own (storedArrays rows links.place) → operands ≡ linkedArrays arrays links → ArraysAre passed (argumentsWriteArray (argumentListAt rows links.arguments)) → all ≡ bit_or operands passed → w ≡ bit_or own all → ArraysAre w (writesArray (expressionAt rows row))
+  pub row-arrays-are : {sh : ExpressionShape} {links : Links} {own operands passed all w : ℕ} → ExpressionAt rows row sh → links ≡ links_of sh → ArraysAre own (stored_arrays rows links.place) → operands ≡ linked_arrays arrays links → ArraysAre passed (arguments_write_array (argument_list_at rows links.arguments)) → all ≡ bit_or operands passed → w ≡ bit_or own all → ArraysAre w (writes_array (expression_at rows row))
   row-arrays-are {sh} {links} {own} {operands} {passed} {all} f el x eo y ea e =
       let on = found-onward f el in
       arrays-as _ _ (arrays-join own all _ _ x (arrays-join operands passed _ _
       (arrays-join _ _ _ _ (linked-are links.first on.first) (arrays-join _ _ _ _ (linked-are links.second on.second) (linked-are links.third on.third) refl) eo) y ea) e)
-      (λ n. ap (λ (l : Links). linksWrite rows l n) el ∙ links-write rows row n sh f.onward ∙ sym (ap (λ (t : Expression). writesArray t n) f.is))
+      (λ n. ap (λ (l : Links). links_write rows l n) el ∙ links-write rows row n sh f.onward ∙ sym (ap (λ (t : Expression). writes_array t n) f.is))
 
-pub variable-arrays : {rows : List ℤ} {row i : ℕ} → PlaceAt rows row (Variable i) → ArraysAre 0 (placeWritesArray (place_of (expressionAt rows row)))
-unfolding indexWritesArray
+pub variable-arrays : {rows : List ℤ} {row i : ℕ} → PlaceAt rows row (Variable i) → ArraysAre 0 (place_writes_array (place_of (expression_at rows row)))
+unfolding index_writes_array
 variable-arrays f = rw f.is (arrays-as _ _ arrays-none (λ n. refl))
 
 -- ---- the table
 
-pub from-none : {rows : List ℤ} {arrays : List ℕ} → Source rows → rowCount rows ≤ length arrays → ArraysFrom rows arrays (rowCount rows)
-from-none s h = record { source = s; room = h; row-arrays = λ row l b. absurd (omega arith) }
+pub from-none : {rows : List ℤ} {arrays : List ℕ} → Source rows → row_count rows ≤ length arrays → ArraysFrom rows arrays (row_count rows)
+from-none s h = record { source = s; room = h; row_arrays = λ row l b. absurd (omega arith) }
 
 -- with the row's word in, one more row has its word
-pub one-row-more : {rows : List ℤ} {arrays : List ℕ} {row w : ℕ} → row < rowCount rows → ArraysAre w (writesArray (expressionAt rows row)) → ArraysFrom rows arrays (row + 1) → ArraysFrom rows (set arrays row w) row
+pub one-row-more : {rows : List ℤ} {arrays : List ℕ} {row w : ℕ} → row < row_count rows → ArraysAre w (writes_array (expression_at rows row)) → ArraysFrom rows arrays (row + 1) → ArraysFrom rows (set arrays row w) row
 one-row-more {rows} {arrays} {row} {w} inside x m = record {
   source = m.source;
   room = omega (arith, m.room, length-set arrays row w);
-  row-arrays = λ r h b. by r h b (ℕ_discrete r row);
+  row_arrays = λ r h b. by r h b (ℕ_discrete r row);
 }
   where
-    by : (r : ℕ) → row ≤ r → r < rowCount rows → Dec (r ≡ row) → ArraysAre (get_or (set arrays row w) r 0) (writesArray (expressionAt rows r))
-    by r h b (yes q) = subst (λ (r : ℕ). ArraysAre (get_or (set arrays row w) r 0) (writesArray (expressionAt rows r))) (sym q) (subst (λ (v : ℕ). ArraysAre v (writesArray (expressionAt rows row))) (sym (get_or-set_same arrays row w 0 (omega (arith, m.room)))) x)
-    by r h b (no q) = subst (λ (v : ℕ). ArraysAre v (writesArray (expressionAt rows r))) (sym (get_or-set_other arrays row r w 0 q)) (m.row-arrays r (let k = lt_of_le-ne h (λ e. q (sym e)) in omega arith) b)
+    by : (r : ℕ) → row ≤ r → r < row_count rows → Dec (r ≡ row) → ArraysAre (get_or (set arrays row w) r 0) (writes_array (expression_at rows r))
+    by r h b (yes q) = subst (λ (r : ℕ). ArraysAre (get_or (set arrays row w) r 0) (writes_array (expression_at rows r))) (sym q) (subst (λ (v : ℕ). ArraysAre v (writes_array (expression_at rows row))) (sym (get_or-set_same arrays row w 0 (omega (arith, m.room)))) x)
+    by r h b (no q) = subst (λ (v : ℕ). ArraysAre v (writes_array (expression_at rows r))) (sym (get_or-set_other arrays row r w 0 q)) (m.row_arrays r (let k = lt_of_le-ne h (λ e. q (sym e)) in omega arith) b)
 
 -- ---- arguments
 
-pub none_passed : (rows : List ℤ) (link : ℕ) → link ≡ 0 → ArraysAre 0 (argumentsWriteArray (argumentListAt rows link))
-unfolding argumentsWriteArray
+pub none_passed : (rows : List ℤ) (link : ℕ) → link ≡ 0 → ArraysAre 0 (arguments_write_array (argument_list_at rows link))
+unfolding arguments_write_array
 none_passed rows zero e = arrays-none
 none_passed rows (suc link) e = absurd (omega arith)
 
-pub ended-passed : (rows : List ℤ) (link : ℕ) {next : ℕ} → 0 < link → ArgumentAt rows link next NoArgument → ArraysAre 0 (argumentsWriteArray (argumentListAt rows link))
-unfolding argumentsWriteArray
-ended-passed rows link h f = subst (λ (a : Arguments). ArraysAre 0 (argumentsWriteArray a)) (sym (list-some rows link h ∙ f.is)) arrays-none
+pub ended-passed : (rows : List ℤ) (link : ℕ) {next : ℕ} → 0 < link → ArgumentAt rows link next NoArgument → ArraysAre 0 (arguments_write_array (argument_list_at rows link))
+unfolding arguments_write_array
+ended-passed rows link h f = subst (λ (a : Arguments). ArraysAre 0 (arguments_write_array a)) (sym (list-some rows link h ∙ f.is)) arrays-none
 
-pub argument-passed : {rows : List ℤ} {arrays : List ℕ} (link : ℕ) {next e a b w : ℕ} → ArraysFrom rows arrays (link + 1) → 0 < link → ArgumentAt rows link next (Argument e) → a ≡ arraysAt arrays e → ArraysAre b (argumentsWriteArray (argumentListAt rows next)) → w ≡ bit_or a b → ArraysAre w (argumentsWriteArray (argumentListAt rows link))
-unfolding argumentsWriteArray
+pub argument-passed : {rows : List ℤ} {arrays : List ℕ} (link : ℕ) {next e a b w : ℕ} → ArraysFrom rows arrays (link + 1) → 0 < link → ArgumentAt rows link next (Argument e) → a ≡ arrays_at arrays e → ArraysAre b (arguments_write_array (argument_list_at rows next)) → w ≡ bit_or a b → ArraysAre w (arguments_write_array (argument_list_at rows link))
+unfolding arguments_write_array
 argument-passed {rows} {arrays} link {next} {e} {a} {b} {w} m h f ea y ew =
-    subst (λ (l : Arguments). ArraysAre w (argumentsWriteArray l)) (sym (list-some rows link h ∙ f.is))
-    (arrays-as _ _ (arrays-join a b (linkWrites rows e) _ (subst (λ (x : ℕ). ArraysAre x (linkWrites rows e)) (sym ea) (linked-are m e (λ p. f.onward))) y ew) (λ n. ap (λ (x : Bool). x || argumentsWriteArray (argumentListAt rows next) n) (link-some rows e n (omega (arith, f.onward.later)))))
+    subst (λ (l : Arguments). ArraysAre w (arguments_write_array l)) (sym (list-some rows link h ∙ f.is))
+    (arrays-as _ _ (arrays-join a b (link_writes rows e) _ (subst (λ (x : ℕ). ArraysAre x (link_writes rows e)) (sym ea) (linked-are m e (λ p. f.onward))) y ew) (λ n. ap (λ (x : Bool). x || arguments_write_array (argument_list_at rows next) n) (link-some rows e n (omega (arith, f.onward.later)))))

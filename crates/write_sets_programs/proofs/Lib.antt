@@ -3,3 +3,7 @@
 pub mod ArrayLaws
 -- UnionLaws: the sets of the rows joined, row by row.
 pub mod UnionLaws
+-- ArrayWriteLaws: the test and the relation of ArrayWrites say the same.
+pub mod ArrayWriteLaws
+-- ProgramWriteLaws: a bit of a program's sets is 1 exactly where some row has the place.
+pub mod ProgramWriteLaws

@@ -10,39 +10,39 @@ pub data HasElementAsPlace (array : ℕ) : Expression → Type 0 where
   below : {d e : Expression} → Operand d e → HasElementAsPlace array d → HasElementAsPlace array e
 
 -- Whether a place is an element of the array n.
-abbrev pub isElement : Place → ℕ → Bool
-isElement (variable j) n = false
-isElement (element array e) n = eqb array n
+abbrev pub is_element : Place → ℕ → Bool
+is_element (variable j) n = false
+is_element (element array e) n = eqb array n
 
 unfoldable mutual
   -- Whether an expression can write an element of the array.
-  pub writesArray : Expression → ℕ → Bool
-  writesArray (constant v) n = false
-  writesArray (read p) n = indexWritesArray p n
-  writesArray (minus e) n = writesArray e n
-  writesArray (not e) n = writesArray e n
-  writesArray (binary operator a b) n = writesArray a n || writesArray b n
-  writesArray (and a b) n = writesArray a n || writesArray b n
-  writesArray (or a b) n = writesArray a n || writesArray b n
-  writesArray (comma a b) n = writesArray a n || writesArray b n
-  writesArray (conditional c a b) n = writesArray c n || (writesArray a n || writesArray b n)
-  writesArray (assign p e) n = isElement p n || (indexWritesArray p n || writesArray e n)
-  writesArray (compound operator p e) n = isElement p n || (indexWritesArray p n || writesArray e n)
-  writesArray (prefix operator p) n = isElement p n || indexWritesArray p n
-  writesArray (postfix operator p) n = isElement p n || indexWritesArray p n
+  pub writes_array : Expression → ℕ → Bool
+  writes_array (constant v) n = false
+  writes_array (read p) n = index_writes_array p n
+  writes_array (minus e) n = writes_array e n
+  writes_array (not e) n = writes_array e n
+  writes_array (binary operator a b) n = writes_array a n || writes_array b n
+  writes_array (and a b) n = writes_array a n || writes_array b n
+  writes_array (or a b) n = writes_array a n || writes_array b n
+  writes_array (comma a b) n = writes_array a n || writes_array b n
+  writes_array (conditional c a b) n = writes_array c n || (writes_array a n || writes_array b n)
+  writes_array (assign p e) n = is_element p n || (index_writes_array p n || writes_array e n)
+  writes_array (compound operator p e) n = is_element p n || (index_writes_array p n || writes_array e n)
+  writes_array (prefix operator p) n = is_element p n || index_writes_array p n
+  writes_array (postfix operator p) n = is_element p n || index_writes_array p n
   -- what the function writes is written by its own rows
-  writesArray (call f arguments) n = argumentsWriteArray arguments n
+  writes_array (call f arguments) n = arguments_write_array arguments n
 
   -- Whether the index of a place can.
-  pub indexWritesArray : Place → ℕ → Bool
-  indexWritesArray (variable j) n = false
-  indexWritesArray (element array e) n = writesArray e n
+  pub index_writes_array : Place → ℕ → Bool
+  index_writes_array (variable j) n = false
+  index_writes_array (element array e) n = writes_array e n
 
   -- Whether one of the arguments can.
-  pub argumentsWriteArray : Arguments → ℕ → Bool
-  argumentsWriteArray no_more n = false
-  argumentsWriteArray (e also arguments) n = writesArray e n || argumentsWriteArray arguments n
+  pub arguments_write_array : Arguments → ℕ → Bool
+  arguments_write_array no_more n = false
+  arguments_write_array (e also arguments) n = writes_array e n || arguments_write_array arguments n
 
 -- What an update of a place writes: an element of the array that it is of, and what its index writes.
-abbrev pub placeWritesArray : Place → ℕ → Bool
-placeWritesArray p n = isElement p n || indexWritesArray p n
+abbrev pub place_writes_array : Place → ℕ → Bool
+place_writes_array p n = is_element p n || index_writes_array p n

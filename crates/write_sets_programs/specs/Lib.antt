@@ -9,8 +9,3 @@ pub mod ProgramWrites
 pub mod Links
 -- Arrays: what the table of arrays holds, a word for each row.
 pub mod Arrays
--- ---- laws
--- ArrayWriteLaws: the test and the relation of ArrayWrites say the same.
-pub mod ArrayWriteLaws
--- ProgramWriteLaws: a bit of a program's sets is 1 exactly where some row has the place.
-pub mod ProgramWriteLaws

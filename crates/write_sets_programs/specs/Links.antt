@@ -11,31 +11,31 @@ use Rattle.language_shapes.specs.declared.ExpressionShape.{ExpressionShape}
 use Rattle.language_shapes.specs.declared.ExpressionShape.TheVariants.{Number, Read, Operation, Choice, Call}
 use Rattle.write_sets_programs.specs.declared.Links.{Links}
 
-abbrev pub linksTo : ℕ → ℕ → ℕ → ℕ → Links
-linksTo first second third place = record { first = first; second = second; third = third; place = place; arguments = 0 }
+abbrev pub links_to : ℕ → ℕ → ℕ → ℕ → Links
+links_to first second third place = record { first = first; second = second; third = third; place = place; arguments = 0 }
 
-abbrev pub readLinks : PlaceShape → Links
-readLinks (Variable i) = linksTo 0 0 0 0
-readLinks (Element array index) = linksTo index 0 0 0
+abbrev pub read_links : PlaceShape → Links
+read_links (Variable i) = links_to 0 0 0 0
+read_links (Element array index) = links_to index 0 0 0
 
-abbrev pub operationLinks : OperationShape → Links
-operationLinks (Minus a) = linksTo a 0 0 0
-operationLinks (Not a) = linksTo a 0 0 0
-operationLinks (Binary operator a b) = linksTo a b 0 0
-operationLinks (Comma a b) = linksTo a b 0 0
-operationLinks (Assign p e) = linksTo e 0 0 p
-operationLinks (Compound operator p e) = linksTo e 0 0 p
-operationLinks (Prefix operator p) = linksTo 0 0 0 p
-operationLinks (Postfix operator p) = linksTo 0 0 0 p
+abbrev pub operation_links : OperationShape → Links
+operation_links (Minus a) = links_to a 0 0 0
+operation_links (Not a) = links_to a 0 0 0
+operation_links (Binary operator a b) = links_to a b 0 0
+operation_links (Comma a b) = links_to a b 0 0
+operation_links (Assign p e) = links_to e 0 0 p
+operation_links (Compound operator p e) = links_to e 0 0 p
+operation_links (Prefix operator p) = links_to 0 0 0 p
+operation_links (Postfix operator p) = links_to 0 0 0 p
 
-abbrev pub choiceLinks : ChoiceShape → Links
-choiceLinks (And a b) = linksTo a b 0 0
-choiceLinks (Or a b) = linksTo a b 0 0
-choiceLinks (Conditional c a b) = linksTo c a b 0
+abbrev pub choice_links : ChoiceShape → Links
+choice_links (And a b) = links_to a b 0 0
+choice_links (Or a b) = links_to a b 0 0
+choice_links (Conditional c a b) = links_to c a b 0
 
-abbrev pub linksOf : ExpressionShape → Links
-linksOf (Number v) = linksTo 0 0 0 0
-linksOf (Read p) = readLinks p
-linksOf (Operation o) = operationLinks o
-linksOf (Choice c) = choiceLinks c
-linksOf (Call f arguments) = record { first = 0; second = 0; third = 0; place = 0; arguments = arguments }
+abbrev pub links_of : ExpressionShape → Links
+links_of (Number v) = links_to 0 0 0 0
+links_of (Read p) = read_links p
+links_of (Operation o) = operation_links o
+links_of (Choice c) = choice_links c
+links_of (Call f arguments) = record { first = 0; second = 0; third = 0; place = 0; arguments = arguments }

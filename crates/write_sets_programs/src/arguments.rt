@@ -1,8 +1,8 @@
 // Which arrays the arguments of a call can write an element of.
 ghost use Rattle.std.specs.Prelude.{◌+◌, ◌<◌};
-ghost use Rattle.words.specs.Table.{rowCount};
-ghost use Rattle.language.specs.Decode.{argumentListAt};
-ghost use Rattle.write_sets_programs.specs.ArrayWrites.{argumentsWriteArray};
+ghost use Rattle.words.specs.Table.{row_count};
+ghost use Rattle.language.specs.Decode.{argument_list_at};
+ghost use Rattle.write_sets_programs.specs.ArrayWrites.{arguments_write_array};
 ghost use Rattle.write_sets_programs.specs.Arrays.{ArraysAre, ArraysFrom};
 
 use super::table::linked;
@@ -13,8 +13,8 @@ use write_sets::arrays::join_arrays;
 
 // The arguments from a link on; they are at most 64.
 pub fn argument_arrays(rows: &[i32], arrays: &[u32], link: usize) -> u32
-    requires { 0 < link → ArraysFrom rows.now arrays.now (link + 1) × (link < rowCount rows.now) }
-    ensures { ArraysAre result (argumentsWriteArray (argumentListAt rows.now link)) }
+    requires { 0 < link → ArraysFrom rows.now arrays.now (link + 1) × (link < row_count rows.now) }
+    ensures { ArraysAre result (arguments_write_array (argument_list_at rows.now link)) }
 {
     if link == 0 {
         return 0;

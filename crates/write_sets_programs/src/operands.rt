@@ -1,12 +1,12 @@
 // The expressions at an expression's links, by its shape.
 ghost use Rattle.std.specs.Prelude.{◌≡◌};
-ghost use Rattle.write_sets_programs.specs.Links.{linksTo, readLinks, operationLinks, choiceLinks, linksOf};
+ghost use Rattle.write_sets_programs.specs.Links.{links_to, read_links, operation_links, choice_links, links_of};
 
 use super::Links;
 use language_shapes::{ChoiceShape, ExpressionShape, OperationShape, PlaceShape};
 
 fn links(first: usize, second: usize, third: usize, place: usize) -> Links
-    ensures { result ≡ linksTo first second third place }
+    ensures { result ≡ links_to first second third place }
 {
     Links {
         first,
@@ -18,7 +18,7 @@ fn links(first: usize, second: usize, third: usize, place: usize) -> Links
 }
 
 fn read_links(place: PlaceShape) -> Links
-    ensures { result ≡ readLinks place }
+    ensures { result ≡ read_links place }
 {
     match place {
         PlaceShape::Variable(_) => links(0, 0, 0, 0),
@@ -27,7 +27,7 @@ fn read_links(place: PlaceShape) -> Links
 }
 
 fn operation_links(operation: OperationShape) -> Links
-    ensures { result ≡ operationLinks operation }
+    ensures { result ≡ operation_links operation }
 {
     match operation {
         OperationShape::Minus(a) => links(a, 0, 0, 0),
@@ -42,7 +42,7 @@ fn operation_links(operation: OperationShape) -> Links
 }
 
 fn choice_links(choice: ChoiceShape) -> Links
-    ensures { result ≡ choiceLinks choice }
+    ensures { result ≡ choice_links choice }
 {
     match choice {
         ChoiceShape::And(a, b) => links(a, b, 0, 0),
@@ -52,7 +52,7 @@ fn choice_links(choice: ChoiceShape) -> Links
 }
 
 pub fn links_of(shape: ExpressionShape) -> Links
-    ensures { result ≡ linksOf shape }
+    ensures { result ≡ links_of shape }
 {
     match shape {
         ExpressionShape::Number(_) => links(0, 0, 0, 0),

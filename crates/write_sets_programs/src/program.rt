@@ -1,10 +1,10 @@
 // What any row of a program can write: the sets of its rows joined, and the words of its declarations. The declared words begin at `store`.
 ghost use Rattle.std.specs.Prelude.{◌<◌};
-ghost use Rattle.words.specs.Table.{rowCount};
+ghost use Rattle.words.specs.Table.{row_count};
 ghost use Rattle.language_shapes.specs.Source.{NamesFrom, Source};
 ghost use Rattle.write_sets_rows.specs.WriteSets.{SetIs, Sets};
 ghost use Rattle.write_sets_programs.specs.Arrays.{ArraysAre, ArraysFrom};
-ghost use Rattle.write_sets_programs.specs.ProgramWrites.{declares, programWrites, programWritesArray, WritesAre};
+ghost use Rattle.write_sets_programs.specs.ProgramWrites.{declares, program_writes, program_writes_array, WritesAre};
 
 use super::Writes;
 use super::arrays::fill_arrays;
@@ -18,7 +18,7 @@ use write_sets_rows::writes::fill_sets;
 
 // The word of a row that is a declaration.
 fn declared_set(store: usize, rows: &[i32], row: usize) -> WriteSet
-    requires { Source rows.now × NamesFrom store rows.now × (row < rowCount rows.now) }
+    requires { Source rows.now × NamesFrom store rows.now × (row < row_count rows.now) }
     ensures { SetIs store result (declares rows.now row) }
 {
     if is_declaration(rows, row) {
@@ -29,7 +29,7 @@ fn declared_set(store: usize, rows: &[i32], row: usize) -> WriteSet
 
 fn any_variables(store: usize, rows: &[i32], sets: &[u64]) -> WriteSet
     requires { Sets store rows.now sets.now }
-    ensures { SetIs store result (programWrites rows.now) }
+    ensures { SetIs store result (program_writes rows.now) }
 {
     let mut any = nothing();
     let mut row: usize = 0;
@@ -43,7 +43,7 @@ fn any_variables(store: usize, rows: &[i32], sets: &[u64]) -> WriteSet
 
 fn any_arrays(rows: &[i32], arrays: &[u32]) -> u32
     requires { ArraysFrom rows.now arrays.now 0 }
-    ensures { ArraysAre result (programWritesArray rows.now) }
+    ensures { ArraysAre result (program_writes_array rows.now) }
 {
     let mut any: u32 = 0;
     let mut row: usize = 0;
@@ -56,7 +56,7 @@ fn any_arrays(rows: &[i32], arrays: &[u32]) -> u32
 
 fn variables_written(store: usize, rows: &[i32]) -> WriteSet
     requires { Source rows.now × NamesFrom store rows.now }
-    ensures { SetIs store result (programWrites rows.now) }
+    ensures { SetIs store result (program_writes rows.now) }
 {
     let mut sets = [0u64; 10240];
     gather_functions(store, rows, &mut sets);
@@ -66,7 +66,7 @@ fn variables_written(store: usize, rows: &[i32]) -> WriteSet
 
 fn arrays_written(rows: &[i32]) -> u32
     requires { Source rows.now }
-    ensures { ArraysAre result (programWritesArray rows.now) }
+    ensures { ArraysAre result (program_writes_array rows.now) }
 {
     let mut arrays = [0u32; 2048];
     fill_arrays(rows, &mut arrays);

@@ -13,17 +13,17 @@ use lib.IntN.{ℤ}
 use lib.ListN.{length, take, drop, set, get_or}
 use Rattle.words.specs.Word.{pick}
 use Rattle.words.specs.Laws.{by_cases}
-use Rattle.words.specs.Table.{rowCount}
+use Rattle.words.specs.Table.{row_count}
 use Rattle.words.specs.declared.Operator.{Operator}
 use Rattle.language.specs.Trees.{Expression, Place, variable, element, Part, absent, present}
-use Rattle.language.specs.Writes.{writes, indexWrites}
-use Rattle.language.specs.Functions.{functionCount}
+use Rattle.language.specs.Writes.{writes, index_writes}
+use Rattle.language.specs.Functions.{function_count}
 use Rattle.language.specs.Program.{contents}
-use Rattle.language.specs.Decode.{place_of, expressionAt, part_at}
+use Rattle.language.specs.Decode.{place_of, expression_at, part_at}
 use Rattle.language.specs.DecodeLaws.{part-some}
-use Rattle.translation.specs.Translate.{Atom, number, word, top, atomOf}
+use Rattle.translation.specs.Translate.{Atom, number, word, top, atom_of}
 use Rattle.translation.specs.TranslateSize.{copied}
-use Rattle.language_shapes.specs.Shapes.{choiceTree, expressionTree, Onward, OptionalOnward}
+use Rattle.language_shapes.specs.Shapes.{choice_tree, expression_tree, Onward, OptionalOnward}
 use Rattle.language_shapes.specs.Source.{NamesFrom, Source, Name, PlaceAt, ExpressionAt}
 use Rattle.language_shapes.specs.declared.PlaceShape.TheVariants.{Variable, Element}
 use Rattle.language_shapes.specs.declared.OperationShape.TheVariants.{Minus, Not, Binary, Comma, Assign, Compound, Prefix, Postfix}
@@ -32,11 +32,11 @@ use Rattle.language_shapes.specs.declared.ChoiceShape.TheVariants.{And, Or, Cond
 use Rattle.language_shapes.specs.declared.ExpressionShape.{ExpressionShape}
 use Rattle.language_shapes.specs.declared.ExpressionShape.TheVariants.{Number, Read, Operation, Choice, Call}
 use Rattle.write_sets.specs.Named.{Named}
-use Rattle.write_sets.specs.Sets.{member, variableBit, declaredBit, nothing, join, single}
+use Rattle.write_sets.specs.Sets.{member, variable_bit, declared_bit, nothing, join, single}
 use Rattle.write_sets.specs.SetLaws.{member-variable, member-declared, variable-join, declared-join, variable-nothing, declared-nothing, variable-single, declared-single}
 use Rattle.write_sets.specs.declared.WriteSet.{WriteSet}
-use Rattle.measures_table.specs.Parts.{calledIn, index_of, firstCopied, Operand}
-use Rattle.write_sets_rows.specs.WriteSets.{SetIs, partWrites, setWidth, setOf, set_at, functionSet, SetHeld, setWords, FunctionSets, SetsFrom, Sets}
+use Rattle.measures_table.specs.Parts.{called_in, index_of, first_copied, Operand}
+use Rattle.write_sets_rows.specs.WriteSets.{SetIs, part_writes, set_width, set_of, set_at, function_set, SetHeld, set_words, FunctionSets, SetsFrom, Sets}
 use Rattle.measures_table.proofs.RowWords.{stored-length, own-words, other-words, earlier-words}
 
 -- ---- sets
@@ -58,20 +58,20 @@ set-as {S} X W x e = record { variables = λ i h. x.variables i h ∙ ap (λ (b 
 
 pub set-nothing : {S : ℕ} {s : WriteSet} → s ≡ nothing → SetIs S s (λ i. false)
 set-nothing {S} e = record {
-  variables = λ i h. ap (λ (z : WriteSet). variableBit z i) e ∙ variable-nothing i ∙ sym (and-false (ltb i S));
-  declared = λ i h. ap (λ (z : WriteSet). declaredBit z i) e ∙ declared-nothing i;
+  variables = λ i h. ap (λ (z : WriteSet). variable_bit z i) e ∙ variable-nothing i ∙ sym (and-false (ltb i S));
+  declared = λ i h. ap (λ (z : WriteSet). declared_bit z i) e ∙ declared-nothing i;
 }
 
 pub set_single : {S : ℕ} (j : ℕ) {s : WriteSet} → Named S j → s ≡ single S j → SetIs S s (λ i. eqb j i)
 set_single {S} j n e = record {
-  variables = λ i h. ap (λ (z : WriteSet). variableBit z i) e ∙ variable-single S j i n h;
-  declared = λ i h. ap (λ (z : WriteSet). declaredBit z i) e ∙ declared-single S j i n h;
+  variables = λ i h. ap (λ (z : WriteSet). variable_bit z i) e ∙ variable-single S j i n h;
+  declared = λ i h. ap (λ (z : WriteSet). declared_bit z i) e ∙ declared-single S j i n h;
 }
 
 pub set-join : {S : ℕ} {s : WriteSet} (a b : WriteSet) (X W : ℕ → Bool) → SetIs S a X → SetIs S b W → s ≡ join a b → SetIs S s (λ i. X i || W i)
 set-join {S} a b X W x y e = record {
-  variables = λ i h. ap (λ (z : WriteSet). variableBit z i) e ∙ variable-join a b i ∙ ap₂ ◌||◌ (x.variables i h) (y.variables i h) ∙ or-and (ltb i S) (X i) (W i);
-  declared = λ i h. ap (λ (z : WriteSet). declaredBit z i) e ∙ declared-join a b i ∙ ap₂ ◌||◌ (x.declared i h) (y.declared i h);
+  variables = λ i h. ap (λ (z : WriteSet). variable_bit z i) e ∙ variable-join a b i ∙ ap₂ ◌||◌ (x.variables i h) (y.variables i h) ∙ or-and (ltb i S) (X i) (W i);
+  declared = λ i h. ap (λ (z : WriteSet). declared_bit z i) e ∙ declared-join a b i ∙ ap₂ ◌||◌ (x.declared i h) (y.declared i h);
 }
 
 -- what a name means is in the set, or not
@@ -86,30 +86,30 @@ set-member {S} {s} W i x n = by_cases (ltb i S)
 
 -- ---- the sets of a row's operands
 
-pub set-some : (sets : List ℕ) (link : ℕ) → 0 < link → set_at sets link ≡ setOf sets link
+pub set-some : (sets : List ℕ) (link : ℕ) → 0 < link → set_at sets link ≡ set_of sets link
 set-some sets zero h = absurd (omega arith)
 set-some sets (suc link) h = refl
 
 -- the set of a function, where it is known and where not
-pub function-known : (sets : List ℕ) (known f : ℕ) {s : WriteSet} → f < known → s ≡ setOf sets f → s ≡ functionSet sets known f
-function-known sets known f h e = e ∙ sym (ap (λ (b : Bool). pick b (setOf sets f) nothing) (lt-ltb f known h))
+pub function-known : (sets : List ℕ) (known f : ℕ) {s : WriteSet} → f < known → s ≡ set_of sets f → s ≡ function_set sets known f
+function-known sets known f h e = e ∙ sym (ap (λ (b : Bool). pick b (set_of sets f) nothing) (lt-ltb f known h))
 
-pub function-unknown : (sets : List ℕ) (known f : ℕ) {s : WriteSet} → known ≤ f → s ≡ nothing → s ≡ functionSet sets known f
-function-unknown sets known f h e = e ∙ sym (ap (λ (b : Bool). pick b (setOf sets f) nothing) (le-ltb f known h))
+pub function-unknown : (sets : List ℕ) (known f : ℕ) {s : WriteSet} → known ≤ f → s ≡ nothing → s ≡ function_set sets known f
+function-unknown sets known f h e = e ∙ sym (ap (λ (b : Bool). pick b (set_of sets f) nothing) (le-ltb f known h))
 
 pub sets-less : {S : ℕ} {rows : List ℤ} {sets : List ℕ} {k : ℕ} (j : ℕ) → SetsFrom S rows sets k → k ≤ j → SetsFrom S rows sets j
-sets-less j m h = record { source = m.source; names = m.names; room = m.room; row-set = λ row l. m.row-set row (omega arith) }
+sets-less j m h = record { source = m.source; names = m.names; room = m.room; row_set = λ row l. m.row_set row (omega arith) }
 
 module _ {S : ℕ} {rows : List ℤ} {sets : List ℕ} {row : ℕ} (m : SetsFrom S rows sets (row + 1)) where
   pub link-held : {link : ℕ} → OptionalOnward rows row link → SetHeld sets link
   link-held o h = omega (arith, m.room, (o h).inside)
 
-  pub link_set : {link : ℕ} {s : WriteSet} → Onward rows row link → s ≡ set_at sets link → SetIs S s (writes (calledIn rows) (expressionAt rows link))
+  pub link_set : {link : ℕ} {s : WriteSet} → Onward rows row link → s ≡ set_at sets link → SetIs S s (writes (called_in rows) (expression_at rows link))
   link_set {link} {s} o e =
-      subst (λ (z : WriteSet). SetIs S z (writes (calledIn rows) (expressionAt rows link))) (sym (e ∙ set-some sets link (omega (arith, o.later)))) (m.row-set link (omega (arith, o.later)) o.inside)
+      subst (λ (z : WriteSet). SetIs S z (writes (called_in rows) (expression_at rows link))) (sym (e ∙ set-some sets link (omega (arith, o.later)))) (m.row_set link (omega (arith, o.later)) o.inside)
 
   -- of a link that may be absent
-  pub part-link : (link : ℕ) {s : WriteSet} → OptionalOnward rows row link → s ≡ set_at sets link → SetIs S s (partWrites (calledIn rows) (part_at rows link))
+  pub part-link : (link : ℕ) {s : WriteSet} → OptionalOnward rows row link → s ≡ set_at sets link → SetIs S s (part_writes (called_in rows) (part_at rows link))
   part-link zero o e = set-nothing e
   part-link (suc link) o e = link_set (o (omega arith)) e
 
@@ -125,61 +125,61 @@ five-stores (x0 ∷ x1 ∷ x2 ∷ []) zero a b c d e p = absurd (omega arith)
 five-stores (x0 ∷ x1 ∷ x2 ∷ x3 ∷ []) zero a b c d e p = absurd (omega arith)
 five-stores (x0 ∷ x1 ∷ x2 ∷ x3 ∷ x4 ∷ l) zero a b c d e p = refl
 
-module _ (rows : List ℤ) (t u : List ℕ) (row : ℕ) (s : WriteSet) (fits : setWidth * row + setWidth ≤ length t) (is : u ≡ (take (setWidth * row) t ++ setWords s) ++ drop (setWidth * row + setWidth) t) where
-  own : (k : ℕ) → k < setWidth → get_or u (setWidth * row + k) 0 ≡ get_or (setWords s) k 0
-  own k h = own-words setWidth t u (setWords s) row refl fits is k h
+module _ (rows : List ℤ) (t u : List ℕ) (row : ℕ) (s : WriteSet) (fits : set_width * row + set_width ≤ length t) (is : u ≡ (take (set_width * row) t ++ set_words s) ++ drop (set_width * row + set_width) t) where
+  own : (k : ℕ) → k < set_width → get_or u (set_width * row + k) 0 ≡ get_or (set_words s) k 0
+  own k h = own-words set_width t u (set_words s) row refl fits is k h
 
-  others : (other k : ℕ) → row < other → get_or u (setWidth * other + k) 0 ≡ get_or t (setWidth * other + k) 0
-  others other k h = other-words setWidth t u (setWords s) row refl fits is (setWidth * other + k) (omega arith)
+  others : (other k : ℕ) → row < other → get_or u (set_width * other + k) 0 ≡ get_or t (set_width * other + k) 0
+  others other k h = other-words set_width t u (set_words s) row refl fits is (set_width * other + k) (omega arith)
 
-  earlier : (other k : ℕ) → other < row → k < setWidth → get_or u (setWidth * other + k) 0 ≡ get_or t (setWidth * other + k) 0
-  earlier other k h b = earlier-words setWidth t u (setWords s) row refl fits is (setWidth * other + k) (omega arith)
+  earlier : (other k : ℕ) → other < row → k < set_width → get_or u (set_width * other + k) 0 ≡ get_or t (set_width * other + k) 0
+  earlier other k h b = earlier-words set_width t u (set_words s) row refl fits is (set_width * other + k) (omega arith)
 
   zero_more : (n : ℕ) → n ≡ n + 0
   zero_more n = omega arith
 
-  own-set : setOf u row ≡ s
-  own-set = rw (ap (λ (n : ℕ). get_or u n 0) (zero_more (setWidth * row)) ∙ own 0 (omega arith), own 1 (omega arith), own 2 (omega arith), own 3 (omega arith), own 4 (omega arith))
+  own-set : set_of u row ≡ s
+  own-set = rw (ap (λ (n : ℕ). get_or u n 0) (zero_more (set_width * row)) ∙ own 0 (omega arith), own 1 (omega arith), own 2 (omega arith), own 3 (omega arith), own 4 (omega arith))
 
-  earlier-set : (other : ℕ) → other < row → setOf u other ≡ setOf t other
+  earlier-set : (other : ℕ) → other < row → set_of u other ≡ set_of t other
   earlier-set other h =
-      rw (ap (λ (n : ℕ). get_or u n 0) (zero_more (setWidth * other)) ∙ earlier other 0 h (omega arith) ∙ sym (ap (λ (n : ℕ). get_or t n 0) (zero_more (setWidth * other))), earlier other 1 h (omega arith), earlier other 2 h (omega arith), earlier other 3 h (omega arith), earlier other 4 h (omega arith))
+      rw (ap (λ (n : ℕ). get_or u n 0) (zero_more (set_width * other)) ∙ earlier other 0 h (omega arith) ∙ sym (ap (λ (n : ℕ). get_or t n 0) (zero_more (set_width * other))), earlier other 1 h (omega arith), earlier other 2 h (omega arith), earlier other 3 h (omega arith), earlier other 4 h (omega arith))
 
   -- the functions below it keep their sets
   pub functions-kept : {S : ℕ} → FunctionSets S rows t row → FunctionSets S rows u row
-  functions-kept {S} m = record { function-set = λ f h b. subst (λ (z : WriteSet). SetIs S z (calledIn rows f)) (sym (earlier-set f h)) (m.function-set f h b) }
+  functions-kept {S} m = record { function-set = λ f h b. subst (λ (z : WriteSet). SetIs S z (called_in rows f)) (sym (earlier-set f h)) (m.function-set f h b) }
 
   -- with the function's words in, one more function has its set
-  pub one-function-more : {S : ℕ} → SetIs S s (calledIn rows row) → FunctionSets S rows t row → FunctionSets S rows u (row + 1)
+  pub one-function-more : {S : ℕ} → SetIs S s (called_in rows row) → FunctionSets S rows t row → FunctionSets S rows u (row + 1)
   one-function-more {S} x m = record { function-set = λ f h b. by f h b (ℕ_discrete f row) }
     where
-      by : (f : ℕ) → f < row + 1 → f < functionCount (contents rows) → Dec (f ≡ row) → SetIs S (setOf u f) (calledIn rows f)
-      by f h b (yes q) = subst (λ (f : ℕ). SetIs S (setOf u f) (calledIn rows f)) (sym q) (subst (λ (z : WriteSet). SetIs S z (calledIn rows row)) (sym own-set) x)
+      by : (f : ℕ) → f < row + 1 → f < function_count (contents rows) → Dec (f ≡ row) → SetIs S (set_of u f) (called_in rows f)
+      by f h b (yes q) = subst (λ (f : ℕ). SetIs S (set_of u f) (called_in rows f)) (sym q) (subst (λ (z : WriteSet). SetIs S z (called_in rows row)) (sym own-set) x)
       by f h b (no q) = (functions-kept m).function-set f (omega (arith, q)) b
 
   -- with the row's words in, one more row has its set
-  pub one-set-more : {S : ℕ} → SetIs S s (writes (calledIn rows) (expressionAt rows row)) → SetsFrom S rows t (row + 1) → SetsFrom S rows u row
+  pub one-set-more : {S : ℕ} → SetIs S s (writes (called_in rows) (expression_at rows row)) → SetsFrom S rows t (row + 1) → SetsFrom S rows u row
   one-set-more {S} x m = record {
     source = m.source;
     names = m.names;
-    room = omega (arith, m.room, stored-length setWidth t u (setWords s) row refl fits is);
-    row-set = λ r h b. by r h b (ℕ_discrete r row);
+    room = omega (arith, m.room, stored-length set_width t u (set_words s) row refl fits is);
+    row_set = λ r h b. by r h b (ℕ_discrete r row);
   }
     where
-      other-set : (other : ℕ) → row < other → setOf u other ≡ setOf t other
-      other-set other h = rw (ap (λ (n : ℕ). get_or u n 0) (zero_more (setWidth * other)) ∙ others other 0 h ∙ sym (ap (λ (n : ℕ). get_or t n 0) (zero_more (setWidth * other))), others other 1 h, others other 2 h, others other 3 h, others other 4 h)
+      other-set : (other : ℕ) → row < other → set_of u other ≡ set_of t other
+      other-set other h = rw (ap (λ (n : ℕ). get_or u n 0) (zero_more (set_width * other)) ∙ others other 0 h ∙ sym (ap (λ (n : ℕ). get_or t n 0) (zero_more (set_width * other))), others other 1 h, others other 2 h, others other 3 h, others other 4 h)
 
-      by : (r : ℕ) → row ≤ r → r < rowCount rows → Dec (r ≡ row) → SetIs S (setOf u r) (writes (calledIn rows) (expressionAt rows r))
-      by r h b (yes q) = subst (λ (r : ℕ). SetIs S (setOf u r) (writes (calledIn rows) (expressionAt rows r))) (sym q) (subst (λ (z : WriteSet). SetIs S z (writes (calledIn rows) (expressionAt rows row))) (sym own-set) x)
+      by : (r : ℕ) → row ≤ r → r < row_count rows → Dec (r ≡ row) → SetIs S (set_of u r) (writes (called_in rows) (expression_at rows r))
+      by r h b (yes q) = subst (λ (r : ℕ). SetIs S (set_of u r) (writes (called_in rows) (expression_at rows r))) (sym q) (subst (λ (z : WriteSet). SetIs S z (writes (called_in rows) (expression_at rows row))) (sym own-set) x)
       by r h b (no q) =
           let k = lt_of_le-ne h (λ x. q (sym x)) in
-          subst (λ (z : WriteSet). SetIs S z (writes (calledIn rows) (expressionAt rows r))) (sym (other-set r k)) (m.row-set r (omega arith) b)
+          subst (λ (z : WriteSet). SetIs S z (writes (called_in rows) (expression_at rows r))) (sym (other-set r k)) (m.row_set r (omega arith) b)
 
 pub functions-less : {S : ℕ} {rows : List ℤ} {sets : List ℕ} {k : ℕ} (j : ℕ) → FunctionSets S rows sets k → j ≤ k → FunctionSets S rows sets j
 functions-less j m h = record { function-set = λ f l. m.function-set f (omega arith) }
 
-pub sets-none : {S : ℕ} {rows : List ℤ} {sets : List ℕ} → Source rows → NamesFrom S rows → setWidth * rowCount rows ≤ length sets → SetsFrom S rows sets (rowCount rows)
-sets-none s n h = record { source = s; names = n; room = h; row-set = λ row l b. absurd (omega arith) }
+pub sets-none : {S : ℕ} {rows : List ℤ} {sets : List ℕ} → Source rows → NamesFrom S rows → set_width * row_count rows ≤ length sets → SetsFrom S rows sets (row_count rows)
+sets-none s n h = record { source = s; names = n; room = h; row_set = λ row l b. absurd (omega arith) }
 
 -- ---- which values are copied
 
@@ -199,58 +199,58 @@ copied-word : (i : ℕ) (W : ℕ → Bool) → pick (W i) 1 0 ≡ copied (word i
 copied-word i W = by_cases (W i) (λ e. rw e) (λ e. rw e)
 
 -- the set at a link, as what the expression there writes
-pub part-set : {S : ℕ} {rows : List ℤ} {sets : List ℕ} (link : ℕ) {s : WriteSet} → Sets S rows sets → link < rowCount rows → s ≡ set_at sets link → SetIs S s (partWrites (calledIn rows) (part_at rows link))
+pub part-set : {S : ℕ} {rows : List ℤ} {sets : List ℕ} (link : ℕ) {s : WriteSet} → Sets S rows sets → link < row_count rows → s ≡ set_at sets link → SetIs S s (part_writes (called_in rows) (part_at rows link))
 part-set zero m h e = set-nothing e
-part-set {S} {rows} (suc link) m h e = subst (λ (z : WriteSet). SetIs S z (writes (calledIn rows) (expressionAt rows (suc link)))) (sym e) (m.row-set (suc link) (omega arith) h)
+part-set {S} {rows} (suc link) m h e = subst (λ (z : WriteSet). SetIs S z (writes (called_in rows) (expression_at rows (suc link)))) (sym e) (m.row_set (suc link) (omega arith) h)
 
 pub copied-variable : {S : ℕ} {rows : List ℤ} {s : WriteSet} {i r : ℕ} {h : Atom} (W : ℕ → Bool) → NamesFrom S rows → SetIs S s W → Name rows i → word i ≡ h → r ≡ pick (member S s i) 1 0 → r ≡ copied h W
 copied-variable {S} {i = i} W names x n e w = w ∙ ap (λ (b : Bool). pick b 1 0) (set-member W i x (n.named S names)) ∙ copied-word i W ∙ ap (λ (x : Atom). copied x W) e
 
-index-writes : (called : ℕ → ℕ → Bool) (p : Place) (i : ℕ) → partWrites called (index_of p) i ≡ indexWrites called p i
-unfolding indexWrites
+index-writes : (called : ℕ → ℕ → Bool) (p : Place) (i : ℕ) → part_writes called (index_of p) i ≡ index_writes called p i
+unfolding index_writes
 index-writes called (variable j) i = refl
 index-writes called (element array e) i = refl
 
-choice-copies : (rows : List ℤ) (c : ChoiceShape) → 0 ≡ firstCopied (calledIn rows) (choiceTree rows c)
+choice-copies : (rows : List ℤ) (c : ChoiceShape) → 0 ≡ first_copied (called_in rows) (choice_tree rows c)
 choice-copies rows (And a b) = refl
 choice-copies rows (Or a b) = refl
 choice-copies rows (Conditional c a b) = refl
 
-over-index : {rows : List ℤ} (place v : ℕ) {index r : ℕ} → Operand rows place index (index_of (place_of (expressionAt rows place))) → r ≡ copied (atomOf (calledIn rows) (expressionAt rows v)) (partWrites (calledIn rows) (part_at rows index)) → r ≡ copied (atomOf (calledIn rows) (expressionAt rows v)) (indexWrites (calledIn rows) (place_of (expressionAt rows place)))
+over-index : {rows : List ℤ} (place v : ℕ) {index r : ℕ} → Operand rows place index (index_of (place_of (expression_at rows place))) → r ≡ copied (atom_of (called_in rows) (expression_at rows v)) (part_writes (called_in rows) (part_at rows index)) → r ≡ copied (atom_of (called_in rows) (expression_at rows v)) (index_writes (called_in rows) (place_of (expression_at rows place)))
 over-index {rows} place v o e =
-    e ∙ copied-same (atomOf (calledIn rows) (expressionAt rows v)) _ (indexWrites (calledIn rows) (place_of (expressionAt rows place))) (λ i. ap (λ (p : Part). partWrites (calledIn rows) p i) o.is ∙ index-writes (calledIn rows) (place_of (expressionAt rows place)) i)
+    e ∙ copied-same (atom_of (called_in rows) (expression_at rows v)) _ (index_writes (called_in rows) (place_of (expression_at rows place))) (λ i. ap (λ (p : Part). part_writes (called_in rows) p i) o.is ∙ index-writes (called_in rows) (place_of (expression_at rows place)) i)
 
 module _ {rows : List ℤ} {row : ℕ} where
-  shaped-copies : {sh : ExpressionShape} {r : ℕ} → ExpressionAt rows row sh → r ≡ firstCopied (calledIn rows) (expressionTree rows sh) → r ≡ firstCopied (calledIn rows) (expressionAt rows row)
-  shaped-copies f e = e ∙ sym (ap (firstCopied (calledIn rows)) f.is)
+  shaped-copies : {sh : ExpressionShape} {r : ℕ} → ExpressionAt rows row sh → r ≡ first_copied (called_in rows) (expression_tree rows sh) → r ≡ first_copied (called_in rows) (expression_at rows row)
+  shaped-copies f e = e ∙ sym (ap (first_copied (called_in rows)) f.is)
 
-  pub copied_none : {sh : ExpressionShape} → ExpressionAt rows row sh → 0 ≡ firstCopied (calledIn rows) (expressionTree rows sh) → 0 ≡ firstCopied (calledIn rows) (expressionAt rows row)
+  pub copied_none : {sh : ExpressionShape} → ExpressionAt rows row sh → 0 ≡ first_copied (called_in rows) (expression_tree rows sh) → 0 ≡ first_copied (called_in rows) (expression_at rows row)
   copied_none f e = shaped-copies f e
 
-  pub copied-choice : {c : ChoiceShape} → ExpressionAt rows row (Choice c) → 0 ≡ firstCopied (calledIn rows) (expressionAt rows row)
+  pub copied-choice : {c : ChoiceShape} → ExpressionAt rows row (Choice c) → 0 ≡ first_copied (called_in rows) (expression_at rows row)
   copied-choice {c} f = shaped-copies f (choice-copies rows c)
 
-  pub copied-binary : {operator : Operator} {a b r : ℕ} → ExpressionAt rows row (Operation (Binary operator a b)) → r ≡ copied (atomOf (calledIn rows) (expressionAt rows b)) (partWrites (calledIn rows) (part_at rows a)) → r ≡ firstCopied (calledIn rows) (expressionAt rows row)
+  pub copied-binary : {operator : Operator} {a b r : ℕ} → ExpressionAt rows row (Operation (Binary operator a b)) → r ≡ copied (atom_of (called_in rows) (expression_at rows b)) (part_writes (called_in rows) (part_at rows a)) → r ≡ first_copied (called_in rows) (expression_at rows row)
   copied-binary {operator} {a} {b} f e =
-      shaped-copies f (e ∙ copied-same (atomOf (calledIn rows) (expressionAt rows b)) _ (writes (calledIn rows) (expressionAt rows a)) (λ i. ap (λ (p : Part). partWrites (calledIn rows) p i) (part-some rows a (omega (arith, f.onward.0.later)))))
+      shaped-copies f (e ∙ copied-same (atom_of (called_in rows) (expression_at rows b)) _ (writes (called_in rows) (expression_at rows a)) (λ i. ap (λ (p : Part). part_writes (called_in rows) p i) (part-some rows a (omega (arith, f.onward.0.later)))))
 
-  pub copied-assign : {place v index r : ℕ} → ExpressionAt rows row (Operation (Assign place v)) → Operand rows place index (index_of (place_of (expressionAt rows place))) → r ≡ copied (atomOf (calledIn rows) (expressionAt rows v)) (partWrites (calledIn rows) (part_at rows index)) → r ≡ firstCopied (calledIn rows) (expressionAt rows row)
+  pub copied-assign : {place v index r : ℕ} → ExpressionAt rows row (Operation (Assign place v)) → Operand rows place index (index_of (place_of (expression_at rows place))) → r ≡ copied (atom_of (called_in rows) (expression_at rows v)) (part_writes (called_in rows) (part_at rows index)) → r ≡ first_copied (called_in rows) (expression_at rows row)
   copied-assign {place} {v} f o e = shaped-copies f (over-index place v o e)
 
-  pub copied-compound : {operator : Operator} {place v index r : ℕ} → ExpressionAt rows row (Operation (Compound operator place v)) → Operand rows place index (index_of (place_of (expressionAt rows place))) → r ≡ copied (atomOf (calledIn rows) (expressionAt rows v)) (partWrites (calledIn rows) (part_at rows index)) → r ≡ firstCopied (calledIn rows) (expressionAt rows row)
+  pub copied-compound : {operator : Operator} {place v index r : ℕ} → ExpressionAt rows row (Operation (Compound operator place v)) → Operand rows place index (index_of (place_of (expression_at rows place))) → r ≡ copied (atom_of (called_in rows) (expression_at rows v)) (part_writes (called_in rows) (part_at rows index)) → r ≡ first_copied (called_in rows) (expression_at rows row)
   copied-compound {operator} {place} {v} f o e = shaped-copies f (over-index place v o e)
 
 -- a link that is absent or leads on is inside the table
-link-inside : {rows : List ℤ} {row : ℕ} (link : ℕ) → Source rows → OptionalOnward rows row link → link < rowCount rows
-link-inside zero s o = s.sound.some-rows
+link-inside : {rows : List ℤ} {row : ℕ} (link : ℕ) → Source rows → OptionalOnward rows row link → link < row_count rows
+link-inside zero s o = s.sound.some_rows
 link-inside (suc link) s o = (o (omega arith)).inside
 
-pub index-inside : {rows : List ℤ} {place index : ℕ} {part : Part} → Source rows → Operand rows place index part → index < rowCount rows
-index-inside {rows} {place} {index} s o = link-inside index s o.onward
+pub index_inside : {rows : List ℤ} {place index : ℕ} {part : Part} → Source rows → Operand rows place index part → index < row_count rows
+index_inside {rows} {place} {index} s o = link-inside index s o.onward
 
 -- the index of the place at a row
-pub index-variable : {rows : List ℤ} {row i : ℕ} → PlaceAt rows row (Variable i) → Operand rows row 0 (index_of (place_of (expressionAt rows row)))
+pub index-variable : {rows : List ℤ} {row i : ℕ} → PlaceAt rows row (Variable i) → Operand rows row 0 (index_of (place_of (expression_at rows row)))
 index-variable f = record { is = sym (ap index_of f.is); onward = λ h. absurd (omega arith) }
 
-pub index-element : {rows : List ℤ} {row array index : ℕ} → PlaceAt rows row (Element array index) → Operand rows row index (index_of (place_of (expressionAt rows row)))
+pub index-element : {rows : List ℤ} {row array index : ℕ} → PlaceAt rows row (Element array index) → Operand rows row index (index_of (place_of (expression_at rows row)))
 index-element {rows} {row} {array} {index} f = record { is = part-some rows index (omega (arith, f.onward.1.later)) ∙ sym (ap index_of f.is); onward = λ h. f.onward.1 }

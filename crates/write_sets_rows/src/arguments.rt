@@ -1,12 +1,12 @@
 // The write sets of arguments: what the arguments of a call can write, joined along their list. The declared words begin at `store`.
 ghost use Rattle.std.specs.Prelude.{◌+◌, ◌<◌};
-ghost use Rattle.words.specs.Table.{rowCount};
-ghost use Rattle.language.specs.Decode.{argumentsAt, argumentListAt};
-ghost use Rattle.language.specs.Writes.{argumentsWrite};
+ghost use Rattle.words.specs.Table.{row_count};
+ghost use Rattle.language.specs.Decode.{arguments_at, argument_list_at};
+ghost use Rattle.language.specs.Writes.{arguments_write};
 ghost use Rattle.language_shapes.specs.Shapes.{OptionalOnward};
 ghost use Rattle.language_shapes.specs.Source.{Source};
-ghost use Rattle.measures_table.specs.Parts.{calledIn};
-ghost use Rattle.write_sets_rows.specs.WriteSets.{SetIs, SetsFrom, firstWrites, NextArgument};
+ghost use Rattle.measures_table.specs.Parts.{called_in};
+ghost use Rattle.write_sets_rows.specs.WriteSets.{SetIs, SetsFrom, first_writes, NextArgument};
 
 use super::table::set_at;
 use language_shapes::ArgumentShape;
@@ -16,8 +16,8 @@ use write_sets::{WriteSet, join, nothing};
 
 // What the argument at a row writes; a row that is no argument writes nothing.
 fn argument_writes(store: usize, rows: &[i32], sets: &[u64], row: usize) -> WriteSet
-    requires { SetsFrom store rows.now sets.now (row + 1) × (row < rowCount rows.now) }
-    ensures { SetIs store result (firstWrites (calledIn rows.now) (argumentsAt rows.now row)) }
+    requires { SetsFrom store rows.now sets.now (row + 1) × (row < row_count rows.now) }
+    ensures { SetIs store result (first_writes (called_in rows.now) (arguments_at rows.now row)) }
 {
     let shape = argument_at(rows, row);
     match shape {
@@ -28,7 +28,7 @@ fn argument_writes(store: usize, rows: &[i32], sets: &[u64], row: usize) -> Writ
 
 // The row of the argument behind; 0 where there is none.
 fn next_argument(rows: &[i32], row: usize) -> usize
-    requires { Source rows.now × (row < rowCount rows.now) }
+    requires { Source rows.now × (row < row_count rows.now) }
     ensures { NextArgument rows.now row result }
 {
     let next = number_at(rows, row, 5);
@@ -48,7 +48,7 @@ pub fn arguments_writes(
     first: usize,
 ) -> WriteSet
     requires { SetsFrom store rows.now sets.now (row + 1) × OptionalOnward rows.now row first }
-    ensures { SetIs store result (argumentsWrite (calledIn rows.now) (argumentListAt rows.now first)) }
+    ensures { SetIs store result (arguments_write (called_in rows.now) (argument_list_at rows.now first)) }
 {
     let mut any = nothing();
     let mut argument = first;

@@ -1,4 +1,6 @@
 // Which variables the code of each source row can write.
+#![tactic(auto)]
+
 use write_sets::WriteSet;
 
 pub mod arguments; // arguments.rt: what the arguments of a call can write
@@ -8,7 +10,7 @@ pub mod writes; // writes.rt: the write sets of the rows
 
 // What an expression writes: what its own row does, and what is written at its links, of which 0 is absent: up to three expressions, and the
 // first argument of a call.
-#[derive(Drop)]
+#[derive(Clone, Copy)]
 pub struct Reach {
     pub own: WriteSet,
     pub first: usize,

@@ -1,11 +1,11 @@
 // What an expression's own row writes, and the links at which more is written. The declared words begin at `store`; `known` functions have
 // their sets in the table.
 ghost use Rattle.std.specs.Prelude.{◌≡◌, ◌*◌, ◌≤◌, ◌<◌, length};
-ghost use Rattle.words.specs.Table.{rowCount};
+ghost use Rattle.words.specs.Table.{row_count};
 ghost use Rattle.language_shapes.specs.Source.{NamesFrom, Source, ExpressionAt};
 ghost use Rattle.language_shapes.specs.declared.ExpressionShape.TheVariants.{Read, Operation, Choice};
-ghost use Rattle.write_sets_rows.specs.WriteSets.{setWidth};
-ghost use Rattle.write_sets_rows.specs.Reaches.{reachOf, UpdateAt, Reached, ReachedWith};
+ghost use Rattle.write_sets_rows.specs.WriteSets.{set_width};
+ghost use Rattle.write_sets_rows.specs.Reaches.{reach_of, UpdateAt, Reached, ReachedWith};
 
 use super::Reach;
 use super::table::function_set;
@@ -14,7 +14,7 @@ use language_shapes::{ChoiceShape, ExpressionShape, OperationShape, PlaceShape};
 use write_sets::{WriteSet, nothing, single};
 
 fn reaching(own: WriteSet, first: usize, second: usize, third: usize, arguments: usize) -> Reach
-    ensures { result ≡ reachOf own first second third arguments }
+    ensures { result ≡ reach_of own first second third arguments }
 {
     Reach {
         own,
@@ -27,7 +27,7 @@ fn reaching(own: WriteSet, first: usize, second: usize, third: usize, arguments:
 
 // An update of the place at a row, by the value at a link, which may be absent.
 fn update_reach(store: usize, rows: &[i32], place: usize, value: usize) -> Reach
-    requires { Source rows.now × NamesFrom store rows.now × (place < rowCount rows.now) }
+    requires { Source rows.now × NamesFrom store rows.now × (place < row_count rows.now) }
     ensures { UpdateAt store rows.now place value result }
 {
     let shape = place_at(rows, place);
@@ -76,7 +76,7 @@ fn choice_reach(store: usize, rows: &[i32], row: usize, choice: ChoiceShape) -> 
 
 // The expression at a row; a call writes what its function can, and what its arguments can.
 pub fn reach_at(store: usize, rows: &[i32], sets: &[u64], known: usize, row: usize) -> Reach
-    requires { Source rows.now × NamesFrom store rows.now × (row < rowCount rows.now) × (setWidth * known ≤ length sets.now) }
+    requires { Source rows.now × NamesFrom store rows.now × (row < row_count rows.now) × (set_width * known ≤ length sets.now) }
     ensures { ReachedWith store rows.now sets.now known row result }
 {
     let shape = expression_at(rows, row);

@@ -1,6 +1,6 @@
 // The sets in a table, five words each: those of the rows, by row; and before a row's own stands there, that of the function with its number.
 ghost use Rattle.std.specs.Prelude.{◌≡◌, ◌++◌, ◌+◌, ◌*◌, ◌≤◌, length, take, drop};
-ghost use Rattle.write_sets_rows.specs.WriteSets.{setWidth, setOf, set_at, functionSet, SetHeld, setWords};
+ghost use Rattle.write_sets_rows.specs.WriteSets.{set_width, set_of, set_at, function_set, SetHeld, set_words};
 
 use write_sets::{WriteSet, nothing};
 
@@ -9,8 +9,8 @@ const SET_WIDTH: usize = 5;
 
 // The set at a place of the table.
 pub fn set_of(sets: &[u64], place: usize) -> WriteSet
-    requires { setWidth * place + setWidth ≤ length sets.now }
-    ensures { result ≡ setOf sets.now place }
+    requires { set_width * place + set_width ≤ length sets.now }
+    ensures { result ≡ set_of sets.now place }
 {
     let at = SET_WIDTH * place;
     WriteSet {
@@ -35,8 +35,8 @@ pub fn set_at(sets: &[u64], link: usize) -> WriteSet
 
 // The set of a function; those from `known` on are taken to write nothing.
 pub fn function_set(sets: &[u64], known: usize, function: usize) -> WriteSet
-    requires { setWidth * known ≤ length sets.now }
-    ensures { result ≡ functionSet sets.now known function }
+    requires { set_width * known ≤ length sets.now }
+    ensures { result ≡ function_set sets.now known function }
 {
     if function < known {
         return set_of(sets, function);
@@ -46,8 +46,8 @@ pub fn function_set(sets: &[u64], known: usize, function: usize) -> WriteSet
 
 // Puts a set into the table.
 pub fn put_set(sets: &mut [u64], place: usize, set: WriteSet)
-    requires { setWidth * place + setWidth ≤ length sets.old }
-    ensures { sets.new ≡ take (setWidth * place) sets.old ++ setWords set ++ drop (setWidth * place + setWidth) sets.old }
+    requires { set_width * place + set_width ≤ length sets.old }
+    ensures { sets.new ≡ take (set_width * place) sets.old ++ set_words set ++ drop (set_width * place + set_width) sets.old }
 {
     let at = SET_WIDTH * place;
     sets[at] = set.word0;

@@ -2,12 +2,12 @@
 // last to the first. The declared words begin at `store`. The table holds the functions' sets by number until the rows take their places: a
 // call's row is above its function's number.
 ghost use Rattle.std.specs.Prelude.{◌+◌, ◌*◌, ◌≤◌, ◌<◌, length};
-ghost use Rattle.words.specs.Table.{rowCount};
-ghost use Rattle.language.specs.Decode.{expressionAt};
+ghost use Rattle.words.specs.Table.{row_count};
+ghost use Rattle.language.specs.Decode.{expression_at};
 ghost use Rattle.language.specs.Writes.{writes};
 ghost use Rattle.language_shapes.specs.Source.{NamesFrom, Source};
-ghost use Rattle.measures_table.specs.Parts.{calledIn};
-ghost use Rattle.write_sets_rows.specs.WriteSets.{SetIs, setWidth, FunctionSets, SetsFrom, Sets};
+ghost use Rattle.measures_table.specs.Parts.{called_in};
+ghost use Rattle.write_sets_rows.specs.WriteSets.{SetIs, set_width, FunctionSets, SetsFrom, Sets};
 
 use super::arguments::arguments_writes;
 use super::reaches::reach_at;
@@ -16,8 +16,8 @@ use write_sets::{WriteSet, join};
 
 // What the expression at a row writes, from what is written at its links.
 fn writes_at(store: usize, rows: &[i32], sets: &[u64], row: usize) -> WriteSet
-    requires { SetsFrom store rows.now sets.now (row + 1) × FunctionSets store rows.now sets.now row × (row < rowCount rows.now) }
-    ensures { SetIs store result (writes (calledIn rows.now) (expressionAt rows.now row)) }
+    requires { SetsFrom store rows.now sets.now (row + 1) × FunctionSets store rows.now sets.now row × (row < row_count rows.now) }
+    ensures { SetIs store result (writes (called_in rows.now) (expression_at rows.now row)) }
 {
     let reach = reach_at(store, rows, sets, row, row);
     let passed = arguments_writes(store, rows, sets, row, reach.arguments);
@@ -28,7 +28,7 @@ fn writes_at(store: usize, rows: &[i32], sets: &[u64], row: usize) -> WriteSet
 }
 
 fn fill_set(store: usize, rows: &[i32], sets: &mut [u64], row: usize)
-    requires { SetsFrom store rows.now sets.old (row + 1) × FunctionSets store rows.now sets.old row × (row < rowCount rows.now) }
+    requires { SetsFrom store rows.now sets.old (row + 1) × FunctionSets store rows.now sets.old row × (row < row_count rows.now) }
     ensures { SetsFrom store rows.now sets.new row × FunctionSets store rows.now sets.new row }
 {
     let set = writes_at(store, rows, sets, row);
@@ -37,7 +37,7 @@ fn fill_set(store: usize, rows: &[i32], sets: &mut [u64], row: usize)
 
 // Fills the table of write sets, in which the functions have theirs.
 pub fn fill_sets(store: usize, rows: &[i32], sets: &mut [u64])
-    requires { Source rows.now × NamesFrom store rows.now × (setWidth * rowCount rows.now ≤ length sets.old) × FunctionSets store rows.now sets.old (rowCount rows.now) }
+    requires { Source rows.now × NamesFrom store rows.now × (set_width * row_count rows.now ≤ length sets.old) × FunctionSets store rows.now sets.old (row_count rows.now) }
     ensures { Sets store rows.now sets.new }
 {
     let mut row = rows.len() / 6;

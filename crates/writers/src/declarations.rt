@@ -1,12 +1,12 @@
 // The writer of declarations.
 ghost use Rattle.std.specs.Prelude.{◌≡◌, length};
-ghost use Rattle.language_emission.specs.Emission.{emitItems};
-ghost use Rattle.language.specs.Decode.{expressionAt};
+ghost use Rattle.language_emission.specs.Emission.{emit_items};
+ghost use Rattle.language.specs.Decode.{expression_at};
 ghost use Rattle.writers_steps.specs.Asks.{Writing};
-ghost use Rattle.measures_table.specs.Parts.{calledIn};
+ghost use Rattle.measures_table.specs.Parts.{called_in};
 ghost use Rattle.words.specs.Over.{over};
 ghost use Rattle.writers.specs.Asks.{DeclareAsks};
-ghost use Rattle.writers.specs.Code.{declaredCode};
+ghost use Rattle.writers.specs.Code.{declared_code};
 
 use measures_expressions::holders::store_rows;
 use translation::Use;
@@ -28,7 +28,7 @@ pub fn write_declare(
     out: &mut [i32],
 )
     requires { Writing rows.now table.now store × DeclareAsks rows.now number value base (length out.old) }
-    ensures { out.new ≡ over (emitItems follows (declaredCode (calledIn rows.now) store number (expressionAt rows.now value)) base) out.old }
+    ensures { out.new ≡ over (emit_items follows (declared_code (called_in rows.now) store number (expression_at rows.now value)) base) out.old }
 {
     let n = operand_size(rows, table, value, Use::Stored(number));
     let then = more(follows, store_rows(rows, value));

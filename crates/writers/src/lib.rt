@@ -1,5 +1,7 @@
 // Writers: the code that writes the rows of a translation. The output table's part from the free row is lent on to each construct's
 // writer; the table of measures says beforehand how many rows each takes.
+#![tactic(auto)]
+
 pub mod declarations; // declarations.rt: the writer of declarations
 pub mod lists; // lists.rt: what statements, items, lists and arms take, by the table of measures
 pub mod loops; // loops.rt: the parts of a loop
@@ -8,14 +10,14 @@ pub mod statements; // statements.rt: the writers of statements, blocks and list
 pub mod switches; // switches.rt: the tests of a switch
 
 // The labels to which break and continue go.
-#[derive(Drop)]
+#[derive(Clone, Copy)]
 pub struct Exits {
     pub breaking: usize,
     pub continuing: usize,
 }
 
 // The parts of a loop, by their rows; 0 is absent. `before` is tested before the body, `after` behind it.
-#[derive(Drop)]
+#[derive(Clone, Copy)]
 pub struct Loop {
     pub first: usize,
     pub before: usize,

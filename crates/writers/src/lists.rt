@@ -1,14 +1,14 @@
 // What statements, items, lists and arms take, by the table of measures: rows, labels, cases.
 ghost use Rattle.std.specs.Prelude.{◌≡◌, ◌≤◌, ◌<◌};
-ghost use Rattle.words.specs.Table.{rowCount};
+ghost use Rattle.words.specs.Table.{row_count};
 ghost use Rattle.language.specs.Trees.{default};
-ghost use Rattle.language.specs.Decode.{statementAt, itemsAt, listAt, armListAt};
-ghost use Rattle.translation.specs.Translate.{labels, armsLabels, label_of};
-ghost use Rattle.translation.specs.TranslateSize.{statementSize, armsSize, itemsSize, cases};
-ghost use Rattle.measures_table.specs.Parts.{calledIn};
+ghost use Rattle.language.specs.Decode.{statement_at, items_at, list_at, arm_list_at};
+ghost use Rattle.translation.specs.Translate.{labels, arms_labels, label_of};
+ghost use Rattle.translation.specs.TranslateSize.{statement_size, arms_size, items_size, cases};
+ghost use Rattle.measures_table.specs.Parts.{called_in};
 ghost use Rattle.measures_table.specs.Measures.{Measured};
-ghost use Rattle.writers.specs.Items.{itemSize, itemLabels};
-ghost use Rattle.writers.specs.Asks.{bodySize, ListInside};
+ghost use Rattle.writers.specs.Items.{item_size, item_labels};
+ghost use Rattle.writers.specs.Asks.{body_size, ListInside};
 
 use language_shapes::Item;
 use language_shapes::rows::item_at;
@@ -20,24 +20,24 @@ use measures_table::{
 
 // The kernel rows of the statement at a row.
 pub fn statement_size(rows: &[i32], table: &[usize], row: usize) -> usize
-    requires { Measured rows.now table.now × (row < rowCount rows.now) × (statementSize (calledIn rows.now) (statementAt rows.now row) ≤ 40980) }
-    ensures { result ≡ statementSize (calledIn rows.now) (statementAt rows.now row) }
+    requires { Measured rows.now table.now × (row < row_count rows.now) × (statement_size (called_in rows.now) (statement_at rows.now row) ≤ 40980) }
+    ensures { result ≡ statement_size (called_in rows.now) (statement_at rows.now row) }
 {
     table[WIDTH * row + STATEMENT_ROWS]
 }
 
 // The labels of the statement at a row.
 pub fn statement_labels(rows: &[i32], table: &[usize], row: usize) -> usize
-    requires { Measured rows.now table.now × (row < rowCount rows.now) × (labels (statementAt rows.now row) ≤ 65535) }
-    ensures { result ≡ labels (statementAt rows.now row) }
+    requires { Measured rows.now table.now × (row < row_count rows.now) × (labels (statement_at rows.now row) ≤ 65535) }
+    ensures { result ≡ labels (statement_at rows.now row) }
 {
     table[WIDTH * row + STATEMENT_LABELS]
 }
 
 // The kernel rows of a branch that may be absent.
 pub fn body_size(rows: &[i32], table: &[usize], row: usize) -> usize
-    requires { Measured rows.now table.now × (row < rowCount rows.now) × (bodySize rows.now row ≤ 40980) }
-    ensures { result ≡ bodySize rows.now row }
+    requires { Measured rows.now table.now × (row < row_count rows.now) × (body_size rows.now row ≤ 40980) }
+    ensures { result ≡ body_size rows.now row }
 {
     if row == 0 {
         return 0;
@@ -47,32 +47,32 @@ pub fn body_size(rows: &[i32], table: &[usize], row: usize) -> usize
 
 // The kernel rows of the list at a link.
 pub fn list_size(rows: &[i32], table: &[usize], list: usize) -> usize
-    requires { Measured rows.now table.now × (list < rowCount rows.now) × (itemsSize (calledIn rows.now) (listAt rows.now list) ≤ 40980) }
-    ensures { result ≡ itemsSize (calledIn rows.now) (listAt rows.now list) }
+    requires { Measured rows.now table.now × (list < row_count rows.now) × (items_size (called_in rows.now) (list_at rows.now list) ≤ 40980) }
+    ensures { result ≡ items_size (called_in rows.now) (list_at rows.now list) }
 {
     measure_at(table, list, LIST_ROWS)
 }
 
 // The cases of the list at a link.
 pub fn list_cases(rows: &[i32], table: &[usize], list: usize) -> usize
-    requires { Measured rows.now table.now × (list < rowCount rows.now) × (cases (listAt rows.now list) ≤ 40980) }
-    ensures { result ≡ cases (listAt rows.now list) }
+    requires { Measured rows.now table.now × (list < row_count rows.now) × (cases (list_at rows.now list) ≤ 40980) }
+    ensures { result ≡ cases (list_at rows.now list) }
 {
     measure_at(table, list, LIST_CASES)
 }
 
 // The kernel rows of the arms at a link.
 pub fn arms_size(rows: &[i32], table: &[usize], arms: usize) -> usize
-    requires { Measured rows.now table.now × (arms < rowCount rows.now) × (armsSize (calledIn rows.now) (armListAt rows.now arms) ≤ 40980) }
-    ensures { result ≡ armsSize (calledIn rows.now) (armListAt rows.now arms) }
+    requires { Measured rows.now table.now × (arms < row_count rows.now) × (arms_size (called_in rows.now) (arm_list_at rows.now arms) ≤ 40980) }
+    ensures { result ≡ arms_size (called_in rows.now) (arm_list_at rows.now arms) }
 {
     measure_at(table, arms, ARMS_ROWS)
 }
 
 // The labels of the arms at a link.
 pub fn arms_labels(rows: &[i32], table: &[usize], arms: usize) -> usize
-    requires { Measured rows.now table.now × (arms < rowCount rows.now) × (armsLabels (armListAt rows.now arms) ≤ 65535) }
-    ensures { result ≡ armsLabels (armListAt rows.now arms) }
+    requires { Measured rows.now table.now × (arms < row_count rows.now) × (arms_labels (arm_list_at rows.now arms) ≤ 65535) }
+    ensures { result ≡ arms_labels (arm_list_at rows.now arms) }
 {
     measure_at(table, arms, ARMS_LABELS)
 }
@@ -86,7 +86,7 @@ pub fn default_label(
     other: usize,
 ) -> usize
     requires { Measured rows.now table.now × ListInside rows.now list label }
-    ensures { result ≡ label_of default (listAt rows.now list) label other }
+    ensures { result ≡ label_of default (list_at rows.now list) label other }
 {
     let place = measure_at(table, list, LIST_DEFAULT);
     if place == 0 {
@@ -97,8 +97,8 @@ pub fn default_label(
 
 // The kernel rows of the item at a row.
 pub fn item_size(rows: &[i32], table: &[usize], row: usize) -> usize
-    requires { Measured rows.now table.now × (row < rowCount rows.now) × (itemSize (calledIn rows.now) (itemsAt rows.now row) ≤ 40980) }
-    ensures { result ≡ itemSize (calledIn rows.now) (itemsAt rows.now row) }
+    requires { Measured rows.now table.now × (row < row_count rows.now) × (item_size (called_in rows.now) (items_at rows.now row) ≤ 40980) }
+    ensures { result ≡ item_size (called_in rows.now) (items_at rows.now row) }
 {
     let item = item_at(rows, row);
     match item {
@@ -110,8 +110,8 @@ pub fn item_size(rows: &[i32], table: &[usize], row: usize) -> usize
 
 // The labels of the item at a row.
 pub fn item_labels(rows: &[i32], table: &[usize], row: usize) -> usize
-    requires { Measured rows.now table.now × (row < rowCount rows.now) × (itemLabels (itemsAt rows.now row) ≤ 65535) }
-    ensures { result ≡ itemLabels (itemsAt rows.now row) }
+    requires { Measured rows.now table.now × (row < row_count rows.now) × (item_labels (items_at rows.now row) ≤ 65535) }
+    ensures { result ≡ item_labels (items_at rows.now row) }
 {
     let item = item_at(rows, row);
     match item {

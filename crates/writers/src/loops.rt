@@ -1,17 +1,17 @@
 // The parts of a loop: its test, the end of its rounds, and the rows of a round. While, do and for have one form.
 ghost use Rattle.std.specs.Prelude.{◌≡◌, false, ◌≤◌, ◌<◌, length};
-ghost use Rattle.words.specs.Table.{rowCount};
+ghost use Rattle.words.specs.Table.{row_count};
 ghost use Rattle.language.specs.Trees.{none};
 ghost use Rattle.language.specs.Decode.{part_at};
-ghost use Rattle.translation.specs.Translate.{testCode};
-ghost use Rattle.translation.specs.TranslateSize.{testSize as testSizeOf};
-ghost use Rattle.language_emission.specs.Emission.{emitItems};
-ghost use Rattle.measures_table.specs.Parts.{calledIn};
+ghost use Rattle.translation.specs.Translate.{test_code};
+ghost use Rattle.translation.specs.TranslateSize.{test_size as test_size_of};
+ghost use Rattle.language_emission.specs.Emission.{emit_items};
+ghost use Rattle.measures_table.specs.Parts.{called_in};
 ghost use Rattle.measures_table.specs.Measures.{Measured};
 ghost use Rattle.words.specs.Over.{over};
 ghost use Rattle.writers_steps.specs.Asks.{Writing};
-ghost use Rattle.writers.specs.Code.{roundEnd};
-ghost use Rattle.writers.specs.Asks.{roundSize, LoopFits, TestAsks, RoundEndAsks};
+ghost use Rattle.writers.specs.Code.{round_end};
+ghost use Rattle.writers.specs.Asks.{round_size, LoopFits, TestAsks, RoundEndAsks};
 
 use super::Loop;
 use super::lists::statement_size;
@@ -23,8 +23,8 @@ use writers_steps::atoms::{atom_at, operand_size};
 
 // The rows of a loop's test; an absent one takes none.
 pub fn test_size(rows: &[i32], table: &[usize], test: usize) -> usize
-    requires { Measured rows.now table.now × (test < rowCount rows.now) × (testSizeOf (calledIn rows.now) (part_at rows.now test) ≤ 40980) }
-    ensures { result ≡ testSizeOf (calledIn rows.now) (part_at rows.now test) }
+    requires { Measured rows.now table.now × (test < row_count rows.now) × (test_size_of (called_in rows.now) (part_at rows.now test) ≤ 40980) }
+    ensures { result ≡ test_size_of (called_in rows.now) (part_at rows.now test) }
 {
     if test == 0 {
         return 0;
@@ -44,7 +44,7 @@ pub fn write_test(
     out: &mut [i32],
 )
     requires { Writing rows.now table.now store × TestAsks rows.now test label base (length out.old) }
-    ensures { out.new ≡ over (emitItems follows (testCode (calledIn rows.now) store (part_at rows.now test) label none) base) out.old }
+    ensures { out.new ≡ over (emit_items follows (test_code (called_in rows.now) store (part_at rows.now test) label none) base) out.old }
 {
     if test == 0 {
         return;
@@ -67,7 +67,7 @@ pub fn write_round_end(
     out: &mut [i32],
 )
     requires { Writing rows.now table.now store × RoundEndAsks rows.now action after label base (length out.old) }
-    ensures { out.new ≡ over (emitItems false (roundEnd store rows.now (part_at rows.now action) (part_at rows.now after) label) base) out.old }
+    ensures { out.new ≡ over (emit_items false (round_end store rows.now (part_at rows.now action) (part_at rows.now after) label) base) out.old }
 {
     let k = operand_size(rows, table, action, Use::Dropped);
     let end = test_size(rows, table, after);
@@ -99,8 +99,8 @@ pub fn write_round_end(
 
 // The rows of a round.
 pub fn round_size(rows: &[i32], table: &[usize], parts: Loop) -> usize
-    requires { Measured rows.now table.now × LoopFits rows.now parts 0 × (roundSize rows.now parts ≤ 40980) }
-    ensures { result ≡ roundSize rows.now parts }
+    requires { Measured rows.now table.now × LoopFits rows.now parts 0 × (round_size rows.now parts ≤ 40980) }
+    ensures { result ≡ round_size rows.now parts }
 {
     let before = test_size(rows, table, parts.before);
     let body = statement_size(rows, table, parts.body);

@@ -1,12 +1,12 @@
 // The writer of returns.
 ghost use Rattle.std.specs.Prelude.{◌≡◌, length};
-ghost use Rattle.language_emission.specs.Emission.{emitItems};
+ghost use Rattle.language_emission.specs.Emission.{emit_items};
 ghost use Rattle.language.specs.Decode.{part_at};
-ghost use Rattle.measures_table.specs.Parts.{calledIn};
+ghost use Rattle.measures_table.specs.Parts.{called_in};
 ghost use Rattle.writers_steps.specs.Asks.{Writing};
 ghost use Rattle.words.specs.Over.{over};
 ghost use Rattle.writers.specs.Asks.{ReturnAsks};
-ghost use Rattle.writers.specs.Code.{returnedCode};
+ghost use Rattle.writers.specs.Code.{returned_code};
 
 use translation::Use;
 use writers_expressions::expressions::write_expression;
@@ -25,7 +25,7 @@ pub fn write_return(
     out: &mut [i32],
 )
     requires { Writing rows.now table.now store × ReturnAsks rows.now value base (length out.old) }
-    ensures { out.new ≡ over (emitItems follows (returnedCode (calledIn rows.now) store (part_at rows.now value)) base) out.old }
+    ensures { out.new ≡ over (emit_items follows (returned_code (called_in rows.now) store (part_at rows.now value)) base) out.old }
 {
     if value == 0 {
         put_return(KernelAtom::Constant(0), base, follows, out);

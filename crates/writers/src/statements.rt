@@ -1,17 +1,17 @@
 // The writers of statements, blocks, lists and arms: the functions that call each other, by what they write.
 ghost use Rattle.std.specs.Prelude.{◌≡◌, true, false, length};
-ghost use Rattle.language_emission.specs.Emission.{emitItems, emitStatement};
-ghost use Rattle.language.specs.Decode.{expressionAt, ifOf, statementAt, itemsAt, armsAt, listAt, armListAt};
-ghost use Rattle.language.specs.Trees.{block, none, ◌then◌, switch, guardedIf, guardedDo, no_arm, arm};
+ghost use Rattle.language_emission.specs.Emission.{emit_items, emit_statement};
+ghost use Rattle.language.specs.Decode.{expression_at, if_of, statement_at, items_at, arms_at, list_at, arm_list_at};
+ghost use Rattle.language.specs.Trees.{block, none, ◌then◌, switch, guarded_if, guarded_do, no_arm, arm};
 ghost use Rattle.writers_steps.specs.Asks.{Writing};
 ghost use Rattle.writers_rows.specs.Room.{Room};
 ghost use Rattle.translation.specs.declared.Use.TheVariants.{Dropped as dropped};
-ghost use Rattle.translation.specs.Translate.{expressionCode, orEmpty, statementCode, armsCode, itemsCode};
-ghost use Rattle.measures_table.specs.Parts.{calledIn};
+ghost use Rattle.translation.specs.Translate.{expression_code, or_empty, statement_code, arms_code, items_code};
+ghost use Rattle.measures_table.specs.Parts.{called_in};
 ghost use Rattle.words.specs.Over.{over};
-ghost use Rattle.writers.specs.Asks.{BodyAsks, IfAsks, StatementAsks, ListAsks, BlockAsks, ItemAsks, ExpressAsks, SwitchAsks, ArmsAsk, ArmAsks, GuardedAsks, ChoiceAsks, RoundsAsk, roundSize, loopSize, LoopFits};
-ghost use Rattle.writers.specs.Code.{exitsOf, bodyCode, round_code, wholeLoop};
-ghost use Rattle.writers.specs.Items.{itemCode, firstOnly};
+ghost use Rattle.writers.specs.Asks.{BodyAsks, IfAsks, StatementAsks, ListAsks, BlockAsks, ItemAsks, ExpressAsks, SwitchAsks, ArmsAsk, ArmAsks, GuardedAsks, ChoiceAsks, RoundsAsk, round_size, loop_size, LoopFits};
+ghost use Rattle.writers.specs.Code.{exits_of, body_code, round_code, whole_loop};
+ghost use Rattle.writers.specs.Items.{item_code, first_only};
 
 use super::declarations::write_declare;
 use super::lists::{
@@ -44,7 +44,7 @@ fn write_express(
     out: &mut [i32],
 )
     requires { Writing rows.now table.now store × ExpressAsks rows.now expression base (length out.old) }
-    ensures { out.new ≡ over (emitItems follows (orEmpty store (expressionCode (calledIn rows.now) store (expressionAt rows.now expression) dropped 0)) base) out.old }
+    ensures { out.new ≡ over (emit_items follows (or_empty store (expression_code (called_in rows.now) store (expression_at rows.now expression) dropped 0)) base) out.old }
 {
     let n = operand_size(rows, table, expression, Use::Dropped);
     if n == 0 {
@@ -65,7 +65,7 @@ fn write_express(
 }
 
 // The code of the statement at a row. Its labels begin at `label`.
-#[cycle(write_arm_write_arms_write_block_write_body_write_choice_write_guarded_write_if_write_item_write_list_write_loop_write_round_write_rounds_write_statement_write_switch)]
+#[cycle(write_statements)]
 pub fn write_statement(
     rows: &[i32],
     table: &[usize],
@@ -78,7 +78,7 @@ pub fn write_statement(
     out: &mut [i32],
 )
     requires { Writing rows.now table.now store × StatementAsks rows.now row exits label base (length out.old) }
-    ensures { out.new ≡ over (emitItems follows (statementCode (calledIn rows.now) store (statementAt rows.now row) (exitsOf exits) label) base) out.old }
+    ensures { out.new ≡ over (emit_items follows (statement_code (called_in rows.now) store (statement_at rows.now row) (exits_of exits) label) base) out.old }
 {
     let line = statement_at(rows, row);
     match line {
@@ -163,7 +163,7 @@ pub fn write_statement(
 // ---- ifs
 
 // An if: its test, and a block for each branch.
-#[cycle(write_arm_write_arms_write_block_write_body_write_choice_write_guarded_write_if_write_item_write_list_write_loop_write_round_write_rounds_write_statement_write_switch)]
+#[cycle(write_statements)]
 fn write_if(
     rows: &[i32],
     table: &[usize],
@@ -178,7 +178,7 @@ fn write_if(
     out: &mut [i32],
 )
     requires { Writing rows.now table.now store × IfAsks rows.now test yes no exits label base (length out.old) }
-    ensures { out.new ≡ over (emitItems follows (statementCode (calledIn rows.now) store (ifOf no (expressionAt rows.now test) (statementAt rows.now yes) (statementAt rows.now no)) (exitsOf exits) label) base) out.old }
+    ensures { out.new ≡ over (emit_items follows (statement_code (called_in rows.now) store (if_of no (expression_at rows.now test) (statement_at rows.now yes) (statement_at rows.now no)) (exits_of exits) label) base) out.old }
 {
     let k = operand_size(rows, table, test, Use::Wanted);
     let n = k + 2;
@@ -217,7 +217,7 @@ fn write_if(
 }
 
 // A block of the statement at a link, or an empty one.
-#[cycle(write_arm_write_arms_write_block_write_body_write_choice_write_guarded_write_if_write_item_write_list_write_loop_write_round_write_rounds_write_statement_write_switch)]
+#[cycle(write_statements)]
 fn write_body(
     rows: &[i32],
     table: &[usize],
@@ -229,7 +229,7 @@ fn write_body(
     out: &mut [i32],
 )
     requires { Writing rows.now table.now store × BodyAsks rows.now row exits label base (length out.old) }
-    ensures { out.new ≡ over (emitStatement (block (bodyCode store rows.now row (exitsOf exits) label)) base 0) out.old }
+    ensures { out.new ≡ over (emit_statement (block (body_code store rows.now row (exits_of exits) label)) base 0) out.old }
 {
     if row == 0 {
         put_block(0, 0, out);
@@ -252,7 +252,7 @@ fn write_body(
 // ---- loops: while, do and for have one form
 
 // A loop: its first part, the loop itself, and the label behind it.
-#[cycle(write_arm_write_arms_write_block_write_body_write_choice_write_guarded_write_if_write_item_write_list_write_loop_write_round_write_rounds_write_statement_write_switch)]
+#[cycle(write_statements)]
 fn write_loop(
     rows: &[i32],
     table: &[usize],
@@ -263,8 +263,8 @@ fn write_loop(
     follows: bool,
     out: &mut [i32],
 )
-    requires { Writing rows.now table.now store × LoopFits rows.now parts label × Room (loopSize rows.now parts) base (length out.old) }
-    ensures { out.new ≡ over (emitItems follows (wholeLoop store rows.now parts label) base) out.old }
+    requires { Writing rows.now table.now store × LoopFits rows.now parts label × Room (loop_size rows.now parts) base (length out.old) }
+    ensures { out.new ≡ over (emit_items follows (whole_loop store rows.now parts label) base) out.old }
 {
     let first = parts.first;
     let k = operand_size(rows, table, first, Use::Dropped);
@@ -286,7 +286,7 @@ fn write_loop(
 }
 
 // A round of a loop.
-#[cycle(write_arm_write_arms_write_block_write_body_write_choice_write_guarded_write_if_write_item_write_list_write_loop_write_round_write_rounds_write_statement_write_switch)]
+#[cycle(write_statements)]
 fn write_round(
     rows: &[i32],
     table: &[usize],
@@ -296,8 +296,8 @@ fn write_round(
     base: usize,
     out: &mut [i32],
 )
-    requires { Writing rows.now table.now store × LoopFits rows.now parts label × Room (roundSize rows.now parts) base (length out.old) }
-    ensures { out.new ≡ over (emitItems false (round_code store rows.now parts label) base) out.old }
+    requires { Writing rows.now table.now store × LoopFits rows.now parts label × Room (round_size rows.now parts) base (length out.old) }
+    ensures { out.new ≡ over (emit_items false (round_code store rows.now parts label) base) out.old }
 {
     let before = parts.before;
     let body = parts.body;
@@ -334,7 +334,7 @@ fn write_round(
 // ---- switches
 
 // A switch: its selector, the tests, the jump to the default, the items, and the label behind it.
-#[cycle(write_arm_write_arms_write_block_write_body_write_choice_write_guarded_write_if_write_item_write_list_write_loop_write_round_write_rounds_write_statement_write_switch)]
+#[cycle(write_statements)]
 fn write_switch(
     rows: &[i32],
     table: &[usize],
@@ -348,7 +348,7 @@ fn write_switch(
     out: &mut [i32],
 )
     requires { Writing rows.now table.now store × SwitchAsks rows.now selector list exits label base (length out.old) }
-    ensures { out.new ≡ over (emitItems follows (statementCode (calledIn rows.now) store (switch (expressionAt rows.now selector) (listAt rows.now list)) (exitsOf exits) label) base) out.old }
+    ensures { out.new ≡ over (emit_items follows (statement_code (called_in rows.now) store (switch (expression_at rows.now selector) (list_at rows.now list)) (exits_of exits) label) base) out.old }
 {
     let k = operand_size(rows, table, selector, Use::Wanted);
     let n = k + 11 * list_cases(rows, table, list);
@@ -405,7 +405,7 @@ fn write_switch(
 // ---- guarded forms
 
 // A guarded if: its arms, an abort, and the label behind it.
-#[cycle(write_arm_write_arms_write_block_write_body_write_choice_write_guarded_write_if_write_item_write_list_write_loop_write_round_write_rounds_write_statement_write_switch)]
+#[cycle(write_statements)]
 fn write_choice(
     rows: &[i32],
     table: &[usize],
@@ -418,7 +418,7 @@ fn write_choice(
     out: &mut [i32],
 )
     requires { Writing rows.now table.now store × ChoiceAsks rows.now arms exits label base (length out.old) }
-    ensures { out.new ≡ over (emitItems follows (statementCode (calledIn rows.now) store (guardedIf (armListAt rows.now arms)) (exitsOf exits) label) base) out.old }
+    ensures { out.new ≡ over (emit_items follows (statement_code (called_in rows.now) store (guarded_if (arm_list_at rows.now arms)) (exits_of exits) label) base) out.old }
 {
     let n = arms_size(rows, table, arms);
     write_arms(rows, table, store, arms, exits, label, label + 1, base, out);
@@ -426,7 +426,7 @@ fn write_choice(
 }
 
 // A guarded do: a loop around its arms, and the label behind it; without arms an empty statement.
-#[cycle(write_arm_write_arms_write_block_write_body_write_choice_write_guarded_write_if_write_item_write_list_write_loop_write_round_write_rounds_write_statement_write_switch)]
+#[cycle(write_statements)]
 fn write_rounds(
     rows: &[i32],
     table: &[usize],
@@ -439,7 +439,7 @@ fn write_rounds(
     out: &mut [i32],
 )
     requires { Writing rows.now table.now store × RoundsAsk rows.now arms exits label base (length out.old) }
-    ensures { out.new ≡ over (emitItems follows (statementCode (calledIn rows.now) store (guardedDo (armListAt rows.now arms)) (exitsOf exits) label) base) out.old }
+    ensures { out.new ≡ over (emit_items follows (statement_code (called_in rows.now) store (guarded_do (arm_list_at rows.now arms)) (exits_of exits) label) base) out.old }
 {
     let n = arms_size(rows, table, arms);
     if n == 0 {
@@ -463,7 +463,7 @@ fn write_rounds(
 }
 
 // The arms at a link, one behind the other. Their labels begin at `label`; each goes to the label `target`. More follows.
-#[cycle(write_arm_write_arms_write_block_write_body_write_choice_write_guarded_write_if_write_item_write_list_write_loop_write_round_write_rounds_write_statement_write_switch)]
+#[cycle(write_statements)]
 fn write_arms(
     rows: &[i32],
     table: &[usize],
@@ -476,7 +476,7 @@ fn write_arms(
     out: &mut [i32],
 )
     requires { Writing rows.now table.now store × ArmsAsk rows.now arms exits target label base (length out.old) }
-    ensures { out.new ≡ over (emitItems true (armsCode (calledIn rows.now) store (armListAt rows.now arms) (exitsOf exits) target label) base) out.old }
+    ensures { out.new ≡ over (emit_items true (arms_code (called_in rows.now) store (arm_list_at rows.now arms) (exits_of exits) target label) base) out.old }
 {
     let size = arms_size(rows, table, arms);
     let last = label + arms_labels(rows, table, arms);
@@ -503,7 +503,7 @@ fn write_arms(
 }
 
 // The arm at a row.
-#[cycle(write_arm_write_arms_write_block_write_body_write_choice_write_guarded_write_if_write_item_write_list_write_loop_write_round_write_rounds_write_statement_write_switch)]
+#[cycle(write_statements)]
 fn write_arm(
     rows: &[i32],
     table: &[usize],
@@ -516,7 +516,7 @@ fn write_arm(
     out: &mut [i32],
 )
     requires { Writing rows.now table.now store × ArmAsks rows.now row exits target label base (length out.old) }
-    ensures { out.new ≡ over (emitItems true (armsCode (calledIn rows.now) store (firstOnly (armsAt rows.now row)) (exitsOf exits) target label) base) out.old }
+    ensures { out.new ≡ over (emit_items true (arms_code (called_in rows.now) store (first_only (arms_at rows.now row)) (exits_of exits) target label) base) out.old }
 {
     let shape = arm_at(rows, row);
     match shape {
@@ -528,7 +528,7 @@ fn write_arm(
 }
 
 // An arm by its links: its guard; where that is true its block, and on to the label `target`.
-#[cycle(write_arm_write_arms_write_block_write_body_write_choice_write_guarded_write_if_write_item_write_list_write_loop_write_round_write_rounds_write_statement_write_switch)]
+#[cycle(write_statements)]
 fn write_guarded(
     rows: &[i32],
     table: &[usize],
@@ -542,7 +542,7 @@ fn write_guarded(
     out: &mut [i32],
 )
     requires { Writing rows.now table.now store × GuardedAsks rows.now guard body exits target label base (length out.old) }
-    ensures { out.new ≡ over (emitItems true (armsCode (calledIn rows.now) store (arm (expressionAt rows.now guard) (statementAt rows.now body) no_arm) (exitsOf exits) target label) base) out.old }
+    ensures { out.new ≡ over (emit_items true (arms_code (called_in rows.now) store (arm (expression_at rows.now guard) (statement_at rows.now body) no_arm) (exits_of exits) target label) base) out.old }
 {
     let k = operand_size(rows, table, guard, Use::Wanted);
     let n = k + 3;
@@ -568,7 +568,7 @@ fn write_guarded(
 // ---- blocks and lists
 
 // A block of the list at a link.
-#[cycle(write_arm_write_arms_write_block_write_body_write_choice_write_guarded_write_if_write_item_write_list_write_loop_write_round_write_rounds_write_statement_write_switch)]
+#[cycle(write_statements)]
 pub fn write_block(
     rows: &[i32],
     table: &[usize],
@@ -581,7 +581,7 @@ pub fn write_block(
     out: &mut [i32],
 )
     requires { Writing rows.now table.now store × BlockAsks rows.now list exits label base (length out.old) }
-    ensures { out.new ≡ over (emitItems follows (block (itemsCode (calledIn rows.now) store (listAt rows.now list) (exitsOf exits) label) then none) base) out.old }
+    ensures { out.new ≡ over (emit_items follows (block (items_code (called_in rows.now) store (list_at rows.now list) (exits_of exits) label) then none) base) out.old }
 {
     let n = list_size(rows, table, list);
     put_block(
@@ -603,7 +603,7 @@ pub fn write_block(
 }
 
 // The code of the list at a link. Its labels begin at `label`.
-#[cycle(write_arm_write_arms_write_block_write_body_write_choice_write_guarded_write_if_write_item_write_list_write_loop_write_round_write_rounds_write_statement_write_switch)]
+#[cycle(write_statements)]
 pub fn write_list(
     rows: &[i32],
     table: &[usize],
@@ -616,7 +616,7 @@ pub fn write_list(
     out: &mut [i32],
 )
     requires { Writing rows.now table.now store × ListAsks rows.now list exits label base (length out.old) }
-    ensures { out.new ≡ over (emitItems follows (itemsCode (calledIn rows.now) store (listAt rows.now list) (exitsOf exits) label) base) out.old }
+    ensures { out.new ≡ over (emit_items follows (items_code (called_in rows.now) store (list_at rows.now list) (exits_of exits) label) base) out.old }
 {
     let mut item = list;
     let mut from = label;
@@ -642,7 +642,7 @@ pub fn write_list(
 }
 
 // The item at a row: a statement's code, or a mark's label; a definition brings nothing where it stands.
-#[cycle(write_arm_write_arms_write_block_write_body_write_choice_write_guarded_write_if_write_item_write_list_write_loop_write_round_write_rounds_write_statement_write_switch)]
+#[cycle(write_statements)]
 fn write_item(
     rows: &[i32],
     table: &[usize],
@@ -655,7 +655,7 @@ fn write_item(
     out: &mut [i32],
 )
     requires { Writing rows.now table.now store × ItemAsks rows.now row exits label base (length out.old) }
-    ensures { out.new ≡ over (emitItems follows (itemCode (calledIn rows.now) store (itemsAt rows.now row) (exitsOf exits) label) base) out.old }
+    ensures { out.new ≡ over (emit_items follows (item_code (called_in rows.now) store (items_at rows.now row) (exits_of exits) label) base) out.old }
 {
     let item = item_at(rows, row);
     match item {

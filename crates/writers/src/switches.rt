@@ -1,15 +1,15 @@
 // The tests of a switch.
 ghost use Rattle.std.specs.Prelude.{◌≡◌, true, ◌+◌, ◌*◌, ◌<◌, length};
-ghost use Rattle.words.specs.Table.{rowCount};
-ghost use Rattle.language.specs.Decode.{itemsAt, listAt};
-ghost use Rattle.translation.specs.Translate.{caseTests};
-ghost use Rattle.language_emission.specs.Emission.{emitItems};
+ghost use Rattle.words.specs.Table.{row_count};
+ghost use Rattle.language.specs.Decode.{items_at, list_at};
+ghost use Rattle.translation.specs.Translate.{case_tests};
+ghost use Rattle.language_emission.specs.Emission.{emit_items};
 ghost use Rattle.language_shapes.specs.Source.{Source};
 ghost use Rattle.measures_table.specs.Measures.{Measured};
 ghost use Rattle.words.specs.Over.{over};
 ghost use Rattle.writers_rows.specs.Room.{Room};
-ghost use Rattle.writers_rows.specs.Atoms.{atomTree, AtomFits};
-ghost use Rattle.writers.specs.Items.{itemCases, caseTest, itemTest};
+ghost use Rattle.writers_rows.specs.Atoms.{atom_tree, AtomFits};
+ghost use Rattle.writers.specs.Items.{item_cases, case_test, item_test};
 ghost use Rattle.writers.specs.Asks.{CaseAsks, CasesAsk};
 
 use super::lists::item_labels;
@@ -23,8 +23,8 @@ use writers_rows::control::put_jump;
 
 // The rows of the test that the item at a row brings.
 fn case_size(rows: &[i32], row: usize) -> usize
-    requires { Source rows.now × (row < rowCount rows.now) }
-    ensures { result ≡ 11 * itemCases (itemsAt rows.now row) }
+    requires { Source rows.now × (row < row_count rows.now) }
+    ensures { result ≡ 11 * item_cases (items_at rows.now row) }
 {
     let item = item_at(rows, row);
     match item {
@@ -49,7 +49,7 @@ fn put_case(
     out: &mut [i32],
 )
     requires { Room 11 base (length out.old) × AtomFits x × (store + level < 65536) × (target < 65536) }
-    ensures { out.new ≡ over (emitItems true (caseTest store (atomTree x) level v target) base) out.old }
+    ensures { out.new ≡ over (emit_items true (case_test store (atom_tree x) level v target) base) out.old }
 {
     let number = store + level;
     put_binary(
@@ -76,7 +76,7 @@ fn put_item_test(
     out: &mut [i32],
 )
     requires { CaseAsks rows.now row x store level target base (length out.old) }
-    ensures { out.new ≡ over (emitItems true (itemTest store (atomTree x) level (itemsAt rows.now row) target) base) out.old }
+    ensures { out.new ≡ over (emit_items true (item_test store (atom_tree x) level (items_at rows.now row) target) base) out.old }
 {
     let item = item_at(rows, row);
     match item {
@@ -103,7 +103,7 @@ pub fn write_cases(
     out: &mut [i32],
 )
     requires { Measured rows.now table.now × CasesAsk rows.now list x store level label base (length out.old) }
-    ensures { out.new ≡ over (emitItems true (caseTests store (atomTree x) level (listAt rows.now list) label) base) out.old }
+    ensures { out.new ≡ over (emit_items true (case_tests store (atom_tree x) level (list_at rows.now list) label) base) out.old }
 {
     let mut item = list;
     let mut target = label;

@@ -2,36 +2,36 @@
 use Rattle.std.specs.Prelude.{Bool, ℕ, ◌+◌, ◌*◌, ◌/◌, ◌%◌, max}
 use Rattle.language.specs.Trees.{Arguments, no_more, ◌also◌, Items, none, ◌⧺◌}
 use Rattle.translation.specs.declared.Use.TheVariants.{Wanted as wanted}
-use Rattle.translation.specs.Translate.{atomOf, taken, atom, expressionCode, expressionLevels}
-use Rattle.translation.specs.TranslateSize.{expressionSize}
-use Rattle.translation.specs.HeldCode.{heldBy, holdBy}
+use Rattle.translation.specs.Translate.{atom_of, taken, atom, expression_code, expression_levels}
+use Rattle.translation.specs.TranslateSize.{expression_size}
+use Rattle.translation.proofs.HeldCode.{held_by, hold_by}
 
 -- `called f i`: whether function f can write the variable i.
 module _ (called : ℕ → ℕ → Bool) where
   -- How many temporaries the arguments from one on take.
-  unfoldable pub takenBy : Arguments → ℕ → ℕ
-  takenBy no_more copies = 0
-  takenBy (e also arguments) copies = takenBy arguments (copies / 2) + taken (heldBy (copies % 2) (atomOf called e))
+  unfoldable pub taken_by : Arguments → ℕ → ℕ
+  taken_by no_more copies = 0
+  taken_by (e also arguments) copies = taken_by arguments (copies / 2) + taken (held_by (copies % 2) (atom_of called e))
 
   -- The kernel rows of their code, and the levels that it names.
-  unfoldable pub sizeBy : Arguments → ℕ → ℕ
-  sizeBy no_more copies = 0
-  sizeBy (e also arguments) copies = sizeBy arguments (copies / 2) + (expressionSize called e wanted + 4 * (copies % 2))
+  unfoldable pub size_by : Arguments → ℕ → ℕ
+  size_by no_more copies = 0
+  size_by (e also arguments) copies = size_by arguments (copies / 2) + (expression_size called e wanted + 4 * (copies % 2))
 
-  unfoldable pub levelsBy : Arguments → ℕ → ℕ
-  levelsBy no_more copies = 0
-  levelsBy (e also arguments) copies =
-      max (levelsBy arguments (copies / 2)) (takenBy arguments (copies / 2) + max (expressionLevels called e wanted) (taken (heldBy (copies % 2) (atomOf called e))))
+  unfoldable pub levels_by : Arguments → ℕ → ℕ
+  levels_by no_more copies = 0
+  levels_by (e also arguments) copies =
+      max (levels_by arguments (copies / 2)) (taken_by arguments (copies / 2) + max (expression_levels called e wanted) (taken (held_by (copies % 2) (atom_of called e))))
 
   module _ (S : ℕ) where
     -- What holds the arguments from one on.
-    unfoldable pub atomsBy : Arguments → ℕ → ℕ → Arguments
-    atomsBy no_more copies t = no_more
-    atomsBy (e also arguments) copies t = atom S (t + takenBy arguments (copies / 2)) (heldBy (copies % 2) (atomOf called e)) also atomsBy arguments (copies / 2) t
+    unfoldable pub atoms_by : Arguments → ℕ → ℕ → Arguments
+    atoms_by no_more copies t = no_more
+    atoms_by (e also arguments) copies t = atom S (t + taken_by arguments (copies / 2)) (held_by (copies % 2) (atom_of called e)) also atoms_by arguments (copies / 2) t
 
     -- Their code, from the last to the first.
-    unfoldable pub codeBy : Arguments → ℕ → ℕ → Items
-    codeBy no_more copies t = none
-    codeBy (e also arguments) copies t =
-        let level = t + takenBy arguments (copies / 2) in
-        codeBy arguments (copies / 2) t ⧺ expressionCode called S e wanted level ⧺ holdBy S level (copies % 2) (atomOf called e)
+    unfoldable pub code_by : Arguments → ℕ → ℕ → Items
+    code_by no_more copies t = none
+    code_by (e also arguments) copies t =
+        let level = t + taken_by arguments (copies / 2) in
+        code_by arguments (copies / 2) t ⧺ expression_code called S e wanted level ⧺ hold_by S level (copies % 2) (atom_of called e)

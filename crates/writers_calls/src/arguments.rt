@@ -1,12 +1,12 @@
 // The arguments of a call, and the temporaries that they take.
 ghost use Rattle.std.specs.Prelude.{◌≡◌, ◌<◌};
-ghost use Rattle.words.specs.Table.{rowCount};
-ghost use Rattle.language.specs.Calls.{argumentCount};
-ghost use Rattle.language.specs.Decode.{expressionAt, argumentListAt};
+ghost use Rattle.words.specs.Table.{row_count};
+ghost use Rattle.language.specs.Calls.{argument_count};
+ghost use Rattle.language.specs.Decode.{expression_at, argument_list_at};
 ghost use Rattle.language_shapes.specs.Source.{Source};
-ghost use Rattle.translation.specs.Translate.{atomOf, taken};
-ghost use Rattle.translation.specs.HeldCode.{heldBy};
-ghost use Rattle.measures_table.specs.Parts.{calledIn};
+ghost use Rattle.translation.specs.Translate.{atom_of, taken};
+ghost use Rattle.translation.proofs.HeldCode.{held_by};
+ghost use Rattle.measures_table.specs.Parts.{called_in};
 ghost use Rattle.measures_table.specs.Measures.{Measured};
 ghost use Rattle.writers_calls.specs.Asks.{Passing, CountIs, TakenIs};
 
@@ -17,7 +17,7 @@ use words::table::number_at;
 
 // The row of the expression of the argument at a link.
 pub fn argument_value(rows: &[i32], argument: usize) -> usize
-    requires { Source rows.now × (argument < rowCount rows.now) × (0 < argumentCount (argumentListAt rows.now argument)) }
+    requires { Source rows.now × (argument < row_count rows.now) × (0 < argument_count (argument_list_at rows.now argument)) }
     ensures { Passing rows.now argument result }
 {
     let shape = argument_at(rows, argument);
@@ -29,7 +29,7 @@ pub fn argument_value(rows: &[i32], argument: usize) -> usize
 
 // How many arguments there are from a link on.
 pub fn argument_count(rows: &[i32], argument: usize) -> usize
-    requires { Source rows.now × (argument < rowCount rows.now) }
+    requires { Source rows.now × (argument < row_count rows.now) }
     ensures { CountIs rows.now argument result }
 {
     if argument == 0 {
@@ -45,8 +45,8 @@ pub fn argument_count(rows: &[i32], argument: usize) -> usize
 
 // How many temporaries the value of the expression at a row takes, where it is copied if `copied` is 1.
 fn held_taken(rows: &[i32], table: &[usize], row: usize, copied: usize) -> usize
-    requires { Measured rows.now table.now × (row < rowCount rows.now) }
-    ensures { result ≡ taken (heldBy copied (atomOf (calledIn rows.now) (expressionAt rows.now row))) }
+    requires { Measured rows.now table.now × (row < row_count rows.now) }
+    ensures { result ≡ taken (held_by copied (atom_of (called_in rows.now) (expression_at rows.now row))) }
 {
     if copied == 1 {
         return 1;
@@ -56,7 +56,7 @@ fn held_taken(rows: &[i32], table: &[usize], row: usize, copied: usize) -> usize
 
 // How many temporaries the arguments from a link on take.
 pub fn arguments_taken(rows: &[i32], table: &[usize], argument: usize, copies: usize) -> usize
-    requires { Measured rows.now table.now × (argument < rowCount rows.now) }
+    requires { Measured rows.now table.now × (argument < row_count rows.now) }
     ensures { TakenIs rows.now argument copies result }
 {
     if argument == 0 {

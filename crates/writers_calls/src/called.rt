@@ -1,11 +1,11 @@
 // What a call's row says.
 ghost use Rattle.std.specs.Prelude.{◌≡◌, true, ◌<◌};
-ghost use Rattle.words.specs.Table.{rowCount};
-ghost use Rattle.language.specs.Decode.{expressionAt};
+ghost use Rattle.words.specs.Table.{row_count};
+ghost use Rattle.language.specs.Decode.{expression_at};
 ghost use Rattle.language_shapes.specs.Functions.{is_call};
 ghost use Rattle.language_shapes.specs.Source.{Source};
-ghost use Rattle.measures_table.specs.Arguments.{callCopies};
-ghost use Rattle.measures_table.specs.Parts.{calledIn};
+ghost use Rattle.measures_table.specs.Arguments.{call_copies};
+ghost use Rattle.measures_table.specs.Parts.{called_in};
 ghost use Rattle.measures_table.specs.Measures.{Measured};
 ghost use Rattle.writers_calls.specs.Asks.{CallAt};
 
@@ -16,8 +16,8 @@ use measures_table::{COPIES, WIDTH};
 
 // Whether the expression at a row is a call.
 pub fn is_call(rows: &[i32], row: usize) -> bool
-    requires { Source rows.now × (row < rowCount rows.now) }
-    ensures { result ≡ is_call (expressionAt rows.now row) }
+    requires { Source rows.now × (row < row_count rows.now) }
+    ensures { result ≡ is_call (expression_at rows.now row) }
 {
     let shape = expression_at(rows, row);
     match shape {
@@ -31,7 +31,7 @@ pub fn is_call(rows: &[i32], row: usize) -> bool
 
 // The call at a row.
 pub fn call_at(rows: &[i32], row: usize) -> CallRow
-    requires { Source rows.now × (row < rowCount rows.now) × (is_call (expressionAt rows.now row) ≡ true) }
+    requires { Source rows.now × (row < row_count rows.now) × (is_call (expression_at rows.now row) ≡ true) }
     ensures { CallAt rows.now row result }
 {
     let none = CallRow {
@@ -50,8 +50,8 @@ pub fn call_at(rows: &[i32], row: usize) -> CallRow
 
 // Which arguments of the call at a row are copied.
 pub fn call_copies(rows: &[i32], table: &[usize], row: usize) -> usize
-    requires { Measured rows.now table.now × (row < rowCount rows.now) }
-    ensures { result ≡ callCopies (calledIn rows.now) (expressionAt rows.now row) }
+    requires { Measured rows.now table.now × (row < row_count rows.now) }
+    ensures { result ≡ call_copies (called_in rows.now) (expression_at rows.now row) }
 {
     table[WIDTH * row + COPIES]
 }

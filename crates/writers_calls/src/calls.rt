@@ -3,13 +3,13 @@ ghost use Rattle.std.specs.Prelude.{◌≡◌, ◌++◌, ◌+◌, pos, length};
 ghost use Rattle.words.specs.Word.{pick};
 ghost use Rattle.words.specs.Over.{over};
 ghost use Rattle.language.specs.Trees.{call, assign, variable, express, none, ◌then◌};
-ghost use Rattle.language.specs.Decode.{argumentListAt};
-ghost use Rattle.language_emission.specs.Emission.{row_of, emitExpression, emitArguments, emitItems};
-ghost use Rattle.measures_table.specs.Parts.{calledIn};
+ghost use Rattle.language.specs.Decode.{argument_list_at};
+ghost use Rattle.language_emission.specs.Emission.{row_of, emit_expression, emit_arguments, emit_items};
+ghost use Rattle.measures_table.specs.Parts.{called_in};
 ghost use Rattle.writers_rows.specs.Room.{Room};
-ghost use Rattle.writers_rows.specs.Atoms.{atomTree, AtomFits};
+ghost use Rattle.writers_rows.specs.Atoms.{atom_tree, AtomFits};
 ghost use Rattle.writers_steps.specs.Asks.{Writing};
-ghost use Rattle.writers_calls.specs.Arguments.{atomsBy};
+ghost use Rattle.writers_calls.specs.Arguments.{atoms_by};
 ghost use Rattle.writers_calls.specs.Asks.{AtomsAsk, CallAsks};
 
 use super::arguments::{argument_value, arguments_taken};
@@ -22,7 +22,7 @@ use writers_steps::atoms::held_atom;
 // An argument of a kernel call: its row and its atom's.
 fn put_argument(value: KernelAtom, base: usize, follows: bool, out: &mut [i32])
     requires { Room 2 base (length out.old) × AtomFits value }
-    ensures { out.new ≡ over (row_of 32 (pos (base + 1)) 0 0 0 (pick follows (base + 2) 0) ++ emitExpression (atomTree value) (base + 1)) out.old }
+    ensures { out.new ≡ over (row_of 32 (pos (base + 1)) 0 0 0 (pick follows (base + 2) 0) ++ emit_expression (atom_tree value) (base + 1)) out.old }
 {
     put_row(32, base + 1, 0, 0, behind(follows, base + 2), out);
     put_atom(value, &mut out[6..]);
@@ -41,7 +41,7 @@ fn put_atoms(
     out: &mut [i32],
 )
     requires { Writing rows.now table.now store × AtomsAsk rows.now argument copies level size base (length out.old) }
-    ensures { out.new ≡ over (emitArguments (atomsBy (calledIn rows.now) store (argumentListAt rows.now argument) copies level) base) out.old }
+    ensures { out.new ≡ over (emit_arguments (atoms_by (called_in rows.now) store (argument_list_at rows.now argument) copies level) base) out.old }
 {
     if size == 0 {
         return;
@@ -82,7 +82,7 @@ pub fn put_call(
     out: &mut [i32],
 )
     requires { Writing rows.now table.now store × CallAsks rows.now number function first copies level size base (length out.old) }
-    ensures { out.new ≡ over (emitItems follows (express (assign (variable number) (call function (atomsBy (calledIn rows.now) store (argumentListAt rows.now first) copies level))) then none) base) out.old }
+    ensures { out.new ≡ over (emit_items follows (express (assign (variable number) (call function (atoms_by (called_in rows.now) store (argument_list_at rows.now first) copies level))) then none) base) out.old }
 {
     let rest = size - 4;
     put_target(2, number, 0, base + 3, size, base, follows, out);

@@ -12,15 +12,15 @@ use Rattle.words.specs.Over.{over}
 use Rattle.language.specs.Trees.{block}
 use Rattle.language.specs.Decode.{part_at}
 use Rattle.translation.specs.declared.Use.TheVariants.{Wanted as wanted}
-use Rattle.translation.specs.Translate.{operandCode}
-use Rattle.translation.specs.TranslateSize.{operandSize}
-use Rattle.language_emission.specs.Emission.{row_of, emitStatement, emitItems}
-use Rattle.measures_table.specs.Parts.{calledIn}
-use Rattle.writers_rows.specs.Room.{Room, moreRows}
+use Rattle.translation.specs.Translate.{operand_code}
+use Rattle.translation.specs.TranslateSize.{operand_size}
+use Rattle.language_emission.specs.Emission.{row_of, emit_statement, emit_items}
+use Rattle.measures_table.specs.Parts.{called_in}
+use Rattle.writers_rows.specs.Room.{Room, more_rows}
 use Rattle.writers_steps.specs.Asks.{Writing}
 use Rattle.writers_rows.specs.Chain.{part, back_in, PutWords, put_next, reworded, Reach, put-length, put-reach, put-room, Wrote, wrote-put}
-use Rattle.writers_expressions.specs.Code.{finishCode, branchCode}
-use Rattle.writers_expressions.specs.Asks.{OperandAsks, finishSize, branchSize, BranchFits}
+use Rattle.writers_expressions.specs.Code.{finish_code, branch_code}
+use Rattle.writers_expressions.specs.Asks.{OperandAsks, finish_size, branch_size, BranchFits}
 use Rattle.writers_expressions.specs.CodeLaws.{rows-operand, rows-finish, branch-words}
 use Rattle.writers_expressions.specs.declared.Branch.{Branch}
 
@@ -29,17 +29,17 @@ use Rattle.writers_expressions.specs.declared.Branch.{Branch}
 pub record BranchAsked (S : ℕ) (rows : List ℤ) (table : List ℕ) (branch : Branch) (level base : ℕ) (out : List ℤ) : Type 0 where
   pub writing : Writing rows table S
   pub fits : BranchFits rows branch level
-  pub room : Room (branchSize rows branch) base (length out)
+  pub room : Room (branch_size rows branch) base (length out)
 
 module _ {S : ℕ} {rows : List ℤ} {table : List ℕ} {branch : Branch} {level base : ℕ} {out : List ℤ} (asked : BranchAsked S rows table branch level base out) where
-  pub code-small : operandSize (calledIn rows) (part_at rows branch.row) wanted ≤ 40980
+  pub code-small : operand_size (called_in rows) (part_at rows branch.row) wanted ≤ 40980
   code-small = omega (arith, asked.room.low)
 
   -- ---- the sizes are known
 
   pub record BranchSizes (codeRows endRows : ℕ) : Type 0 where
-    pub code_is : codeRows ≡ operandSize (calledIn rows) (part_at rows branch.row) wanted
-    pub end_is : endRows ≡ finishSize branch.end
+    pub code_is : codeRows ≡ operand_size (called_in rows) (part_at rows branch.row) wanted
+    pub end_is : endRows ≡ finish_size branch.end
 
 module _ {S : ℕ} {rows : List ℤ} {table : List ℕ} {branch : Branch} {level base : ℕ} {out : List ℤ} {asked : BranchAsked S rows table branch level base out}
     {codeRows endRows : ℕ} (sizes : BranchSizes asked codeRows endRows) where
@@ -52,7 +52,7 @@ module _ {S : ℕ} {rows : List ℤ} {table : List ℕ} {branch : Branch} {level
   -- ---- the block's row is written, with a link to its first item
 
   pub record BlockRow (first : ℕ) (headed : List ℤ) : Type 0 where
-    pub first-is : first ≡ pick (moreRows false (codeRows + endRows)) (base + 1) 0
+    pub first_is : first ≡ pick (more_rows false (codeRows + endRows)) (base + 1) 0
     pub table_is : headed ≡ over (row_of 42 (pos first) 0 0 0 0) out
 
 module _ {S : ℕ} {rows : List ℤ} {table : List ℕ} {branch : Branch} {level base : ℕ} {out : List ℤ} {asked : BranchAsked S rows table branch level base out}
@@ -66,45 +66,45 @@ module _ {S : ℕ} {rows : List ℤ} {table : List ℕ} {branch : Branch} {level
   pub code-asks : OperandAsks rows branch.row wanted level (base + 1) (length (part 1 headed))
   code-asks = record {
     inside = asked.fits.inside;
-    level-low = asked.fits.level-low;
-    use-fits = tt;
+    level_low = asked.fits.level_low;
+    use_fits = tt;
     room = put-room _ row_put asked.room (omega arith);
   }
 
   -- ---- the expression's code is written: `code` is the part behind the block's row
 
   pub record BranchCode (more : Bool) (code : List ℤ) : Type 0 where
-    pub more-is : more ≡ moreRows false endRows
-    pub table_is : code ≡ over (emitItems more (operandCode (calledIn rows) S (part_at rows branch.row) wanted level) (base + 1)) (part 1 headed)
+    pub more_is : more ≡ more_rows false endRows
+    pub table_is : code ≡ over (emit_items more (operand_code (called_in rows) S (part_at rows branch.row) wanted level) (base + 1)) (part 1 headed)
 
 module _ {S : ℕ} {rows : List ℤ} {table : List ℕ} {branch : Branch} {level base : ℕ} {out : List ℤ} {asked : BranchAsked S rows table branch level base out}
     {codeRows endRows : ℕ} {sizes : BranchSizes asked codeRows endRows} {first : ℕ} {headed : List ℤ} {row : BlockRow sizes first headed}
     {more : Bool} {code : List ℤ} (written : BranchCode row more code) where
-  code_wrote : Wrote more (operandCode (calledIn rows) S (part_at rows branch.row) wanted level) (base + 1) codeRows (part 1 headed) code
-  code_wrote = record { table = written.table_is; size = rows-operand (calledIn rows) S (part_at rows branch.row) wanted level ∙ sym sizes.code_is }
+  code_wrote : Wrote more (operand_code (called_in rows) S (part_at rows branch.row) wanted level) (base + 1) codeRows (part 1 headed) code
+  code_wrote = record { table = written.table_is; size = rows-operand (called_in rows) S (part_at rows branch.row) wanted level ∙ sym sizes.code_is }
 
-  code_put : PutWords (row_of 42 (pos first) 0 0 0 0 ++ emitItems more (operandCode (calledIn rows) S (part_at rows branch.row) wanted level) (base + 1))
+  code_put : PutWords (row_of 42 (pos first) 0 0 0 0 ++ emit_items more (operand_code (called_in rows) S (part_at rows branch.row) wanted level) (base + 1))
       (1 + codeRows) out (back_in 1 headed code)
   code_put = put_next (row_put row) (wrote-put code_wrote)
 
   pub code-reach : Reach (1 + codeRows) base (back_in 1 headed code)
   code-reach = put-reach 0 code_put asked.room (omega (arith, sizes.code_is))
 
-  pub end-room : Room (finishSize branch.end) (base + (1 + codeRows)) (length (part (1 + codeRows) (back_in 1 headed code)))
+  pub end-room : Room (finish_size branch.end) (base + (1 + codeRows)) (length (part (1 + codeRows) (back_in 1 headed code)))
   end-room = put-room _ code_put asked.room (omega (arith, sizes.code_is))
 
   -- ---- the end is written: `end` is the part behind the code
 
   module _ (end : List ℤ)
-      (end-table : end ≡ over (emitItems false (finishCode S branch.end branch.atom level) (base + (1 + codeRows))) (part (1 + codeRows) (back_in 1 headed code))) where
-    end-wrote : Wrote false (finishCode S branch.end branch.atom level) (base + (1 + codeRows)) endRows (part (1 + codeRows) (back_in 1 headed code)) end
+      (end-table : end ≡ over (emit_items false (finish_code S branch.end branch.atom level) (base + (1 + codeRows))) (part (1 + codeRows) (back_in 1 headed code))) where
+    end-wrote : Wrote false (finish_code S branch.end branch.atom level) (base + (1 + codeRows)) endRows (part (1 + codeRows) (back_in 1 headed code)) end
     end-wrote = record { table = end-table; size = rows-finish S branch.end branch.atom level ∙ sym sizes.end_is }
 
     pub branch-length : length (back_in (1 + codeRows) (back_in 1 headed code) end) ≡ length out
     branch-length = put-length (put_next code_put (wrote-put end-wrote)) (branch-room sizes).inside
 
-    pub branch-written : back_in (1 + codeRows) (back_in 1 headed code) end ≡ over (emitStatement (block (branchCode S rows branch level)) base 0) out
+    pub branch-written : back_in (1 + codeRows) (back_in 1 headed code) end ≡ over (emit_statement (block (branch_code S rows branch level)) base 0) out
     branch-written =
         reworded _ (put_next code_put (wrote-put end-wrote))
-        (branch-words (operandCode (calledIn rows) S (part_at rows branch.row) wanted level) (finishCode S branch.end branch.atom level) base codeRows endRows first more
-        code_wrote.size end-wrote.size row.first-is written.more-is)
+        (branch-words (operand_code (called_in rows) S (part_at rows branch.row) wanted level) (finish_code S branch.end branch.atom level) base codeRows endRows first more
+        code_wrote.size end-wrote.size row.first_is written.more_is)

@@ -1,18 +1,18 @@
 // What and, or and a conditional choose between.
 ghost use Rattle.std.specs.Prelude.{◌≡◌, false, ◌+◌, ◌≤◌, ◌<◌, length};
-ghost use Rattle.words.specs.Table.{rowCount};
-ghost use Rattle.language.specs.Decode.{expressionAt};
-ghost use Rattle.translation.specs.Translate.{atomOf};
-ghost use Rattle.language_emission.specs.Emission.{emitItems};
+ghost use Rattle.words.specs.Table.{row_count};
+ghost use Rattle.language.specs.Decode.{expression_at};
+ghost use Rattle.translation.specs.Translate.{atom_of};
+ghost use Rattle.language_emission.specs.Emission.{emit_items};
 ghost use Rattle.language_shapes.specs.Functions.{is_call};
 ghost use Rattle.measures_table.specs.Measures.{Measured};
-ghost use Rattle.measures_table.specs.Parts.{calledIn};
+ghost use Rattle.measures_table.specs.Parts.{called_in};
 ghost use Rattle.words.specs.Over.{over};
 ghost use Rattle.writers_rows.specs.Room.{Room};
 ghost use Rattle.writers_rows.specs.Atoms.{AtomFits};
-ghost use Rattle.writers_expressions.specs.Code.{finishCode};
+ghost use Rattle.writers_expressions.specs.Code.{finish_code};
 ghost use Rattle.writers_steps.specs.Asks.{Writing};
-ghost use Rattle.writers_expressions.specs.Asks.{end_of, numberBranch, finishSize, branchSize as size_of, ChoiceAt};
+ghost use Rattle.writers_expressions.specs.Asks.{end_of, number_branch, finish_size, branch_size as size_of, ChoiceAt};
 
 use super::{Branch, Choice, End};
 use language_shapes::rows::expression_at;
@@ -26,7 +26,7 @@ use writers_steps::atoms::{atom_at, operand_size};
 
 // A branch that puts a number into the result's temporary.
 fn number_branch(v: i32) -> Branch
-    ensures { result ≡ numberBranch v }
+    ensures { result ≡ number_branch v }
 {
     Branch {
         row: 0,
@@ -37,8 +37,8 @@ fn number_branch(v: i32) -> Branch
 
 // How a branch of a conditional ends, by the value of the expression at a row: one in a temporary stays.
 fn end_at(rows: &[i32], table: &[usize], row: usize) -> End
-    requires { Measured rows.now table.now × (row < rowCount rows.now) }
-    ensures { result ≡ end_of (atomOf (calledIn rows.now) (expressionAt rows.now row)) }
+    requires { Measured rows.now table.now × (row < row_count rows.now) }
+    ensures { result ≡ end_of (atom_of (called_in rows.now) (expression_at rows.now row)) }
 {
     if taken_at(rows, table, row) == 1 {
         return End::Stays;
@@ -48,7 +48,7 @@ fn end_at(rows: &[i32], table: &[usize], row: usize) -> End
 
 // What the code of the expression at a row, which is no call, ends with.
 pub fn choice_at(rows: &[i32], table: &[usize], store: usize, row: usize, level: usize) -> Choice
-    requires { Writing rows.now table.now store × (row < rowCount rows.now) × (level ≤ 2048) × (is_call (expressionAt rows.now row) ≡ false) }
+    requires { Writing rows.now table.now store × (row < row_count rows.now) × (level ≤ 2048) × (is_call (expression_at rows.now row) ≡ false) }
     ensures { ChoiceAt store rows.now row level result }
 {
     let shape = expression_at(rows, row);
@@ -97,7 +97,7 @@ pub fn choice_at(rows: &[i32], table: &[usize], store: usize, row: usize, level:
 
 // The rows of the end of a branch.
 pub fn finish_size(end: End) -> usize
-    ensures { result ≡ finishSize end }
+    ensures { result ≡ finish_size end }
 {
     match end {
         End::Truth => 6,
@@ -108,7 +108,7 @@ pub fn finish_size(end: End) -> usize
 
 // The rows of a branch.
 pub fn branch_size(rows: &[i32], table: &[usize], branch: Branch) -> usize
-    requires { Measured rows.now table.now × (branch.row < rowCount rows.now) × (size_of rows.now branch ≤ 40980) }
+    requires { Measured rows.now table.now × (branch.row < row_count rows.now) × (size_of rows.now branch ≤ 40980) }
     ensures { result ≡ size_of rows.now branch }
 {
     let end = branch.end;
@@ -124,8 +124,8 @@ pub fn put_finish(
     base: usize,
     out: &mut [i32],
 )
-    requires { Room (finishSize end) base (length out.old) × AtomFits atom × (store + level < 65536) }
-    ensures { out.new ≡ over (emitItems false (finishCode store end atom level) base) out.old }
+    requires { Room (finish_size end) base (length out.old) × AtomFits atom × (store + level < 65536) }
+    ensures { out.new ≡ over (emit_items false (finish_code store end atom level) base) out.old }
 {
     let number = store + level;
     match end {

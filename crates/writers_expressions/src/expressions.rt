@@ -1,17 +1,17 @@
 // The writers of expressions: the operands' code, and then what the expression does with their values.
 ghost use Rattle.std.specs.Prelude.{◌≡◌, false, ◌+◌, ◌*◌, length};
 ghost use Rattle.language.specs.Trees.{block};
-ghost use Rattle.language.specs.Decode.{expressionAt, argumentListAt, part_at};
-ghost use Rattle.translation.specs.Translate.{expressionCode, operandCode};
-ghost use Rattle.language_emission.specs.Emission.{emitStatement, emitItems};
-ghost use Rattle.measures_table.specs.Parts.{calledIn};
+ghost use Rattle.language.specs.Decode.{expression_at, argument_list_at, part_at};
+ghost use Rattle.translation.specs.Translate.{expression_code, operand_code};
+ghost use Rattle.language_emission.specs.Emission.{emit_statement, emit_items};
+ghost use Rattle.measures_table.specs.Parts.{called_in};
 ghost use Rattle.words.specs.Over.{over};
 ghost use Rattle.writers_rows.specs.Room.{Room};
 ghost use Rattle.writers_rows.specs.Atoms.{AtomFits};
-ghost use Rattle.writers_expressions.specs.Code.{lastCode, branchCode, choiceCode};
+ghost use Rattle.writers_expressions.specs.Code.{last_code, branch_code, choice_code};
 ghost use Rattle.writers_steps.specs.Asks.{Writing};
-ghost use Rattle.writers_calls.specs.Arguments.{codeBy};
-ghost use Rattle.writers_expressions.specs.Asks.{OperandAsks, CalledAsks, ArgumentsAsk, LastAsks, branchSize, BranchFits};
+ghost use Rattle.writers_calls.specs.Arguments.{code_by};
+ghost use Rattle.writers_expressions.specs.Asks.{OperandAsks, CalledAsks, ArgumentsAsk, LastAsks, branch_size, BranchFits};
 
 use super::branches::{branch_size, choice_at, finish_size, put_finish};
 use super::{Branch, Choice};
@@ -29,7 +29,7 @@ use writers_steps::atoms::{operand_copied, operand_size, target_word};
 use writers_steps::straight::{put_hold, put_straight};
 
 // The code of the expression at a link, worked out at a level for a use of its value; an absent one has none.
-#[cycle(write_arguments_write_branch_write_call_write_choice_write_expression_write_last)]
+#[cycle(write_expressions)]
 pub fn write_expression(
     rows: &[i32],
     table: &[usize],
@@ -42,7 +42,7 @@ pub fn write_expression(
     out: &mut [i32],
 )
     requires { Writing rows.now table.now store × OperandAsks rows.now row usage level base (length out.old) }
-    ensures { out.new ≡ over (emitItems follows (operandCode (calledIn rows.now) store (part_at rows.now row) usage level) base) out.old }
+    ensures { out.new ≡ over (emit_items follows (operand_code (called_in rows.now) store (part_at rows.now row) usage level) base) out.old }
 {
     if row == 0 {
         return;
@@ -113,7 +113,7 @@ pub fn write_expression(
 }
 
 // The call at a row: its arguments' code, from the last to the first, and then the call on what holds them.
-#[cycle(write_arguments_write_branch_write_call_write_choice_write_expression_write_last)]
+#[cycle(write_expressions)]
 fn write_call(
     rows: &[i32],
     table: &[usize],
@@ -126,7 +126,7 @@ fn write_call(
     out: &mut [i32],
 )
     requires { Writing rows.now table.now store × CalledAsks rows.now row usage level base (length out.old) }
-    ensures { out.new ≡ over (emitItems follows (expressionCode (calledIn rows.now) store (expressionAt rows.now row) usage level) base) out.old }
+    ensures { out.new ≡ over (emit_items follows (expression_code (called_in rows.now) store (expression_at rows.now row) usage level) base) out.old }
 {
     let call = call_at(rows, row);
     let first = call.first;
@@ -156,7 +156,7 @@ fn write_call(
 
 // The code of the arguments from a link on, which are `count` and take `size` rows; those that are copied are the binary digits of `copies`. Each
 // stands above those behind it in the list.
-#[cycle(write_arguments_write_branch_write_call_write_choice_write_expression_write_last)]
+#[cycle(write_expressions)]
 fn write_arguments(
     rows: &[i32],
     table: &[usize],
@@ -171,7 +171,7 @@ fn write_arguments(
     out: &mut [i32],
 )
     requires { Writing rows.now table.now store × ArgumentsAsk rows.now argument count copies level size base (length out.old) }
-    ensures { out.new ≡ over (emitItems follows (codeBy (calledIn rows.now) store (argumentListAt rows.now argument) copies level) base) out.old }
+    ensures { out.new ≡ over (emit_items follows (code_by (called_in rows.now) store (argument_list_at rows.now argument) copies level) base) out.old }
 {
     if count == 0 {
         return;
@@ -224,7 +224,7 @@ fn write_arguments(
 }
 
 // What the expression at a row, which is no call, does behind its first two operands.
-#[cycle(write_arguments_write_branch_write_call_write_choice_write_expression_write_last)]
+#[cycle(write_expressions)]
 fn write_last(
     rows: &[i32],
     table: &[usize],
@@ -237,7 +237,7 @@ fn write_last(
     out: &mut [i32],
 )
     requires { Writing rows.now table.now store × LastAsks rows.now row usage level base (length out.old) }
-    ensures { out.new ≡ over (emitItems follows (lastCode (calledIn rows.now) store (expressionAt rows.now row) usage level) base) out.old }
+    ensures { out.new ≡ over (emit_items follows (last_code (called_in rows.now) store (expression_at rows.now row) usage level) base) out.old }
 {
     let choice = choice_at(rows, table, store, row, level);
     match choice {
@@ -251,7 +251,7 @@ fn write_last(
 }
 
 // An if with the two branches.
-#[cycle(write_arguments_write_branch_write_call_write_choice_write_expression_write_last)]
+#[cycle(write_expressions)]
 fn write_choice(
     rows: &[i32],
     table: &[usize],
@@ -265,8 +265,8 @@ fn write_choice(
     out: &mut [i32],
 )
     requires writing { Writing rows.now table.now store × AtomFits test × BranchFits rows.now yes level × BranchFits rows.now no level }
-    requires room { Room (2 + branchSize rows.now yes + branchSize rows.now no) base (length out.old) }
-    ensures { out.new ≡ over (emitItems follows (choiceCode store rows.now test yes no level) base) out.old }
+    requires room { Room (2 + branch_size rows.now yes + branch_size rows.now no) base (length out.old) }
+    ensures { out.new ≡ over (emit_items follows (choice_code store rows.now test yes no level) base) out.old }
 {
     let n = 2 + branch_size(rows, table, yes);
     let m = n + branch_size(rows, table, no);
@@ -276,7 +276,7 @@ fn write_choice(
 }
 
 // A branch: its block, its expression, and its end.
-#[cycle(write_arguments_write_branch_write_call_write_choice_write_expression_write_last)]
+#[cycle(write_expressions)]
 fn write_branch(
     rows: &[i32],
     table: &[usize],
@@ -286,8 +286,8 @@ fn write_branch(
     base: usize,
     out: &mut [i32],
 )
-    requires { Writing rows.now table.now store × BranchFits rows.now branch level × Room (branchSize rows.now branch) base (length out.old) }
-    ensures { out.new ≡ over (emitStatement (block (branchCode store rows.now branch level)) base 0) out.old }
+    requires { Writing rows.now table.now store × BranchFits rows.now branch level × Room (branch_size rows.now branch) base (length out.old) }
+    ensures { out.new ≡ over (emit_statement (block (branch_code store rows.now branch level)) base 0) out.old }
 {
     let row = branch.row;
     let end = branch.end;

@@ -1,11 +1,13 @@
 // The writers of expressions.
+#![tactic(auto)]
+
 use writers_rows::KernelAtom;
 
 pub mod branches; // branches.rt: what and, or and a conditional choose between
 pub mod expressions; // expressions.rt: the operands' code, and then what the expression does with their values
 
 // How a branch ends: its atom goes into the result's temporary, as a truth value or as it is; or it is there already.
-#[derive(Drop)]
+#[derive(Clone, Copy)]
 pub enum End {
     Truth,
     Copy,
@@ -13,7 +15,7 @@ pub enum End {
 }
 
 // A branch that and, or and a conditional choose: an expression, or none where the row is 0; its atom, and how it ends.
-#[derive(Drop)]
+#[derive(Clone, Copy)]
 pub struct Branch {
     pub row: usize,
     pub end: End,
@@ -21,7 +23,7 @@ pub struct Branch {
 }
 
 // What the code of an expression ends with.
-#[derive(Drop)]
+#[derive(Clone, Copy)]
 pub enum Choice {
     Choose(KernelAtom, Branch, Branch),
     Straight,

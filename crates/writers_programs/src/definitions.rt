@@ -3,10 +3,10 @@
 ghost use Rattle.std.specs.Prelude.{◌≡◌, false, length};
 ghost use Rattle.words.specs.Over.{over};
 ghost use Rattle.language.specs.Trees.{define};
-ghost use Rattle.language.specs.Decode.{blockItems, statementAt, listAt, parameterListAt};
-ghost use Rattle.translation.specs.Translate.{programCode};
-ghost use Rattle.language_emission.specs.Emission.{emitItems};
-ghost use Rattle.measures_table.specs.Parts.{calledIn};
+ghost use Rattle.language.specs.Decode.{block_items, statement_at, list_at, parameter_list_at};
+ghost use Rattle.translation.specs.Translate.{program_code};
+ghost use Rattle.language_emission.specs.Emission.{emit_items};
+ghost use Rattle.measures_table.specs.Parts.{called_in};
 ghost use Rattle.writers_steps.specs.Asks.{Writing};
 ghost use Rattle.writers_programs.specs.Asks.{FrontAsks, FunctionAsks};
 
@@ -21,7 +21,7 @@ use writers::statements::{write_block, write_list};
 use writers_rows::rows::{behind, more, put_row};
 
 // The code of a program from the item at a link on: its definitions, and then its main part.
-#[cycle(write_front_write_function)]
+#[cycle(write_functions)]
 pub fn write_front(
     rows: &[i32],
     table: &[usize],
@@ -34,7 +34,7 @@ pub fn write_front(
     out: &mut [i32],
 )
     requires { Writing rows.now table.now store × FrontAsks rows.now store item size levels label base (length out.old) }
-    ensures { out.new ≡ over (emitItems false (programCode (calledIn rows.now) store (listAt rows.now item) label) base) out.old }
+    ensures { out.new ≡ over (emit_items false (program_code (called_in rows.now) store (list_at rows.now item) label) base) out.old }
 {
     if is_definition(rows, item) {
         let number = number_at(rows, item, 1);
@@ -55,7 +55,7 @@ pub fn write_front(
 
 // The definition of a function, whose block is the row `body`, and then the code from the link `next` on. Its temporaries begin above those of what may
 // call it.
-#[cycle(write_front_write_function)]
+#[cycle(write_functions)]
 fn write_function(
     rows: &[i32],
     table: &[usize],
@@ -71,7 +71,7 @@ fn write_function(
     out: &mut [i32],
 )
     requires { Writing rows.now table.now store × FunctionAsks rows.now store number parameters body next size levels label base (length out.old) }
-    ensures { out.new ≡ over (emitItems false (programCode (calledIn rows.now) store (define number (parameterListAt rows.now parameters) (blockItems (statementAt rows.now body)) (listAt rows.now next)) label) base) out.old }
+    ensures { out.new ≡ over (emit_items false (program_code (called_in rows.now) store (define number (parameter_list_at rows.now parameters) (block_items (statement_at rows.now body)) (list_at rows.now next)) label) base) out.old }
 {
     let outside = Exits {
         breaking: 0,

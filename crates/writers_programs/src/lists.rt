@@ -1,9 +1,9 @@
 // What a list takes, by the table of measures.
 ghost use Rattle.std.specs.Prelude.{◌≡◌, ◌≤◌, ◌<◌};
-ghost use Rattle.words.specs.Table.{rowCount};
-ghost use Rattle.language.specs.Decode.{listAt};
-ghost use Rattle.translation.specs.Translate.{itemsLabels, itemsLevels};
-ghost use Rattle.measures_table.specs.Parts.{calledIn};
+ghost use Rattle.words.specs.Table.{row_count};
+ghost use Rattle.language.specs.Decode.{list_at};
+ghost use Rattle.translation.specs.Translate.{items_labels, items_levels};
+ghost use Rattle.measures_table.specs.Parts.{called_in};
 ghost use Rattle.measures_table.specs.Measures.{Measured};
 
 use measures_table::table::measure_at;
@@ -11,16 +11,16 @@ use measures_table::{LIST_LABELS, LIST_LEVELS};
 
 // The labels of the list at a link.
 pub fn list_labels(rows: &[i32], table: &[usize], list: usize) -> usize
-    requires { Measured rows.now table.now × (list < rowCount rows.now) × (itemsLabels (listAt rows.now list) ≤ 65535) }
-    ensures { result ≡ itemsLabels (listAt rows.now list) }
+    requires { Measured rows.now table.now × (list < row_count rows.now) × (items_labels (list_at rows.now list) ≤ 65535) }
+    ensures { result ≡ items_labels (list_at rows.now list) }
 {
     measure_at(table, list, LIST_LABELS)
 }
 
 // The levels of the list at a link.
 pub fn list_levels(rows: &[i32], table: &[usize], list: usize) -> usize
-    requires { Measured rows.now table.now × (list < rowCount rows.now) × (itemsLevels (calledIn rows.now) (listAt rows.now list) ≤ 65535) }
-    ensures { result ≡ itemsLevels (calledIn rows.now) (listAt rows.now list) }
+    requires { Measured rows.now table.now × (list < row_count rows.now) × (items_levels (called_in rows.now) (list_at rows.now list) ≤ 65535) }
+    ensures { result ≡ items_levels (called_in rows.now) (list_at rows.now list) }
 {
     measure_at(table, list, LIST_LEVELS)
 }

@@ -1,8 +1,8 @@
 // The parameters of a function.
 ghost use Rattle.std.specs.Prelude.{◌≡◌, length};
 ghost use Rattle.words.specs.Over.{over};
-ghost use Rattle.language.specs.Decode.{parameterListAt};
-ghost use Rattle.language_emission.specs.Emission.{emitParameters};
+ghost use Rattle.language.specs.Decode.{parameter_list_at};
+ghost use Rattle.language_emission.specs.Emission.{emit_parameters};
 ghost use Rattle.writers_programs.specs.Asks.{ParametersAsk};
 
 use words::table::number_at;
@@ -11,7 +11,7 @@ use writers_rows::rows::{behind, more, put_row};
 // The rows of the parameters from a link on, which are `count`.
 pub fn put_parameters(rows: &[i32], parameter: usize, count: usize, base: usize, out: &mut [i32])
     requires { ParametersAsk rows.now parameter count base (length out.old) }
-    ensures { out.new ≡ over (emitParameters (parameterListAt rows.now parameter) base) out.old }
+    ensures { out.new ≡ over (emit_parameters (parameter_list_at rows.now parameter) base) out.old }
 {
     if count == 0 {
         return;

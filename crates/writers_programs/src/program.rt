@@ -3,7 +3,7 @@ ghost use Rattle.std.specs.Prelude.{◌≡◌, length};
 ghost use Rattle.language.specs.Program.{contents};
 ghost use Rattle.language_emission.specs.Emission.{emit};
 ghost use Rattle.words.specs.Over.{over};
-ghost use Rattle.writers_programs.specs.Asks.{ProgramAsks, kernelProgram};
+ghost use Rattle.writers_programs.specs.Asks.{ProgramAsks, kernel_program};
 
 use super::definitions::write_front;
 use words::table::number_at;
@@ -20,7 +20,7 @@ pub fn write_program(
     out: &mut [i32],
 )
     requires { ProgramAsks rows.now table.now store size levels (length out.old) }
-    ensures { out.new ≡ over (emit (kernelProgram store (contents rows.now))) out.old }
+    ensures { out.new ≡ over (emit (kernel_program store (contents rows.now))) out.old }
 {
     let list = number_at(rows, 0, 1);
     put_block(behind(more(false, size), 1), 0, out);

@@ -7,18 +7,18 @@ use Rattle.writers_rows.specs.declared.KernelAtom.TheVariants.{Constant, Variabl
 use Rattle.writers_rows.specs.declared.KernelPlace.{KernelPlace}
 use Rattle.writers_rows.specs.declared.KernelPlace.TheVariants.{Variable as VariablePlace, Element}
 
-abbrev pub atomTree : KernelAtom → Expression
-atomTree (Constant v) = constant v
-atomTree (Variable n) = read (variable n)
+abbrev pub atom_tree : KernelAtom → Expression
+atom_tree (Constant v) = constant v
+atom_tree (Variable n) = read (variable n)
 
-abbrev pub placeTree : KernelPlace → Place
-placeTree (VariablePlace n) = variable n
-placeTree (Element array index) = element array (atomTree index)
+abbrev pub place_tree : KernelPlace → Place
+place_tree (VariablePlace n) = variable n
+place_tree (Element array index) = element array (atom_tree index)
 
 -- The row of an atom, wherever it stands.
-abbrev pub atomRow : KernelAtom → List ℤ
-atomRow (Constant v) = row_of 1 v 0 0 0 0
-atomRow (Variable n) = row_of 2 (pos n) 0 0 0 0
+abbrev pub atom_row : KernelAtom → List ℤ
+atom_row (Constant v) = row_of 1 v 0 0 0 0
+atom_row (Variable n) = row_of 2 (pos n) 0 0 0 0
 
 -- Numbers that a word holds.
 abbrev pub AtomFits : KernelAtom → Type 0

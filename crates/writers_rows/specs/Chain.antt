@@ -3,15 +3,15 @@ use Rattle.std.specs.Prelude.{◌≡◌, refl, Bool, true, false, List, ◌++◌
 use Rattle.std.proofs.Common.{sym, ap, ap₂, ◌∙◌, append_assoc, append-nil, arith, length-append, length-drop}
 use borrow.Rule.Slice.PartMut.{mid_of, put_mid}
 use Rattle.words.specs.Word.{pick}
-use Rattle.language.specs.Trees.{Expression, Statement, block, ifElse, Items, none, ◌then◌, ◌here◌, define, ◌⧺◌}
-use Rattle.language.specs.Sizes.{expressionRows, statementRows, itemsRows}
+use Rattle.language.specs.Trees.{Expression, Statement, block, if_else, Items, none, ◌then◌, ◌here◌, define, ◌⧺◌}
+use Rattle.language.specs.Sizes.{expression_rows, statement_rows, items_rows}
 use Rattle.language.specs.TreeLaws.{statement-some}
-use Rattle.translation.specs.TranslateRows.{rows_append}
-use Rattle.language_emission.specs.Emission.{row_of, listLink, emitExpression, emitStatement, emitItems}
-use Rattle.language_emission.specs.EmissionLaws.{orMore, emit-append, length-items}
+use Rattle.translation.proofs.TranslateRows.{rows_append}
+use Rattle.language_emission.specs.Emission.{row_of, list_link, emit_expression, emit_statement, emit_items}
+use Rattle.language_emission.specs.EmissionLaws.{or_more, emit-append, length-items}
 use Rattle.words.specs.Over.{over}
 use Rattle.words.specs.OverLaws.{part-is, length_over, over-next}
-use Rattle.writers_rows.specs.Room.{Room, moreRows}
+use Rattle.writers_rows.specs.Room.{Room, more_rows}
 
 -- ---- a part of a table
 
@@ -63,41 +63,41 @@ room-less n r e = record { inside = omega (arith, r.inside); low = omega (arith,
 
 -- ---- lists
 
-pub more-some : (follows : Bool) (n : ℕ) → 0 < n → moreRows follows n ≡ true
+pub more-some : (follows : Bool) (n : ℕ) → 0 < n → more_rows follows n ≡ true
 more-some follows zero h = absurd (omega arith)
 more-some follows (suc n) h = refl
 
 -- A list says by its rows whether anything stands in it.
-pub more-is : (follows : Bool) (is : Items) → orMore follows is ≡ moreRows follows (itemsRows is)
-unfolding itemsRows
-more-is follows none = refl
-more-is follows (s then is) = sym (more-some follows (statementRows s + itemsRows is) (omega (arith, statement-some s)))
-more-is follows (m here is) = sym (more-some follows (1 + itemsRows is) (omega arith))
-more-is follows (define f words body is) = sym (more-some follows (2 + length words + itemsRows body + itemsRows is) (omega arith))
+pub more_is : (follows : Bool) (is : Items) → or_more follows is ≡ more_rows follows (items_rows is)
+unfolding items_rows
+more_is follows none = refl
+more_is follows (s then is) = sym (more-some follows (statement_rows s + items_rows is) (omega (arith, statement-some s)))
+more_is follows (m here is) = sym (more-some follows (1 + items_rows is) (omega arith))
+more_is follows (define f words body is) = sym (more-some follows (2 + length words + items_rows body + items_rows is) (omega arith))
 
-pub link-is : (follows : Bool) (is : Items) (base : ℕ) → listLink follows is base ≡ pick (moreRows follows (itemsRows is)) base 0
-unfolding itemsRows
+pub link-is : (follows : Bool) (is : Items) (base : ℕ) → list_link follows is base ≡ pick (more_rows follows (items_rows is)) base 0
+unfolding items_rows
 link-is follows none base = refl
-link-is follows (s then is) base = rw (more-some follows (statementRows s + itemsRows is) (omega (arith, statement-some s)))
-link-is follows (m here is) base = rw (more-some follows (1 + itemsRows is) (omega arith))
-link-is follows (define f words body is) base = rw (more-some follows (2 + length words + itemsRows body + itemsRows is) (omega arith))
+link-is follows (s then is) base = rw (more-some follows (statement_rows s + items_rows is) (omega (arith, statement-some s)))
+link-is follows (m here is) base = rw (more-some follows (1 + items_rows is) (omega arith))
+link-is follows (define f words body is) base = rw (more-some follows (2 + length words + items_rows body + items_rows is) (omega arith))
 
 -- The list `is`, n rows from the row `base` on, was written from the start of l, which gave m.
 pub record Wrote (follows : Bool) (is : Items) (base n : ℕ) (l m : List ℤ) : Type 0 where
-  pub table : m ≡ over (emitItems follows is base) l
-  pub size : itemsRows is ≡ n
+  pub table : m ≡ over (emit_items follows is base) l
+  pub size : items_rows is ≡ n
 
-pub wrote-put : {follows : Bool} {is : Items} {base n : ℕ} {l m : List ℤ} → Wrote follows is base n l m → PutWords (emitItems follows is base) n l m
+pub wrote-put : {follows : Bool} {is : Items} {base n : ℕ} {l m : List ℤ} → Wrote follows is base n l m → PutWords (emit_items follows is base) n l m
 wrote-put {follows} {is} {base} {n} w = record { table = w.table; size = length-items follows is base ∙ ap (λ (k : ℕ). 6 * k) w.size }
 
-emit-two : (follows : Bool) (xs ys : Items) (base n k : ℕ) → itemsRows xs ≡ n → itemsRows ys ≡ k
-    → emitItems (moreRows follows k) xs base ++ emitItems follows ys (base + n) ≡ emitItems follows (xs ⧺ ys) base
+emit-two : (follows : Bool) (xs ys : Items) (base n k : ℕ) → items_rows xs ≡ n → items_rows ys ≡ k
+    → emit_items (more_rows follows k) xs base ++ emit_items follows ys (base + n) ≡ emit_items follows (xs ⧺ ys) base
 emit-two follows xs ys base n k e h =
-    ap₂ (λ (f : Bool) (b : ℕ). emitItems f xs base ++ emitItems follows ys (base + b)) (ap (moreRows follows) (sym h) ∙ sym (more-is follows ys)) (sym e) ∙ sym (emit-append follows xs ys base)
+    ap₂ (λ (f : Bool) (b : ℕ). emit_items f xs base ++ emit_items follows ys (base + b)) (ap (more_rows follows) (sym h) ∙ sym (more_is follows ys)) (sym e) ∙ sym (emit-append follows xs ys base)
 
 -- One list behind the other.
 pub wrote-next : {follows : Bool} {xs ys : Items} {base n k : ℕ} {l l1 l2 : List ℤ}
-    → Wrote (moreRows follows k) xs base n l l1 → Wrote follows ys (base + n) k (part n l1) l2 → Wrote follows (xs ⧺ ys) base (n + k) l (back_in n l1 l2)
+    → Wrote (more_rows follows k) xs base n l l1 → Wrote follows ys (base + n) k (part n l1) l2 → Wrote follows (xs ⧺ ys) base (n + k) l (back_in n l1 l2)
 wrote-next {follows} {xs} {ys} {base} {n} {k} w v = record {
   table = reworded _ (put_next (wrote-put w) (wrote-put v)) (emit-two follows xs ys base n k w.size v.size);
   size = rows_append xs ys ∙ ap₂ ◌+◌ w.size v.size;
@@ -110,34 +110,34 @@ wrote_as {follows} {is} {base} {n} {l} {m} is' w e = rw e at w
 -- ---- an if
 
 -- A list of one statement.
-pub one-item : (follows : Bool) (s : Statement) (base : ℕ) → emitItems follows (s then none) base ≡ emitStatement s base (pick follows (base + statementRows s) 0)
-unfolding emitItems
-one-item follows s base = append-nil (emitStatement s base (pick follows (base + statementRows s) 0))
+pub one-item : (follows : Bool) (s : Statement) (base : ℕ) → emit_items follows (s then none) base ≡ emit_statement s base (pick follows (base + statement_rows s) 0)
+unfolding emit_items
+one-item follows s base = append-nil (emit_statement s base (pick follows (base + statement_rows s) 0))
 
-if-is : (x : Expression) (onTrue onFalse : Statement) (base next : ℕ)
-    → emitStatement (ifElse x onTrue onFalse) base next
-    ≡ row_of 43 (pos (base + 1)) (base + 1 + expressionRows x) (base + 1 + expressionRows x + statementRows onTrue) 0 next
-    ++ emitExpression x (base + 1) ++ emitStatement onTrue (base + 1 + expressionRows x) 0 ++ emitStatement onFalse (base + 1 + expressionRows x + statementRows onTrue) 0
-unfolding emitStatement
-if-is x onTrue onFalse base next = refl
+if-is : (x : Expression) (on_true on_false : Statement) (base next : ℕ)
+    → emit_statement (if_else x on_true on_false) base next
+    ≡ row_of 43 (pos (base + 1)) (base + 1 + expression_rows x) (base + 1 + expression_rows x + statement_rows on_true) 0 next
+    ++ emit_expression x (base + 1) ++ emit_statement on_true (base + 1 + expression_rows x) 0 ++ emit_statement on_false (base + 1 + expression_rows x + statement_rows on_true) 0
+unfolding emit_statement
+if-is x on_true on_false base next = refl
 
-if-rows : (x : Expression) (onTrue onFalse : Statement) → statementRows (ifElse x onTrue onFalse) ≡ 1 + expressionRows x + statementRows onTrue + statementRows onFalse
-unfolding statementRows
-if-rows x onTrue onFalse = refl
+if-rows : (x : Expression) (on_true on_false : Statement) → statement_rows (if_else x on_true on_false) ≡ 1 + expression_rows x + statement_rows on_true + statement_rows on_false
+unfolding statement_rows
+if-rows x on_true on_false = refl
 
 -- The rows of an if and its test, and then its branches.
-pub choice-words : (follows : Bool) (x : Expression) (onTrue onFalse : Statement) (base n k next : ℕ) → expressionRows x ≡ 1 → statementRows onTrue ≡ n → statementRows onFalse ≡ k
+pub choice-words : (follows : Bool) (x : Expression) (on_true on_false : Statement) (base n k next : ℕ) → expression_rows x ≡ 1 → statement_rows on_true ≡ n → statement_rows on_false ≡ k
     → next ≡ pick follows (base + (2 + n + k)) 0
-    → ((row_of 43 (pos (base + 1)) (base + 2) (base + (2 + n)) 0 next ++ emitExpression x (base + 1)) ++ emitStatement onTrue (base + 2) 0) ++ emitStatement onFalse (base + (2 + n)) 0
-    ≡ emitItems follows (ifElse x onTrue onFalse then none) base
-choice-words follows x onTrue onFalse base n k next e h g z =
-    let one : base + 1 + expressionRows x ≡ base + 2 = omega arith in
-    let two : base + 2 + statementRows onTrue ≡ base + (2 + n) = omega arith in
-    let all : base + (1 + expressionRows x + statementRows onTrue + statementRows onFalse) ≡ base + (2 + n + k) = omega arith in
-    rw (one-item, if-is, if-rows, all, one, two, z, append_assoc (emitExpression x (base + 1)))
+    → ((row_of 43 (pos (base + 1)) (base + 2) (base + (2 + n)) 0 next ++ emit_expression x (base + 1)) ++ emit_statement on_true (base + 2) 0) ++ emit_statement on_false (base + (2 + n)) 0
+    ≡ emit_items follows (if_else x on_true on_false then none) base
+choice-words follows x on_true on_false base n k next e h g z =
+    let one : base + 1 + expression_rows x ≡ base + 2 = omega arith in
+    let two : base + 2 + statement_rows on_true ≡ base + (2 + n) = omega arith in
+    let all : base + (1 + expression_rows x + statement_rows on_true + statement_rows on_false) ≡ base + (2 + n + k) = omega arith in
+    rw (one-item, if-is, if-rows, all, one, two, z, append_assoc (emit_expression x (base + 1)))
 
 -- ---- a block
 
-pub block_words : (is : Items) (base k : ℕ) → itemsRows is ≡ k → row_of 42 (pos (pick (moreRows false k) (base + 1) 0)) 0 0 0 0 ++ emitItems false is (base + 1) ≡ emitStatement (block is) base 0
-unfolding emitStatement
+pub block_words : (is : Items) (base k : ℕ) → items_rows is ≡ k → row_of 42 (pos (pick (more_rows false k) (base + 1) 0)) 0 0 0 0 ++ emit_items false is (base + 1) ≡ emit_statement (block is) base 0
+unfolding emit_statement
 block_words is base k e = rw (← e, ← link-is false is (base + 1))

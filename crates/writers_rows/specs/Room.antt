@@ -7,6 +7,6 @@ pub record Room (rows base words : ℕ) : Type 0 where
   pub low : base + rows ≤ 40980
 
 -- Whether anything stands behind, where so many rows come first.
-abbrev pub moreRows : Bool → ℕ → Bool
-moreRows follows zero = follows
-moreRows follows (suc rows) = true
+abbrev pub more_rows : Bool → ℕ → Bool
+more_rows follows zero = follows
+more_rows follows (suc rows) = true

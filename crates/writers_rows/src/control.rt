@@ -1,11 +1,11 @@
 // Rows that say where a run goes on: blocks, ifs, loops, labels, gotos, aborts, returns, and empty statements.
 ghost use Rattle.std.specs.Prelude.{◌≡◌, true, ◌++◌, ◌+◌, ◌^◌, ◌≤◌, ◌<◌, pos, length};
 ghost use Rattle.words.specs.Word.{pick};
-ghost use Rattle.language.specs.Trees.{read, variable, present, empty, block, ifElse, goto, abort, giveBack, label, none, ◌then◌, ◌here◌};
-ghost use Rattle.language_emission.specs.Emission.{row_of, emitExpression, emitItems};
+ghost use Rattle.language.specs.Trees.{read, variable, present, empty, block, if_else, goto, abort, give_back, label, none, ◌then◌, ◌here◌};
+ghost use Rattle.language_emission.specs.Emission.{row_of, emit_expression, emit_items};
 ghost use Rattle.words.specs.Over.{over};
 ghost use Rattle.writers_rows.specs.Room.{Room};
-ghost use Rattle.writers_rows.specs.Atoms.{atomTree, AtomFits};
+ghost use Rattle.writers_rows.specs.Atoms.{atom_tree, AtomFits};
 ghost use Rattle.writers_rows.specs.Straight.{loop_head};
 
 use super::KernelAtom;
@@ -22,7 +22,7 @@ pub fn put_block(first: usize, next: usize, out: &mut [i32])
 // The row of an if and that of its test. The first branch follows; the second one stands at the row `second`.
 pub fn put_if(test: KernelAtom, base: usize, second: usize, next: usize, out: &mut [i32])
     requires { Room 2 base (length out.old) × (second < 2 ^ 31) × (next < 2 ^ 31) × AtomFits test }
-    ensures { out.new ≡ over (row_of 43 (pos (base + 1)) (base + 2) second 0 next ++ emitExpression (atomTree test) (base + 1)) out.old }
+    ensures { out.new ≡ over (row_of 43 (pos (base + 1)) (base + 2) second 0 next ++ emit_expression (atom_tree test) (base + 1)) out.old }
 {
     put_row(43, base + 1, base + 2, second, next, out);
     put_atom(test, &mut out[6..]);
@@ -39,14 +39,14 @@ fn put_item(kind: usize, number: usize, base: usize, follows: bool, out: &mut [i
 // An empty statement.
 pub fn put_empty(base: usize, follows: bool, out: &mut [i32])
     requires { Room 1 base (length out.old) }
-    ensures { out.new ≡ over (emitItems follows (empty then none) base) out.old }
+    ensures { out.new ≡ over (emit_items follows (empty then none) base) out.old }
 {
     put_item(40, 0, base, follows, out);
 }
 
 pub fn put_goto(number: usize, base: usize, follows: bool, out: &mut [i32])
     requires { Room 1 base (length out.old) × (number < 65536) }
-    ensures { out.new ≡ over (emitItems follows (goto number then none) base) out.old }
+    ensures { out.new ≡ over (emit_items follows (goto number then none) base) out.old }
 {
     put_item(52, number, base, follows, out);
 }
@@ -54,14 +54,14 @@ pub fn put_goto(number: usize, base: usize, follows: bool, out: &mut [i32])
 // "Abort, no fields."
 pub fn put_abort(base: usize, follows: bool, out: &mut [i32])
     requires { Room 1 base (length out.old) }
-    ensures { out.new ≡ over (emitItems follows (abort then none) base) out.old }
+    ensures { out.new ≡ over (emit_items follows (abort then none) base) out.old }
 {
     put_item(57, 0, base, follows, out);
 }
 
 pub fn put_label(number: usize, base: usize, follows: bool, out: &mut [i32])
     requires { Room 1 base (length out.old) × (number < 65536) }
-    ensures { out.new ≡ over (emitItems follows (label number here none) base) out.old }
+    ensures { out.new ≡ over (emit_items follows (label number here none) base) out.old }
 {
     put_item(53, number, base, follows, out);
 }
@@ -69,7 +69,7 @@ pub fn put_label(number: usize, base: usize, follows: bool, out: &mut [i32])
 // "A kernel return takes an atom."
 pub fn put_return(value: KernelAtom, base: usize, follows: bool, out: &mut [i32])
     requires { Room 2 base (length out.old) × AtomFits value }
-    ensures { out.new ≡ over (emitItems follows (giveBack (present (atomTree value)) then none) base) out.old }
+    ensures { out.new ≡ over (emit_items follows (give_back (present (atom_tree value)) then none) base) out.old }
 {
     put_row(60, base + 1, 0, 0, behind(follows, base + 2), out);
     put_atom(value, &mut out[6..]);
@@ -97,7 +97,7 @@ fn put_goto_block(number: usize, base: usize, out: &mut [i32])
 // The test of a loop, behind the code of its expression: where it is 0, go to the label.
 pub fn put_exit(test: KernelAtom, number: usize, base: usize, follows: bool, out: &mut [i32])
     requires { Room 5 base (length out.old) × (number < 65536) × AtomFits test }
-    ensures { out.new ≡ over (emitItems follows (ifElse (atomTree test) (block none) (block (goto number then none)) then none) base) out.old }
+    ensures { out.new ≡ over (emit_items follows (if_else (atom_tree test) (block none) (block (goto number then none)) then none) base) out.old }
 {
     put_if(test, base, base + 3, behind(follows, base + 5), out);
     put_block(0, 0, &mut out[12..]);
@@ -107,7 +107,7 @@ pub fn put_exit(test: KernelAtom, number: usize, base: usize, follows: bool, out
 // Where the variable is not 0, go to the label: what ends the test of a case. More follows.
 pub fn put_jump(number: usize, target: usize, base: usize, out: &mut [i32])
     requires { Room 5 base (length out.old) × (number < 65536) × (target < 65536) }
-    ensures { out.new ≡ over (emitItems true (ifElse (read (variable number)) (block (goto target then none)) (block none) then none) base) out.old }
+    ensures { out.new ≡ over (emit_items true (if_else (read (variable number)) (block (goto target then none)) (block none) then none) base) out.old }
 {
     put_if(KernelAtom::Variable(number), base, base + 4, base + 5, out);
     put_goto_block(target, base + 2, &mut out[12..]);

@@ -1,10 +1,10 @@
 // What all rows are put together by: words, a row and an atom's row written into a table, links to what stands behind, the numbers of operators.
 ghost use Rattle.std.specs.Prelude.{◌≡◌, ◌^◌, ◌≤◌, ◌<◌, pos, length};
 ghost use Rattle.words.specs.Word.{pick};
-ghost use Rattle.language_emission.specs.Emission.{row_of, operatorNumber};
+ghost use Rattle.language_emission.specs.Emission.{row_of, operator_number};
 ghost use Rattle.words.specs.Over.{over};
-ghost use Rattle.writers_rows.specs.Room.{moreRows};
-ghost use Rattle.writers_rows.specs.Atoms.{atomRow, AtomFits};
+ghost use Rattle.writers_rows.specs.Room.{more_rows};
+ghost use Rattle.writers_rows.specs.Atoms.{atom_row, AtomFits};
 
 use super::KernelAtom;
 use words::Operator;
@@ -24,7 +24,7 @@ pub fn put_row(kind: usize, a: usize, b: usize, c: usize, next: usize, out: &mut
 // Writes the row of an atom at the start of the table.
 pub fn put_atom(atom: KernelAtom, out: &mut [i32])
     requires { (6 ≤ length out.old) × AtomFits atom }
-    ensures { out.new ≡ over (atomRow atom) out.old }
+    ensures { out.new ≡ over (atom_row atom) out.old }
 {
     match atom {
         KernelAtom::Constant(value) => put(&[1, value, 0, 0, 0, 0], out),
@@ -44,7 +44,7 @@ pub fn behind(follows: bool, row: usize) -> usize
 
 // Whether anything stands behind, where so many rows come first.
 pub fn more(follows: bool, rows: usize) -> bool
-    ensures { result ≡ moreRows follows rows }
+    ensures { result ≡ more_rows follows rows }
 {
     if rows == 0 {
         return follows;
@@ -54,7 +54,7 @@ pub fn more(follows: bool, rows: usize) -> bool
 
 // An operator's place in the list of kinds 6 to 16.
 pub fn operator_number(operator: Operator) -> usize
-    ensures { result ≡ operatorNumber operator }
+    ensures { result ≡ operator_number operator }
 {
     match operator {
         Operator::Add => 0,

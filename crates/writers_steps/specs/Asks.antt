@@ -1,23 +1,23 @@
 -- Asks: what the leaves ask of their caller, and what they find of atoms and places.
 use Rattle.std.specs.Prelude.{◌≡◌, Bool, false, List, ℕ, ◌*◌, ◌-◌, ◌≤◌, ◌<◌, ℤ}
-use Rattle.words.specs.Table.{rowCount}
+use Rattle.words.specs.Table.{row_count}
 use Rattle.language.specs.Trees.{Expression, variable, element}
-use Rattle.language.specs.Writes.{writes, indexWrites}
-use Rattle.language.specs.Decode.{place_of, expressionAt}
+use Rattle.language.specs.Writes.{writes, index_writes}
+use Rattle.language.specs.Decode.{place_of, expression_at}
 use Rattle.translation.specs.Uses.{direct}
 use Rattle.translation.specs.declared.Use.{Use}
-use Rattle.translation.specs.Translate.{atomOf, atom, targetWord, kernelPlace, expressionLevels}
-use Rattle.translation.specs.TranslateSize.{indexRows as indexRowsOf, storeRows, copied, ownRows}
-use Rattle.translation.specs.HeldCode.{heldBy}
-use Rattle.measures_table.specs.Parts.{calledIn, firstCopied, UseFits}
+use Rattle.translation.specs.Translate.{atom_of, atom, target_word, kernel_place, expression_levels}
+use Rattle.translation.specs.TranslateSize.{index_rows as index_rows_of, store_rows, copied, own_rows}
+use Rattle.translation.proofs.HeldCode.{held_by}
+use Rattle.measures_table.specs.Parts.{called_in, first_copied, UseFits}
 use Rattle.measures_table.specs.Measures.{Measured}
 use Rattle.language_shapes.specs.Functions.{is_call}
-use Rattle.language_shapes.specs.Source.{mostWords, mostArrays}
-use Rattle.language_shapes.specs.Shapes.{placeTree as placeShapeTree}
+use Rattle.language_shapes.specs.Source.{most_words, most_arrays}
+use Rattle.language_shapes.specs.Shapes.{place_tree as place_shape_tree}
 use Rattle.language_shapes.specs.declared.PlaceShape.{PlaceShape}
 use Rattle.language_shapes.specs.declared.PlaceShape.TheVariants.{Variable as VariableShape, Element as ElementShape}
 use Rattle.writers_rows.specs.Room.{Room}
-use Rattle.writers_rows.specs.Atoms.{atomTree, placeTree, AtomFits, PlaceFits}
+use Rattle.writers_rows.specs.Atoms.{atom_tree, place_tree, AtomFits, PlaceFits}
 use Rattle.writers_rows.specs.declared.KernelAtom.{KernelAtom}
 use Rattle.writers_rows.specs.declared.KernelPlace.{KernelPlace}
 
@@ -25,51 +25,51 @@ use Rattle.writers_rows.specs.declared.KernelPlace.{KernelPlace}
 pub record Writing (rows : List ℤ) (table : List ℕ) (S : ℕ) : Type 0 where
   pub measured : Measured rows table
   -- the words of the source, and the temporaries of what may call
-  pub small-store : S ≤ 10304
+  pub small_store : S ≤ 10304
   -- an expression has no more levels than rows, and each row is linked once
-  pub few-levels : (row : ℕ) → row < rowCount rows → (u : Use) → expressionLevels (calledIn rows) (expressionAt rows row) u ≤ 2048
+  pub few_levels : (row : ℕ) → row < row_count rows → (u : Use) → expression_levels (called_in rows) (expression_at rows row) u ≤ 2048
 
 -- The rows of what an expression that chooses and calls nothing does with its operands' values.
-abbrev pub straightSize : (ℕ → ℕ → Bool) → Expression → Use → ℕ
-straightSize called e u = ownRows called e u - 4 * firstCopied called e
+abbrev pub straight_size : (ℕ → ℕ → Bool) → Expression → Use → ℕ
+straight_size called e u = own_rows called e u - 4 * first_copied called e
 
 pub record StraightAsks (rows : List ℤ) (row : ℕ) (u : Use) (level base words : ℕ) : Type 0 where
-  pub inside : row < rowCount rows
-  pub no_call : is_call (expressionAt rows row) ≡ false
-  pub level-low : level ≤ 2048
-  pub use-fits : UseFits u
-  pub room : Room (straightSize (calledIn rows) (expressionAt rows row) u) base words
+  pub inside : row < row_count rows
+  pub no_call : is_call (expression_at rows row) ≡ false
+  pub level_low : level ≤ 2048
+  pub use_fits : UseFits u
+  pub room : Room (straight_size (called_in rows) (expression_at rows row) u) base words
 
 -- The word where an element's value or an operation's result goes.
 pub record TargetIs (S : ℕ) (u : Use) (t r : ℕ) : Type 0 where
-  pub is : r ≡ targetWord S u t
+  pub is : r ≡ target_word S u t
   pub fits : r < 65536
 
 -- ---- atoms and places
 
 -- The atom of the expression at a row, worked out at level t.
 pub record AtomAt (S : ℕ) (rows : List ℤ) (row t : ℕ) (x : KernelAtom) : Type 0 where
-  pub is : atomTree x ≡ atom S t (atomOf (calledIn rows) (expressionAt rows row))
+  pub is : atom_tree x ≡ atom S t (atom_of (called_in rows) (expression_at rows row))
   pub fits : AtomFits x
 
 -- The atom of a value that waits, which was copied where `copies` is 1.
 pub record HeldAt (S : ℕ) (rows : List ℤ) (row copies t : ℕ) (x : KernelAtom) : Type 0 where
-  pub is : atomTree x ≡ atom S t (heldBy copies (atomOf (calledIn rows) (expressionAt rows row)))
+  pub is : atom_tree x ≡ atom S t (held_by copies (atom_of (called_in rows) (expression_at rows row)))
   pub fits : AtomFits x
 
 -- The numbers and the index row of a place are inside.
 abbrev pub PlaceInside : List ℤ → PlaceShape → Type 0
-PlaceInside rows (VariableShape i) = i < mostWords
-PlaceInside rows (ElementShape array index) = (array < mostArrays) × (index < rowCount rows)
+PlaceInside rows (VariableShape i) = i < most_words
+PlaceInside rows (ElementShape array index) = (array < most_arrays) × (index < row_count rows)
 
 -- A place whose index is held at level t.
 pub record HeldPlace (S : ℕ) (rows : List ℤ) (place : PlaceShape) (t : ℕ) (p : KernelPlace) : Type 0 where
-  pub is : placeTree p ≡ kernelPlace (calledIn rows) S (placeShapeTree rows place) t
+  pub is : place_tree p ≡ kernel_place (called_in rows) S (place_shape_tree rows place) t
   pub fits : PlaceFits p
 
 -- The place at a row, its index held at level t.
 pub record PlaceAt (S : ℕ) (rows : List ℤ) (row t : ℕ) (p : KernelPlace) : Type 0 where
-  pub is : placeTree p ≡ kernelPlace (calledIn rows) S (place_of (expressionAt rows row)) t
+  pub is : place_tree p ≡ kernel_place (called_in rows) S (place_of (expression_at rows row)) t
   pub fits : PlaceFits p
 
 -- ---- what ends the code of an expression
@@ -77,47 +77,47 @@ pub record PlaceAt (S : ℕ) (rows : List ℤ) (row t : ℕ) (p : KernelPlace) :
 pub record ReadAsks (rows : List ℤ) (table : List ℕ) (S : ℕ) (place : PlaceShape) (u : Use) (level base words : ℕ) : Type 0 where
   pub writing : Writing rows table S
   pub place_inside : PlaceInside rows place
-  pub level-low : level ≤ 2048
-  pub use-fits : UseFits u
-  pub room : Room (5 * indexRowsOf (placeShapeTree rows place)) base words
+  pub level_low : level ≤ 2048
+  pub use_fits : UseFits u
+  pub room : Room (5 * index_rows_of (place_shape_tree rows place)) base words
 
 -- `copies` is 1 where the value of the first operand was copied.
 pub record AssignmentAsks (rows : List ℤ) (table : List ℕ) (S place value copies level base words : ℕ) : Type 0 where
   pub writing : Writing rows table S
-  pub place_inside : place < rowCount rows
-  pub value-inside : value < rowCount rows
-  pub copies-are : copies ≡ copied (atomOf (calledIn rows) (expressionAt rows value)) (indexWrites (calledIn rows) (place_of (expressionAt rows place)))
-  pub level-low : level ≤ 2048
-  pub room : Room (storeRows (place_of (expressionAt rows place)) (direct (expressionAt rows value))) base words
+  pub place_inside : place < row_count rows
+  pub value_inside : value < row_count rows
+  pub copies_are : copies ≡ copied (atom_of (called_in rows) (expression_at rows value)) (index_writes (called_in rows) (place_of (expression_at rows place)))
+  pub level_low : level ≤ 2048
+  pub room : Room (store_rows (place_of (expression_at rows place)) (direct (expression_at rows value))) base words
 
 pub record VariableAsks (rows : List ℤ) (table : List ℕ) (S i value level base words : ℕ) : Type 0 where
   pub writing : Writing rows table S
-  pub low : i < mostWords
-  pub value-inside : value < rowCount rows
-  pub level-low : level ≤ 2048
-  pub room : Room (storeRows (variable i) (direct (expressionAt rows value))) base words
+  pub low : i < most_words
+  pub value_inside : value < row_count rows
+  pub level_low : level ≤ 2048
+  pub room : Room (store_rows (variable i) (direct (expression_at rows value))) base words
 
 pub record ElementAsks (rows : List ℤ) (table : List ℕ) (S array index value copies level base words : ℕ) : Type 0 where
   pub writing : Writing rows table S
-  pub low : array < mostArrays
-  pub index-inside : index < rowCount rows
-  pub value-inside : value < rowCount rows
-  pub copies-are : copies ≡ copied (atomOf (calledIn rows) (expressionAt rows value)) (indexWrites (calledIn rows) (element array (expressionAt rows index)))
-  pub level-low : level ≤ 2048
+  pub low : array < most_arrays
+  pub index_inside : index < row_count rows
+  pub value_inside : value < row_count rows
+  pub copies_are : copies ≡ copied (atom_of (called_in rows) (expression_at rows value)) (index_writes (called_in rows) (element array (expression_at rows index)))
+  pub level_low : level ≤ 2048
   pub room : Room 5 base words
 
 -- An operation on a place, of so many rows.
 pub record OperationAsks (rows : List ℤ) (table : List ℕ) (S place size level base words : ℕ) : Type 0 where
   pub writing : Writing rows table S
-  pub place_inside : place < rowCount rows
-  pub level-low : level ≤ 2048
+  pub place_inside : place < row_count rows
+  pub level_low : level ≤ 2048
   pub room : Room size base words
 
 pub record OperatorAsks (rows : List ℤ) (table : List ℕ) (S left right copies : ℕ) (u : Use) (level base words : ℕ) : Type 0 where
   pub writing : Writing rows table S
-  pub left-inside : left < rowCount rows
-  pub right-inside : right < rowCount rows
-  pub copies-are : copies ≡ copied (atomOf (calledIn rows) (expressionAt rows right)) (writes (calledIn rows) (expressionAt rows left))
-  pub use-fits : UseFits u
-  pub level-low : level ≤ 2048
+  pub left_inside : left < row_count rows
+  pub right_inside : right < row_count rows
+  pub copies_are : copies ≡ copied (atom_of (called_in rows) (expression_at rows right)) (writes (called_in rows) (expression_at rows left))
+  pub use_fits : UseFits u
+  pub level_low : level ≤ 2048
   pub room : Room 6 base words

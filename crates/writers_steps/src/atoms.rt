@@ -1,10 +1,10 @@
 // Kernel atoms and places, from the source rows.
 ghost use Rattle.std.specs.Prelude.{◌≡◌, ◌+◌, ◌≤◌, ◌<◌};
-ghost use Rattle.words.specs.Table.{rowCount};
-ghost use Rattle.language.specs.Decode.{place_of, expressionAt, part_at};
-ghost use Rattle.translation.specs.Translate.{placeTaken};
-ghost use Rattle.translation.specs.TranslateSize.{operandSize};
-ghost use Rattle.measures_table.specs.Parts.{calledIn, firstCopied, UseFits};
+ghost use Rattle.words.specs.Table.{row_count};
+ghost use Rattle.language.specs.Decode.{place_of, expression_at, part_at};
+ghost use Rattle.translation.specs.Translate.{place_taken};
+ghost use Rattle.translation.specs.TranslateSize.{operand_size};
+ghost use Rattle.measures_table.specs.Parts.{called_in, first_copied, UseFits};
 ghost use Rattle.measures_table.specs.Measures.{Measured};
 ghost use Rattle.writers_steps.specs.Asks.{Writing, AtomAt, TargetIs, HeldAt, PlaceInside, HeldPlace, PlaceAt};
 
@@ -19,7 +19,7 @@ use writers_rows::{KernelAtom, KernelPlace};
 
 // The atom of the expression at a row, worked out at a level.
 pub fn atom_at(rows: &[i32], table: &[usize], store: usize, row: usize, level: usize) -> KernelAtom
-    requires { Writing rows.now table.now store × (row < rowCount rows.now) × (level ≤ 4096) }
+    requires { Writing rows.now table.now store × (row < row_count rows.now) × (level ≤ 4096) }
     ensures { AtomAt store rows.now row level result }
 {
     let holder = holder_at(rows, table, row);
@@ -44,8 +44,8 @@ pub fn target_word(store: usize, level: usize, usage: Use) -> usize
 
 // 1 where the expression at a row copies the value of its first operand, else 0.
 pub fn operand_copied(rows: &[i32], table: &[usize], row: usize) -> usize
-    requires { Measured rows.now table.now × (row < rowCount rows.now) }
-    ensures { result ≡ firstCopied (calledIn rows.now) (expressionAt rows.now row) }
+    requires { Measured rows.now table.now × (row < row_count rows.now) }
+    ensures { result ≡ first_copied (called_in rows.now) (expression_at rows.now row) }
 {
     table[WIDTH * row + COPIED]
 }
@@ -59,7 +59,7 @@ pub fn held_atom(
     copied: usize,
     level: usize,
 ) -> KernelAtom
-    requires { Writing rows.now table.now store × (row < rowCount rows.now) × (level ≤ 4096) }
+    requires { Writing rows.now table.now store × (row < row_count rows.now) × (level ≤ 4096) }
     ensures { HeldAt store rows.now row copied level result }
 {
     if copied == 1 {
@@ -96,7 +96,7 @@ pub fn kernel_place(
     row: usize,
     level: usize,
 ) -> KernelPlace
-    requires { Writing rows.now table.now store × (row < rowCount rows.now) × (level ≤ 4096) }
+    requires { Writing rows.now table.now store × (row < row_count rows.now) × (level ≤ 4096) }
     ensures { PlaceAt store rows.now row level result }
 {
     let place = place_at(rows, row);
@@ -105,8 +105,8 @@ pub fn kernel_place(
 
 // How many temporaries the index of the place at a row takes.
 pub fn place_taken(rows: &[i32], table: &[usize], row: usize) -> usize
-    requires { Measured rows.now table.now × (row < rowCount rows.now) }
-    ensures { result ≡ placeTaken (calledIn rows.now) (place_of (expressionAt rows.now row)) }
+    requires { Measured rows.now table.now × (row < row_count rows.now) }
+    ensures { result ≡ place_taken (called_in rows.now) (place_of (expression_at rows.now row)) }
 {
     let place = place_at(rows, row);
     match place {
@@ -117,8 +117,8 @@ pub fn place_taken(rows: &[i32], table: &[usize], row: usize) -> usize
 
 // The kernel rows of the expression at a link, where its value has this use.
 pub fn operand_size(rows: &[i32], table: &[usize], row: usize, usage: Use) -> usize
-    requires { Measured rows.now table.now × (row < rowCount rows.now) × (operandSize (calledIn rows.now) (part_at rows.now row) usage ≤ 40980) }
-    ensures { result ≡ operandSize (calledIn rows.now) (part_at rows.now row) usage }
+    requires { Measured rows.now table.now × (row < row_count rows.now) × (operand_size (called_in rows.now) (part_at rows.now row) usage ≤ 40980) }
+    ensures { result ≡ operand_size (called_in rows.now) (part_at rows.now row) usage }
 {
     measure_at(table, row, rows_for(usage))
 }

@@ -1,18 +1,18 @@
 // What an expression does with its operands' values, where it chooses nothing.
 ghost use Rattle.std.specs.Prelude.{◌≡◌, ◌+◌, ◌*◌, ◌≤◌, ◌<◌, length};
-ghost use Rattle.words.specs.Table.{rowCount};
+ghost use Rattle.words.specs.Table.{row_count};
 ghost use Rattle.language.specs.Trees.{binary, assign, variable, element};
-ghost use Rattle.language.specs.Decode.{place_of, expressionAt};
-ghost use Rattle.translation.specs.Translate.{atomOf, placeTaken, read_code, kernelPlace, updateCode, stepCode, postfixCode};
-ghost use Rattle.translation.specs.TranslateSize.{updateRows, stepRows, postfixRows};
-ghost use Rattle.translation.specs.HeldCode.{holdBy};
-ghost use Rattle.language_shapes.specs.Shapes.{placeTree as placeShapeTree};
-ghost use Rattle.language_emission.specs.Emission.{emitItems};
-ghost use Rattle.measures_table.specs.Parts.{calledIn};
+ghost use Rattle.language.specs.Decode.{place_of, expression_at};
+ghost use Rattle.translation.specs.Translate.{atom_of, place_taken, read_code, kernel_place, update_code, step_code, postfix_code};
+ghost use Rattle.translation.specs.TranslateSize.{update_rows, step_rows, postfix_rows};
+ghost use Rattle.translation.proofs.HeldCode.{hold_by};
+ghost use Rattle.language_shapes.specs.Shapes.{place_tree as place_shape_tree};
+ghost use Rattle.language_emission.specs.Emission.{emit_items};
+ghost use Rattle.measures_table.specs.Parts.{called_in};
 ghost use Rattle.words.specs.Over.{over};
 ghost use Rattle.writers_rows.specs.Room.{Room};
-ghost use Rattle.writers_rows.specs.Atoms.{atomTree, placeTree, AtomFits, PlaceFits};
-ghost use Rattle.writers_rows.specs.Straight.{straightCode, elementUpdate, keptStep};
+ghost use Rattle.writers_rows.specs.Atoms.{atom_tree, place_tree, AtomFits, PlaceFits};
+ghost use Rattle.writers_rows.specs.Straight.{straight_code, element_update, kept_step};
 ghost use Rattle.writers_steps.specs.Asks.{Writing, StraightAsks, ReadAsks, VariableAsks, ElementAsks, AssignmentAsks, OperationAsks, OperatorAsks};
 
 use super::WritePosition;
@@ -37,8 +37,8 @@ pub fn put_hold(
     follows: bool,
     out: &mut [i32],
 )
-    requires { Writing rows.now table.now store × (value < rowCount rows.now) × (level ≤ 4096) × Room (4 * copied) base (length out.old) }
-    ensures { out.new ≡ over (emitItems follows (holdBy store level copied (atomOf (calledIn rows.now) (expressionAt rows.now value))) base) out.old }
+    requires { Writing rows.now table.now store × (value < row_count rows.now) × (level ≤ 4096) × Room (4 * copied) base (length out.old) }
+    ensures { out.new ≡ over (emit_items follows (hold_by store level copied (atom_of (called_in rows.now) (expression_at rows.now value))) base) out.old }
 {
     if copied == 1 {
         let source = atom_at(rows, table, store, value, level);
@@ -56,7 +56,7 @@ fn put_read(
     out: &mut [i32],
 )
     requires { ReadAsks rows.now table.now at.store place usage at.level at.base (length out.old) }
-    ensures { out.new ≡ over (emitItems at.follows (read_code (calledIn rows.now) at.store (placeShapeTree rows.now place) usage at.level) at.base) out.old }
+    ensures { out.new ≡ over (emit_items at.follows (read_code (called_in rows.now) at.store (place_shape_tree rows.now place) usage at.level) at.base) out.old }
 {
     match place {
         PlaceShape::Variable(_) => {}
@@ -81,7 +81,7 @@ fn put_element_update(
     out: &mut [i32],
 )
     requires { Room 16 base (length out.old) × (array < 65536) × AtomFits index × AtomFits operand × (old < 65536) × (new < 65536) }
-    ensures { out.new ≡ over (emitItems follows (elementUpdate operator array (atomTree index) (atomTree operand) old new) base) out.old }
+    ensures { out.new ≡ over (emit_items follows (element_update operator array (atom_tree index) (atom_tree operand) old new) base) out.old }
 {
     put_fetch(old, array, index, base, true, out);
     put_binary(
@@ -115,8 +115,8 @@ fn put_update(
     follows: bool,
     out: &mut [i32],
 )
-    requires { Room (updateRows (placeTree place)) base (length out.old) × PlaceFits place × AtomFits operand × (store + level < 65536) × (store + above < 65536) }
-    ensures { out.new ≡ over (emitItems follows (updateCode store operator (placeTree place) (atomTree operand) level above) base) out.old }
+    requires { Room (update_rows (place_tree place)) base (length out.old) × PlaceFits place × AtomFits operand × (store + level < 65536) × (store + above < 65536) }
+    ensures { out.new ≡ over (emit_items follows (update_code store operator (place_tree place) (atom_tree operand) level above) base) out.old }
 {
     let result = store + level;
     let old = store + above;
@@ -141,7 +141,7 @@ fn put_kept_step(
     out: &mut [i32],
 )
     requires { Room 10 base (length out.old) × (number < 65536) × (old < 65536) }
-    ensures { out.new ≡ over (emitItems follows (keptStep operator number old) base) out.old }
+    ensures { out.new ≡ over (emit_items follows (kept_step operator number old) base) out.old }
 {
     put_copy(old, KernelAtom::Variable(number), base, true, out);
     let value = KernelAtom::Variable(old);
@@ -161,8 +161,8 @@ fn put_variable_step(
     follows: bool,
     out: &mut [i32],
 )
-    requires { Room (stepRows usage) base (length out.old) × (number < 65536) × (store + level < 65536) }
-    ensures { out.new ≡ over (emitItems follows (stepCode store operator number usage level) base) out.old }
+    requires { Room (step_rows usage) base (length out.old) × (number < 65536) × (store + level < 65536) }
+    ensures { out.new ≡ over (emit_items follows (step_code store operator number usage level) base) out.old }
 {
     let old = store + level;
     match usage {
@@ -188,8 +188,8 @@ fn put_postfix(
     follows: bool,
     out: &mut [i32],
 )
-    requires { Room (postfixRows (placeTree place) usage) base (length out.old) × PlaceFits place × (store + level < 65536) × (store + above < 65536) }
-    ensures { out.new ≡ over (emitItems follows (postfixCode store operator (placeTree place) usage level above) base) out.old }
+    requires { Room (postfix_rows (place_tree place) usage) base (length out.old) × PlaceFits place × (store + level < 65536) × (store + above < 65536) }
+    ensures { out.new ≡ over (emit_items follows (postfix_code store operator (place_tree place) usage level above) base) out.old }
 {
     let old = store + level;
     let new = store + above;
@@ -215,7 +215,7 @@ pub fn put_variable(
     out: &mut [i32],
 )
     requires { VariableAsks rows.now table.now at.store number value at.level at.base (length out.old) }
-    ensures { out.new ≡ over (emitItems at.follows (straightCode (calledIn rows.now) at.store (assign (variable number) (expressionAt rows.now value)) usage at.level) at.base) out.old }
+    ensures { out.new ≡ over (emit_items at.follows (straight_code (called_in rows.now) at.store (assign (variable number) (expression_at rows.now value)) usage at.level) at.base) out.old }
 {
     if direct_at(rows, value) {
         return;
@@ -237,7 +237,7 @@ fn put_element(
     out: &mut [i32],
 )
     requires { ElementAsks rows.now table.now at.store array index value copied at.level at.base (length out.old) }
-    ensures { out.new ≡ over (emitItems at.follows (straightCode (calledIn rows.now) at.store (assign (element array (expressionAt rows.now index)) (expressionAt rows.now value)) usage at.level) at.base) out.old }
+    ensures { out.new ≡ over (emit_items at.follows (straight_code (called_in rows.now) at.store (assign (element array (expression_at rows.now index)) (expression_at rows.now value)) usage at.level) at.base) out.old }
 {
     let source = held_atom(rows, table, at.store, value, copied, at.level);
     let above = at.level + taken_at(rows, table, value) + copied;
@@ -257,7 +257,7 @@ fn put_assignment(
     out: &mut [i32],
 )
     requires { AssignmentAsks rows.now table.now at.store place value copied at.level at.base (length out.old) }
-    ensures { out.new ≡ over (emitItems at.follows (straightCode (calledIn rows.now) at.store (assign (place_of (expressionAt rows.now place)) (expressionAt rows.now value)) usage at.level) at.base) out.old }
+    ensures { out.new ≡ over (emit_items at.follows (straight_code (called_in rows.now) at.store (assign (place_of (expression_at rows.now place)) (expression_at rows.now value)) usage at.level) at.base) out.old }
 {
     let shape = place_at(rows, place);
     match shape {
@@ -278,8 +278,8 @@ fn put_operation(
     at: WritePosition,
     out: &mut [i32],
 )
-    requires { OperationAsks rows.now table.now at.store place (updateRows (place_of (expressionAt rows.now place))) at.level at.base (length out.old) × AtomFits operand }
-    ensures { out.new ≡ over (emitItems at.follows (updateCode at.store operator (kernelPlace (calledIn rows.now) at.store (place_of (expressionAt rows.now place)) (at.level + 1)) (atomTree operand) at.level (at.level + 1 + placeTaken (calledIn rows.now) (place_of (expressionAt rows.now place)))) at.base) out.old }
+    requires { OperationAsks rows.now table.now at.store place (update_rows (place_of (expression_at rows.now place))) at.level at.base (length out.old) × AtomFits operand }
+    ensures { out.new ≡ over (emit_items at.follows (update_code at.store operator (kernel_place (called_in rows.now) at.store (place_of (expression_at rows.now place)) (at.level + 1)) (atom_tree operand) at.level (at.level + 1 + place_taken (called_in rows.now) (place_of (expression_at rows.now place)))) at.base) out.old }
 {
     let target = kernel_place(rows, table, at.store, place, at.level + 1);
     let above = at.level + 1 + place_taken(rows, table, place);
@@ -298,8 +298,8 @@ fn put_step(
     at: WritePosition,
     out: &mut [i32],
 )
-    requires { OperationAsks rows.now table.now at.store place (postfixRows (place_of (expressionAt rows.now place)) usage) at.level at.base (length out.old) }
-    ensures { out.new ≡ over (emitItems at.follows (postfixCode at.store operator (kernelPlace (calledIn rows.now) at.store (place_of (expressionAt rows.now place)) (at.level + 1)) usage at.level (at.level + 1 + placeTaken (calledIn rows.now) (place_of (expressionAt rows.now place)))) at.base) out.old }
+    requires { OperationAsks rows.now table.now at.store place (postfix_rows (place_of (expression_at rows.now place)) usage) at.level at.base (length out.old) }
+    ensures { out.new ≡ over (emit_items at.follows (postfix_code at.store operator (kernel_place (called_in rows.now) at.store (place_of (expression_at rows.now place)) (at.level + 1)) usage at.level (at.level + 1 + place_taken (called_in rows.now) (place_of (expression_at rows.now place)))) at.base) out.old }
 {
     let target = kernel_place(rows, table, at.store, place, at.level + 1);
     let above = at.level + 1 + place_taken(rows, table, place);
@@ -321,7 +321,7 @@ fn put_operator(
     out: &mut [i32],
 )
     requires { OperatorAsks rows.now table.now at.store left right copied usage at.level at.base (length out.old) }
-    ensures { out.new ≡ over (emitItems at.follows (straightCode (calledIn rows.now) at.store (binary operator (expressionAt rows.now left) (expressionAt rows.now right)) usage at.level) at.base) out.old }
+    ensures { out.new ≡ over (emit_items at.follows (straight_code (called_in rows.now) at.store (binary operator (expression_at rows.now left) (expression_at rows.now right)) usage at.level) at.base) out.old }
 {
     let right_atom = held_atom(rows, table, at.store, right, copied, at.level);
     let above = at.level + taken_at(rows, table, right) + copied;
@@ -345,7 +345,7 @@ pub fn put_straight(
     out: &mut [i32],
 )
     requires { Writing rows.now table.now store × StraightAsks rows.now row usage level base (length out.old) }
-    ensures { out.new ≡ over (emitItems follows (straightCode (calledIn rows.now) store (expressionAt rows.now row) usage level) base) out.old }
+    ensures { out.new ≡ over (emit_items follows (straight_code (called_in rows.now) store (expression_at rows.now row) usage level) base) out.old }
 {
     let number = target_word(store, level, usage);
     let at = WritePosition {

@@ -3,7 +3,7 @@ use mathlib.Core.Path.{ap, ◌∙◌}
 use lib.IntN.{◌*ℤ◌}
 use borrow.Author.Rules.{rules}
 use Rattle.arithmetic.specs.Arithmetic.{in_word, apply}
-use Rattle.arithmetic.proofs.Results.{product-64, wide_fits, operation-fits, operation-is}
+use Rattle.arithmetic.proofs.Results.{product-64, wide_fits, operation-fits, operation_is}
 use Rattle.arithmetic.proofs.multiply.Statement.{statement}
 use Rattle.arithmetic.proofs.multiply.Tie as tie
 
@@ -21,7 +21,7 @@ narrow-requires c κs = search rules
 
 returns : tie.Need-returns
 unfolding apply
-returns c = let s = c.before in c.narrow.ensures ∙ ap in_word (operation-is ◌*ℤ◌ product-64 s.ranges.left s.ranges.right)
+returns c = let s = c.before in c.narrow.ensures ∙ ap in_word (operation_is ◌*ℤ◌ product-64 s.ranges.left s.ranges.right)
 
 pub multiply-spec : {M : Type 1} → statement M
 multiply-spec = tie.close (tie.spec cast-narrow cast-narrow-2 mul-narrow narrow-requires returns)

@@ -1,6 +1,6 @@
 -- `declaration_refusal` accepts where there is no declaration; else the causes decide.
 use mathlib.Core.Path.{sym, ◌∙◌}
-use Rattle.check_declaration_causes.specs.AcceptsDeclared.{undeclared-accepted}
+use Rattle.check_declaration_causes.proofs.AcceptsDeclared.{undeclared-accepted}
 use borrow.Author.Rules.{rules}
 use Rattle.check_declarations.proofs.declaration_refusal.Statement.{statement}
 use Rattle.check_declarations.proofs.declaration_refusal.Tie as tie

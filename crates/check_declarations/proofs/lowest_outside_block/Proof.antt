@@ -1,6 +1,6 @@
 -- `lowest_outside_block` finds nothing where there is no declaration; else the pass and the search do.
 use mathlib.Core.Path.{sym, ◌∙◌}
-use Rattle.check_declaration_causes.specs.AcceptsDeclared.{undeclared-inside}
+use Rattle.check_declaration_causes.proofs.AcceptsDeclared.{undeclared-inside}
 use borrow.Author.Rules.{rules}
 use Rattle.check_declarations.proofs.lowest_outside_block.Statement.{statement}
 use Rattle.check_declarations.proofs.lowest_outside_block.Tie as tie

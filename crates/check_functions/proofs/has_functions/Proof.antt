@@ -2,15 +2,15 @@
 use mathlib.Core.Path.{◌≡◌, refl}
 use Prim.Native.Nat.{◌≤◌, ◌-◌}
 use native.Mathlib.Omega.{arith}
-use Rattle.words.specs.Table.{rowCount}
+use Rattle.words.specs.Table.{row_count}
 use Rattle.words.specs.SearchLaws.{Tried, tried-start, tried-on, tried-hit, tried-end}
-use Rattle.check_function_causes.specs.Functions.{isOfFunctions, hasFunctions}
+use Rattle.check_function_causes.specs.Functions.{is_of_functions, has_functions}
 use Rattle.check_functions.proofs.has_functions.Statement.{statement}
 use Rattle.check_functions.proofs.has_functions.Tie as tie
 
 abbrev invariant-loop : tie.invariant-loop
 invariant-loop rows count row₀ row =
-    (row ≤ count) × (count ≡ rowCount rows) × Tried (isOfFunctions rows) count row
+    (row ≤ count) × (count ≡ row_count rows) × Tried (is_of_functions rows) count row
 
 abbrev decreases-loop : tie.decreases-loop
 decreases-loop rows count row₀ row =
@@ -25,7 +25,7 @@ is-of-functions-requires c κs =
     omega arith
 
 returns : tie.Need-returns invariant-loop decreases-loop
-unfolding hasFunctions
+unfolding has_functions
 returns c =
     tried-hit _ _ _ _ (omega arith) c.before.before.before.loop.invariant.2 c.before.is-of-functions.ensures c.if1.true
 
@@ -42,7 +42,7 @@ loop-again c =
     (omega arith, refl, tried-on _ _ _ _ (omega arith) c.before.before.before.loop.invariant.2 c.before.is-of-functions.ensures c.if1.false)
 
 returns-2 : tie.Need-returns-2 invariant-loop decreases-loop
-unfolding hasFunctions
+unfolding has_functions
 returns-2 c =
     tried-end _ _ _ (omega arith) c.before.loop.invariant.2
 

@@ -1,7 +1,7 @@
 -- `known_refusal` takes the causes in order.
 use mathlib.Core.Path.{sym, ◌∙◌}
 use Rattle.check_structure.specs.RefusalLaws.{ends, goes_on, last}
-use Rattle.check_function_causes.specs.Causes.{functionRefusal}
+use Rattle.check_function_causes.specs.Causes.{function_refusal}
 use Rattle.check_functions.specs.Passes.{breaks}
 use borrow.Author.Rules.{rules}
 use Rattle.check_functions.proofs.known_refusal.Statement.{statement}
@@ -14,7 +14,7 @@ enum-known-disordered : tie.Need-enum-known-disordered
 enum-known-disordered c = search rules
 
 returns : tie.Need-returns
-unfolding functionRefusal breaks
+unfolding function_refusal breaks
 returns c =
     ends _ _ _ _ _ c.before.disordered.given.1 c.before.before.before.lowest-breaking.ensures
 
@@ -28,7 +28,7 @@ at-requires : tie.Need-at-requires
 at-requires c κs = search rules
 
 returns-2 : tie.Need-returns-2
-unfolding functionRefusal breaks
+unfolding function_refusal breaks
 returns-2 c =
     last _ _ _ _ c.at.ensures c.before.lowest-breaking2.ensures ∙ sym (goes_on _ _ _ _ c.before.before.enum_told.given.1 c.before.before.before.before.lowest-breaking.ensures)
 

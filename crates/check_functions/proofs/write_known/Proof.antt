@@ -6,7 +6,7 @@ use Rattle.check_functions.proofs.write_known.Tie as tie
 
 write-notes-requires : tie.Need-write-notes-requires
 write-notes-requires c κs =
-    (c.before.before.before.requires.0, c.before.before.before.requires.2.room, c.before.before.before.requires.2.is 0 c.before.before.before.requires.0.some-rows, c.before.before.before.requires.4)
+    (c.before.before.before.requires.0, c.before.before.before.requires.2.room, c.before.before.before.requires.2.is 0 c.before.before.before.requires.0.some_rows, c.before.before.before.requires.4)
 
 write-functions-requires : tie.Need-write-functions-requires
 write-functions-requires c κs = search rules

@@ -1,5 +1,5 @@
 -- `is_argument` asks what the row is.
-use Rattle.words.specs.Links.{isArgument}
+use Rattle.words.specs.Links.{is_argument}
 use borrow.Author.Rules.{rules}
 use Rattle.check_grammar.proofs.is_argument.Statement.{statement}
 use Rattle.check_grammar.proofs.is_argument.Tie as tie
@@ -8,7 +8,7 @@ sort-at-requires : tie.Need-sort-at-requires
 sort-at-requires c κs = search rules
 
 returns : tie.Need-returns
-unfolding isArgument
+unfolding is_argument
 returns c =
     rw (← c.sort-at.ensures)
 

@@ -1,5 +1,5 @@
 -- `is_arm` asks what the row is.
-use Rattle.words.specs.Links.{isArm}
+use Rattle.words.specs.Links.{is_arm}
 use borrow.Author.Rules.{rules}
 use Rattle.check_grammar.proofs.is_arm.Statement.{statement}
 use Rattle.check_grammar.proofs.is_arm.Tie as tie
@@ -8,7 +8,7 @@ sort-at-requires : tie.Need-sort-at-requires
 sort-at-requires c κs = search rules
 
 returns : tie.Need-returns
-unfolding isArm
+unfolding is_arm
 returns c =
     rw (← c.sort-at.ensures)
 

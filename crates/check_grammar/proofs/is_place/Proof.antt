@@ -1,5 +1,5 @@
 -- `is_place` asks what the row is.
-use Rattle.words.specs.Links.{isPlace}
+use Rattle.words.specs.Links.{is_place}
 use borrow.Author.Rules.{rules}
 use Rattle.check_grammar.proofs.is_place.Statement.{statement}
 use Rattle.check_grammar.proofs.is_place.Tie as tie
@@ -8,7 +8,7 @@ sort-at-requires : tie.Need-sort-at-requires
 sort-at-requires c κs = search rules
 
 returns : tie.Need-returns
-unfolding isPlace
+unfolding is_place
 returns c =
     rw (← c.sort-at.ensures)
 

@@ -1,5 +1,5 @@
 -- `is_statement` asks what the row is.
-use Rattle.words.specs.Links.{isStatement}
+use Rattle.words.specs.Links.{is_statement}
 use borrow.Author.Rules.{rules}
 use Rattle.check_grammar.proofs.is_statement.Statement.{statement}
 use Rattle.check_grammar.proofs.is_statement.Tie as tie
@@ -8,7 +8,7 @@ sort-at-requires : tie.Need-sort-at-requires
 sort-at-requires c κs = search rules
 
 returns : tie.Need-returns
-unfolding isStatement
+unfolding is_statement
 returns c =
     rw (← c.sort-at.ensures)
 

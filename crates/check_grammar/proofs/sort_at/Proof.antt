@@ -1,5 +1,5 @@
 -- `sort_at` reads the kind, then the table.
-use Rattle.words.specs.Kinds.{sortAt}
+use Rattle.words.specs.Kinds.{sort_at}
 use borrow.Author.Rules.{rules}
 use Rattle.check_grammar.proofs.sort_at.Statement.{statement}
 use Rattle.check_grammar.proofs.sort_at.Tie as tie
@@ -11,7 +11,7 @@ sort-of-requires : tie.Need-sort-of-requires
 sort-of-requires c κs = search rules
 
 returns : tie.Need-returns
-unfolding sortAt
+unfolding sort_at
 returns c =
     rw (← c.before.number_at.ensures) c.sort-of.ensures
 

@@ -3,7 +3,7 @@ use mathlib.Core.Path.{sym}
 use Prim.Native.Nat.{ℕ, ◌≤◌}
 use native.Mathlib.Omega.{arith}
 use borrow.Author.Rules.{rules}
-use Rattle.check_grammar.specs.Grammar.{kindLimit}
+use Rattle.check_grammar.specs.Grammar.{kind_limit}
 use Rattle.check_grammar.specs.GrammarLaws.{grammar-sort, sort-beyond}
 use Rattle.check_grammar.proofs.sort_of.Statement.{statement}
 use Rattle.check_grammar.proofs.sort_of.Tie as tie
@@ -21,7 +21,7 @@ returns : tie.Need-returns
 returns c = rw c.before.before.requires.1 (grammar-sort _ _ c.before.if1.true c.before.before.requires.0)
 
 returns-2 : tie.Need-returns-2
-returns-2 c = sym (sort-beyond _ _ (let h : kindLimit ≤ c.before.args.kind = omega (arith, c.if1.false) in h) c.before.requires.0)
+returns-2 c = sym (sort-beyond _ _ (let h : kind_limit ≤ c.before.args.kind = omega (arith, c.if1.false) in h) c.before.requires.0)
 
 pub sort-of-spec : {M : Type 1} → statement M
 sort-of-spec = tie.close (tie.spec mul-result index-1-result index-2-result returns returns-2)

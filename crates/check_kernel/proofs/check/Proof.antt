@@ -4,7 +4,7 @@ use borrow.Author.Rules.{rules}
 use Rattle.words.specs.declared.Form.TheVariants.{Kernel}
 use Rattle.check_structure.specs.Refusal.{◌next◌}
 use Rattle.check_structure.specs.StructuredLaws.{accepted-structured, structured-tree}
-use Rattle.check_function_causes.specs.FrontLaws.{block-undefined}
+use Rattle.check_function_causes.proofs.FrontLaws.{block-undefined}
 use Rattle.check_kernel.specs.Accepts.{structured-lone, structured-labels}
 use Rattle.check_kernel.specs.Refusal.{refusal}
 use borrow.Author.Rules.{rules}

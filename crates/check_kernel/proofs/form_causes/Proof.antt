@@ -2,7 +2,7 @@
 use mathlib.Core.Path.{sym, ◌∙◌}
 use borrow.Author.Rules.{rules}
 use Rattle.check_structure.specs.RefusalLaws.{ends, goes_on, last}
-use Rattle.check_kernel.specs.Refusal.{formCauses}
+use Rattle.check_kernel.specs.Refusal.{form_causes}
 use borrow.Author.Rules.{rules}
 use Rattle.check_kernel.proofs.form_causes.Statement.{statement}
 use Rattle.check_kernel.proofs.form_causes.Tie as tie
@@ -14,7 +14,7 @@ enum-known-deep : tie.Need-enum-known-deep
 enum-known-deep c = search rules
 
 returns : tie.Need-returns
-unfolding formCauses
+unfolding form_causes
 returns c = ends _ _ _ _ _ c.before.deep.given.1 c.before.before.before.lowest-deep-row.ensures
 
 enum_told : tie.Need-enum-told
@@ -27,7 +27,7 @@ enum-known-formless : tie.Need-enum-known-formless
 enum-known-formless c = search rules
 
 returns-2 : tie.Need-returns-2
-unfolding formCauses
+unfolding form_causes
 returns-2 c =
     ends _ _ _ _ _ c.before.formless.given.1 c.before.before.before.lowest-not-kernel-form.ensures
     ∙ sym (goes_on _ _ _ _ c.before.before.before.before.enum_told.given.1 c.before.before.before.before.before.before.lowest-deep-row.ensures)
@@ -42,7 +42,7 @@ at-requires : tie.Need-at-requires
 at-requires c κs = search rules
 
 returns-3 : tie.Need-returns-3
-unfolding formCauses
+unfolding form_causes
 returns-3 c =
     last _ _ _ _ c.at.ensures c.before.lowest-label-fault.ensures
     ∙ sym (goes_on _ _ _ _ c.before.before.enum-told2.given.1 c.before.before.before.before.lowest-not-kernel-form.ensures)

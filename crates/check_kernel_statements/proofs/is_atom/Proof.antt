@@ -1,5 +1,5 @@
 -- `is_atom` makes its definition's tests in order.
-use Rattle.check_kernel_statements.specs.Statements.{isAtom}
+use Rattle.check_kernel_statements.specs.Statements.{is_atom}
 use borrow.Author.Rules.{rules}
 use Rattle.check_kernel_statements.proofs.is_atom.Statement.{statement}
 use Rattle.check_kernel_statements.proofs.is_atom.Tie as tie
@@ -11,7 +11,7 @@ between-requires : tie.Need-between-requires
 between-requires c κs = search rules
 
 returns : tie.Need-returns
-unfolding isAtom
+unfolding is_atom
 returns c = rw (← c.before.number-or-zero.ensures) c.between.ensures
 
 pub is-atom-spec : {M : Type 1} → statement M

@@ -1,6 +1,6 @@
 -- `is_atom_element` makes its definition's tests in order.
 use borrow.Author.Tests.{eq-eqb, ne_eqb}
-use Rattle.check_kernel_statements.specs.Statements.{isAtomElement}
+use Rattle.check_kernel_statements.specs.Statements.{is_atom_element}
 use borrow.Author.Rules.{rules}
 use Rattle.check_kernel_statements.proofs.is_atom_element.Statement.{statement}
 use Rattle.check_kernel_statements.proofs.is_atom_element.Tie as tie
@@ -15,11 +15,11 @@ is-atom-requires : tie.Need-is-atom-requires
 is-atom-requires c κs = search rules
 
 returns : tie.Need-returns
-unfolding isAtomElement
+unfolding is_atom_element
 returns c = rw (← c.before.before.before.number-or-zero.ensures, eq-eqb _ _ c.before.before.if1.true, ← c.before.number-or-zero2.ensures) c.is-atom.ensures
 
 returns-2 : tie.Need-returns-2
-unfolding isAtomElement
+unfolding is_atom_element
 returns-2 c = rw (← c.before.number-or-zero.ensures, ne_eqb _ _ c.if1.false)
 
 pub is-atom-element-spec : {M : Type 1} → statement M

@@ -1,5 +1,5 @@
 -- `is_atom_operation` makes its definition's tests in order.
-use Rattle.check_kernel_statements.specs.Statements.{isAtomOperation}
+use Rattle.check_kernel_statements.specs.Statements.{is_atom_operation}
 use borrow.Author.Rules.{rules}
 use Rattle.check_kernel_statements.proofs.is_atom_operation.Statement.{statement}
 use Rattle.check_kernel_statements.proofs.is_atom_operation.Tie as tie
@@ -23,15 +23,15 @@ is-atom-requires-2 : tie.Need-is-atom-requires-2
 is-atom-requires-2 c κs = search rules
 
 returns : tie.Need-returns
-unfolding isAtomOperation
+unfolding is_atom_operation
 returns c = rw (← c.before.before.before.before.before.before.before.number-or-zero.ensures, ← c.before.before.before.before.before.before.between.ensures, c.before.before.before.before.before.if1.true, ← c.before.before.before.before.number-or-zero2.ensures, ← c.before.before.before.is-atom.ensures, c.before.before.if2.true, ← c.before.number-or-zero3.ensures) c.is-atom2.ensures
 
 returns-2 : tie.Need-returns-2
-unfolding isAtomOperation
+unfolding is_atom_operation
 returns-2 c = rw (← c.before.before.before.before.before.number-or-zero.ensures, ← c.before.before.before.before.between.ensures, c.before.before.before.if1.true, ← c.before.before.number-or-zero2.ensures, ← c.before.is-atom.ensures, c.if2.false)
 
 returns-3 : tie.Need-returns-3
-unfolding isAtomOperation
+unfolding is_atom_operation
 returns-3 c = rw (← c.before.before.number-or-zero.ensures, ← c.before.between.ensures, c.if1.false)
 
 pub is-atom-operation-spec : {M : Type 1} → statement M

@@ -1,6 +1,6 @@
 -- `is_kernel_expression` makes its definition's tests in order.
 use borrow.Author.Tests.{eq-eqb, ne_eqb}
-use Rattle.check_kernel_statements.specs.Statements.{isKernelExpression}
+use Rattle.check_kernel_statements.specs.Statements.{is_kernel_expression}
 use borrow.Author.Rules.{rules}
 use Rattle.check_kernel_statements.proofs.is_kernel_expression.Statement.{statement}
 use Rattle.check_kernel_statements.proofs.is_kernel_expression.Tie as tie
@@ -15,11 +15,11 @@ is-assignment-requires : tie.Need-is-assignment-requires
 is-assignment-requires c κs = search rules
 
 returns : tie.Need-returns
-unfolding isKernelExpression
+unfolding is_kernel_expression
 returns c = rw (← c.before.before.before.number-or-zero.ensures, eq-eqb _ _ c.before.before.if1.true, ← c.before.number-or-zero2.ensures) c.is-assignment.ensures
 
 returns-2 : tie.Need-returns-2
-unfolding isKernelExpression
+unfolding is_kernel_expression
 returns-2 c = rw (← c.before.number-or-zero.ensures, ne_eqb _ _ c.if1.false)
 
 pub is-kernel-expression-spec : {M : Type 1} → statement M

@@ -3,15 +3,15 @@ use mathlib.Core.Path.{◌≡◌, refl}
 use Prim.Native.Nat.{◌≤◌, ◌-◌}
 use native.Mathlib.Omega.{arith}
 use borrow.Author.Rules.{rules}
-use Rattle.words.specs.Table.{rowCount}
-use Rattle.words.specs.Search.{lowestRow}
+use Rattle.words.specs.Table.{row_count}
+use Rattle.words.specs.Search.{lowest_row}
 use Rattle.words.specs.SearchLaws.{Looked, looked-start, looked-on, looked-hit, looked-end}
-use Rattle.check_kernel_statements.specs.Statements.{notKernelForm}
+use Rattle.check_kernel_statements.specs.Statements.{not_kernel_form}
 use Rattle.check_kernel_statements.proofs.lowest_not_kernel_form_by.Statement.{statement}
 use Rattle.check_kernel_statements.proofs.lowest_not_kernel_form_by.Tie as tie
 
 abbrev invariant-loop : tie.invariant-loop
-invariant-loop kinds rows count row₀ row = (row ≤ count) × (count ≡ rowCount rows) × Looked (notKernelForm rows) count row
+invariant-loop kinds rows count row₀ row = (row ≤ count) × (count ≡ row_count rows) × Looked (not_kernel_form rows) count row
 
 abbrev decreases-loop : tie.decreases-loop
 decreases-loop kinds rows count row₀ row = count - row
@@ -23,7 +23,7 @@ is-not-kernel-form-requires : tie.Need-is-not-kernel-form-requires invariant-loo
 is-not-kernel-form-requires c κs = (c.before.before.requires.0, omega arith, search rules)
 
 returns : tie.Need-returns invariant-loop decreases-loop
-unfolding lowestRow
+unfolding lowest_row
 returns c =
     looked-hit _ _ _ _ (omega arith) c.before.before.before.loop.invariant.2 c.before.is-not-kernel-form.ensures c.if1.true
 
@@ -38,7 +38,7 @@ loop-again c =
     (omega arith, refl, looked-on _ _ _ _ (omega arith) c.before.before.before.loop.invariant.2 c.before.is-not-kernel-form.ensures c.if1.false)
 
 returns-2 : tie.Need-returns-2 invariant-loop decreases-loop
-unfolding lowestRow
+unfolding lowest_row
 returns-2 c = looked-end _ _ _ (omega arith) c.before.loop.invariant.2
 
 pub lowest-not-kernel-form-by-spec : {M : Type 1} → statement M

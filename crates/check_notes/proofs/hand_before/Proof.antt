@@ -1,5 +1,5 @@
 -- `hand_before` is the rule of the note `Before`.
-use Rattle.check_items.specs.Items.{earlierOf}
+use Rattle.check_items.specs.Items.{earlier_of}
 use Rattle.check_notes.specs.RowNotes.{handed}
 use borrow.Author.Rules.{rules}
 use Rattle.check_notes.proofs.hand_before.Statement.{statement}
@@ -15,7 +15,7 @@ hand-earlier-requires : tie.Need-hand-earlier-requires
 hand-earlier-requires c κs = search rules
 
 returns : tie.Need-returns
-unfolding handed earlierOf
+unfolding handed earlier_of
 returns c =
     rw (← c.before.before.number_at.ensures, ← c.before.between.ensures) c.hand-earlier.ensures
 

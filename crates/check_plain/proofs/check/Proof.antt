@@ -2,7 +2,7 @@
 use mathlib.Core.Path.{sym, ◌∙◌}
 use Rattle.check_structure.specs.Refusal.{◌next◌}
 use Rattle.check_structure.specs.RefusalLaws.{last}
-use Rattle.check_plain.specs.Refusal.{plainRefusal}
+use Rattle.check_plain.specs.Refusal.{plain_refusal}
 use borrow.Author.Rules.{rules}
 use Rattle.check_plain.proofs.check.Statement.{statement}
 use Rattle.check_plain.proofs.check.Tie as tie
@@ -14,7 +14,7 @@ enum-known-verdict : tie.Need-enum-known-verdict
 enum-known-verdict c = search rules
 
 returns : tie.Need-returns
-unfolding plainRefusal ◌next◌
+unfolding plain_refusal ◌next◌
 returns c = rw (← c.before.before.before.check.ensures, c.before.verdict.given.1)
 
 enum_told : tie.Need-enum-told
@@ -27,7 +27,7 @@ at-requires : tie.Need-at-requires
 at-requires c κs = search rules
 
 returns-2 : tie.Need-returns-2
-unfolding plainRefusal ◌next◌
+unfolding plain_refusal ◌next◌
 returns-2 c =
     rw (← c.before.before.before.before.check.ensures, c.before.before.enum_told.given.1) (last _ _ _ _ c.at.ensures c.before.lowest-definition.ensures)
 

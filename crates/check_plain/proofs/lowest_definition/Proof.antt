@@ -2,15 +2,15 @@
 use mathlib.Core.Path.{◌≡◌, refl}
 use Prim.Native.Nat.{◌≤◌, ◌-◌}
 use native.Mathlib.Omega.{arith}
-use Rattle.words.specs.Table.{rowCount}
-use Rattle.words.specs.Search.{lowestRow}
+use Rattle.words.specs.Table.{row_count}
+use Rattle.words.specs.Search.{lowest_row}
 use Rattle.words.specs.SearchLaws.{Looked, looked-start, looked-on, looked-hit, looked-end}
-use Rattle.check_function_causes.specs.Functions.{isDefinition}
+use Rattle.check_function_causes.specs.Functions.{is_definition}
 use Rattle.check_plain.proofs.lowest_definition.Statement.{statement}
 use Rattle.check_plain.proofs.lowest_definition.Tie as tie
 
 abbrev invariant-loop : tie.invariant-loop
-invariant-loop rows count row₀ row = (row ≤ count) × (count ≡ rowCount rows) × Looked (isDefinition rows) count row
+invariant-loop rows count row₀ row = (row ≤ count) × (count ≡ row_count rows) × Looked (is_definition rows) count row
 
 abbrev decreases-loop : tie.decreases-loop
 decreases-loop rows count row₀ row = count - row
@@ -22,7 +22,7 @@ is-definition-requires : tie.Need-is-definition-requires invariant-loop decrease
 is-definition-requires c κs = omega arith
 
 returns : tie.Need-returns invariant-loop decreases-loop
-unfolding lowestRow
+unfolding lowest_row
 returns c =
     looked-hit _ _ _ _ (omega arith) c.before.before.before.loop.invariant.2 c.before.is-definition.ensures c.if1.true
 
@@ -37,7 +37,7 @@ loop-again c =
     (omega arith, refl, looked-on _ _ _ _ (omega arith) c.before.before.before.loop.invariant.2 c.before.is-definition.ensures c.if1.false)
 
 returns-2 : tie.Need-returns-2 invariant-loop decreases-loop
-unfolding lowestRow
+unfolding lowest_row
 returns-2 c =
     looked-end _ _ _ (omega arith) c.before.loop.invariant.2
 

@@ -1,11 +1,11 @@
 -- `check` takes the causes that both forms share, which leave a tree of rows, then the others.
 use mathlib.Core.Path.{sym, ◌∙◌}
 use native.Mathlib.Omega.{arith}
-use Rattle.words.specs.Laws.{countFits-facts}
+use Rattle.words.specs.Laws.{count_fits-facts}
 use Rattle.words.specs.declared.Form.TheVariants.{Source}
 use Rattle.check_structure.specs.Refusal.{◌next◌}
 use Rattle.check_structure.specs.StructuredLaws.{accepted-structured, structured-tree}
-use Rattle.check_function_causes.specs.FrontLaws.{block-undefined}
+use Rattle.check_function_causes.proofs.FrontLaws.{block-undefined}
 use Rattle.check_source.specs.Refusal.{refusal}
 use borrow.Author.Rules.{rules}
 use Rattle.check_source.proofs.check.Statement.{statement}
@@ -23,7 +23,7 @@ enum_told c = search rules
 later-refusal-requires : tie.Need-later-refusal-requires
 later-refusal-requires c κs =
     let structured = (accepted-structured Source c.before.before.before.args.header.now c.before.before.before.args.rows.now (sym c.before.before.shared-refusal.ensures ∙ c.enum_told.given.1)).1 in
-    let fit = countFits-facts Source _ structured.count-fits in
+    let fit = count_fits-facts Source _ structured.count-fits in
     (structured-tree Source _ _ structured, block-undefined _ 0 structured.block, (let most = fit.most in omega arith))
 
 returns : tie.Need-returns

@@ -4,23 +4,23 @@ use mathlib.Core.Bool.{◌||◌}
 use mathlib.Core.List.{List}
 use Prim.Native.Nat.{ℕ}
 use lib.IntN.{ℤ}
-use Rattle.words.specs.Search.{lowestRow}
+use Rattle.words.specs.Search.{lowest_row}
 use Rattle.words.specs.declared.Found.{Found}
 use Rattle.check_places.specs.Places.{misplaced}
-use Rattle.check_declaration_causes.specs.Causes.{outsideBlock}
-use Rattle.check_function_causes.specs.Causes.{returnsOutside}
-use Rattle.check_source.specs.Refusal.{wronglyPlaced}
+use Rattle.check_declaration_causes.specs.Causes.{outside_block}
+use Rattle.check_function_causes.specs.Causes.{returns_outside}
+use Rattle.check_source.specs.Refusal.{wrongly_placed}
 use Rattle.check_declarations.specs.Lower.{lower}
-use Rattle.check_declarations.specs.LowerLaws.{lowestRow-either}
+use Rattle.check_declarations.specs.LowerLaws.{lowest_row-either}
 use borrow.Author.Rules.{rules}
 use Rattle.check_source.proofs.lowest_wrongly_placed.Statement.{statement}
 use Rattle.check_source.proofs.lowest_wrongly_placed.Tie as tie
 
-lower-found : (rows : List ℤ) (one two three later found : Found) → one ≡ lowestRow rows (misplaced rows) → two ≡ lowestRow rows (outsideBlock rows) → three ≡ lowestRow rows (returnsOutside rows)
-    → later ≡ lower two three → found ≡ lower one later → found ≡ lowestRow rows (wronglyPlaced rows)
-unfolding wronglyPlaced
+lower-found : (rows : List ℤ) (one two three later found : Found) → one ≡ lowest_row rows (misplaced rows) → two ≡ lowest_row rows (outside_block rows) → three ≡ lowest_row rows (returns_outside rows)
+    → later ≡ lower two three → found ≡ lower one later → found ≡ lowest_row rows (wrongly_placed rows)
+unfolding wrongly_placed
 lower-found rows one two three later found e f g h k =
-    k ∙ rw (h, e, f, g, ← lowestRow-either rows (outsideBlock rows) (returnsOutside rows)) (sym (lowestRow-either rows (misplaced rows) (λ (row : ℕ). outsideBlock rows row || returnsOutside rows row)))
+    k ∙ rw (h, e, f, g, ← lowest_row-either rows (outside_block rows) (returns_outside rows)) (sym (lowest_row-either rows (misplaced rows) (λ (row : ℕ). outside_block rows row || returns_outside rows row)))
 
 lowest-misplaced-requires : tie.Need-lowest-misplaced-requires
 lowest-misplaced-requires c κs = search rules

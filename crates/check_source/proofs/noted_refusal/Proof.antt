@@ -1,7 +1,7 @@
 -- `noted_refusal` takes the causes 7 to 9 in order, then those after 18; each search ends the chain or hands on.
 use mathlib.Core.Path.{sym, ◌∙◌}
 use Rattle.check_structure.specs.RefusalLaws.{ends, goes_on}
-use Rattle.check_source.specs.Refusal.{laterRefusal}
+use Rattle.check_source.specs.Refusal.{later_refusal}
 use borrow.Author.Rules.{rules}
 use Rattle.check_source.proofs.noted_refusal.Statement.{statement}
 use Rattle.check_source.proofs.noted_refusal.Tie as tie
@@ -16,7 +16,7 @@ enum-known-misplaced : tie.Need-enum-known-misplaced
 enum-known-misplaced c = search rules
 
 returns : tie.Need-returns
-unfolding laterRefusal
+unfolding later_refusal
 returns c =
     ends _ _ _ _ _ c.before.misplaced.given.1 c.before.before.before.lowest-wrongly-placed.ensures
 
@@ -30,7 +30,7 @@ enum-known-repeated : tie.Need-enum-known-repeated
 enum-known-repeated c = search rules
 
 returns-2 : tie.Need-returns-2
-unfolding laterRefusal
+unfolding later_refusal
 returns-2 c =
     ends _ _ _ _ _ c.before.repeated.given.1 c.before.before.before.lowest-repeated.ensures
     ∙ sym (goes_on _ _ _ _ c.before.before.before.before.enum_told.given.1 c.before.before.before.before.before.before.lowest-wrongly-placed.ensures)
@@ -45,7 +45,7 @@ enum-known-deep : tie.Need-enum-known-deep
 enum-known-deep c = search rules
 
 returns-3 : tie.Need-returns-3
-unfolding laterRefusal
+unfolding later_refusal
 returns-3 c =
     ends _ _ _ _ _ c.before.deep.given.1 c.before.before.before.lowest-deep-by.ensures
     ∙ sym (goes_on _ _ _ _ c.before.before.before.before.enum-told2.given.1 c.before.before.before.before.before.before.lowest-repeated.ensures)
@@ -58,7 +58,7 @@ last-refusal-requires : tie.Need-last-refusal-requires
 last-refusal-requires c κs = search rules
 
 returns-4 : tie.Need-returns-4
-unfolding laterRefusal
+unfolding later_refusal
 returns-4 c =
     c.last-refusal.ensures
     ∙ sym (goes_on _ _ _ _ c.before.enum-told3.given.1 c.before.before.before.lowest-deep-by.ensures)

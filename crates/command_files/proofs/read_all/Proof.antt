@@ -73,7 +73,7 @@ total c =
     omega (arith, sum, kept c.before.before.before.before)
 
 add_at : tie.Need-overflow-add-at invariant-loop decreases-loop
-add_at c = omega (arith, total c.before, c.before.before.before.before.before.before.before.before.before.before.before.before.well-formed)
+add_at c = omega (arith, total c.before, c.before.before.before.before.before.before.before.before.before.before.before.before.well_formed)
 
 loop-less : tie.Need-loop-smaller invariant-loop decreases-loop
 loop-less c = let more = c.if2.false in omega (arith, total c.before)

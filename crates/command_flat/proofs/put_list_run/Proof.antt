@@ -1,7 +1,7 @@
 -- `put_list_run`: the run, and its line.
 use mathlib.Core.Path.{ap}
 use Rattle.text_numbers.specs.PutLaws.{Put-as}
-use Rattle.command_flat.specs.Lists.{flatLine}
+use Rattle.command_flat.specs.Lists.{flat_line}
 use borrow.Author.Rules.{rules}
 use Rattle.command_flat.proofs.put_list_run.Statement.{statement}
 use Rattle.command_flat.proofs.put_list_run.Tie as tie
@@ -19,7 +19,7 @@ same-length-2 : tie.Need-same-length-2
 same-length-2 c = search rules
 
 returns : tie.Need-returns
-returns c = Put-as (ap flatLine c.before.before.before.before.before.before.flat-run.ensures) c.before.before.run-line.ensures
+returns c = Put-as (ap flat_line c.before.before.before.before.before.before.flat-run.ensures) c.before.before.run-line.ensures
 
 pub put-list-run-spec : {M : Type 1} → statement M
 put-list-run-spec =

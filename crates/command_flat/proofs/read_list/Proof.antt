@@ -1,7 +1,7 @@
 -- `read_list`: the answer of the reader, by what is printed for it.
 use native.Mathlib.Omega.{arith}
 use borrow.Rule.Slice.PartMut.{mid_len}
-use Rattle.command_flat.specs.Lists.{listOutput}
+use Rattle.command_flat.specs.Lists.{list_output}
 use Rattle.command_flat.proofs.ListReadings.{list-for, whole-table}
 use borrow.Author.Rules.{rules}
 use Rattle.command_flat.proofs.read_list.Statement.{statement}
@@ -33,9 +33,9 @@ returns c =
     let s = c.before.before.before.before.before.before.before in
     let room = c.before.before.before.before.before.list-room in
     let read = c.before.before.read in
-    let size = mid_len 0 room.result s.args.list.now (omega (arith, room.ensures, s.requires.rows-room)) in
-    whole-table (listOutput s.args.text.now) read.result _ s.args.list.now _ room.result
-    (list-for s.args.text.now s.args.header.now _ (omega (arith, s.requires.header-room)) (omega (arith, room.ensures, size)) read.result _ _ read.ensures)
+    let size = mid_len 0 room.result s.args.list.now (omega (arith, room.ensures, s.requires.rows_room)) in
+    whole-table (list_output s.args.text.now) read.result _ s.args.list.now _ room.result
+    (list-for s.args.text.now s.args.header.now _ (omega (arith, s.requires.header_room)) (omega (arith, room.ensures, size)) read.result _ _ read.ensures)
 
 pub read-list-spec : {M : Type 1} → statement M
 read-list-spec =

@@ -8,7 +8,7 @@ use lib.ListN.{length-set}
 use Rattle.text_numbers.specs.Number.{digits}
 use Rattle.text_numbers.specs.PutLaws.{Put-as, put_byte}
 use Rattle.text_report.proofs.Spacing.{SoFar, far-below, far-length, far-inside, far-space, far-next, place-few}
-use Rattle.command_lines.specs.Lines.{malformedName}
+use Rattle.command_lines.specs.Lines.{malformed_name}
 use Rattle.command_lines.proofs.Joined.{malformed-is}
 use borrow.Author.Rules.{rules}
 use Rattle.command_lines.proofs.malformed_line.Statement.{statement}
@@ -21,7 +21,7 @@ put-bytes-requires : tie.Need-put-bytes-requires
 put-bytes-requires c κs = omega (arith, c.before.before.before.requires)
 
 -- the sentence
-named : (c : tie.After-slice-known2) → SoFar 48 malformedName c.before.before.before.before.before.before.args.text.now c.before.before.put-bytes.result c.before.before.put-bytes.new.1.0
+named : (c : tie.After-slice-known2) → SoFar 48 malformed_name c.before.before.before.before.before.before.args.text.now c.before.before.put-bytes.result c.before.before.put-bytes.new.1.0
 named c = record { put = c.before.before.put-bytes.ensures; few = omega arith; room = omega (arith, c.before.before.before.before.before.before.requires) }
 
 sub-put-count : tie.Need-overflow-sub-put-count
@@ -37,7 +37,7 @@ put-count-requires : tie.Need-put-count-requires
 put-count-requires c κs = far-space (named c.before) 21 (omega (arith, c.before.before.before.before.before.before.before.requires))
 
 -- the number behind it
-numbered : (c : tie.After-slice-known3) → SoFar 69 (malformedName ++ (blank ∷ digits c.before.before.before.before.before.before.before.before.before.before.args.number)) c.before.before.before.before.before.before.before.before.before.before.args.text.now (c.before.before.before.before.before.before.put-bytes.result + c.before.before.put_count.result) (back_in c.before.before.before.before.before.before.put-bytes.result c.before.before.before.before.before.before.put-bytes.new.1.0 c.before.before.put_count.new.1.0)
+numbered : (c : tie.After-slice-known3) → SoFar 69 (malformed_name ++ (blank ∷ digits c.before.before.before.before.before.before.before.before.before.before.args.number)) c.before.before.before.before.before.before.before.before.before.before.args.text.now (c.before.before.before.before.before.before.put-bytes.result + c.before.before.put_count.result) (back_in c.before.before.before.before.before.before.put-bytes.result c.before.before.before.before.before.before.put-bytes.new.1.0 c.before.before.put_count.new.1.0)
 numbered c = far-next (named c.before.before.before.before) _ 21 (place-few _ c.before.before.before.before.before.before.before.before.before.before.ranges.number.fits) (omega (arith, c.before.before.before.before.before.before.before.before.before.before.requires)) _ _ c.before.before.put_count.ensures
 
 add-end : tie.Need-overflow-add-end

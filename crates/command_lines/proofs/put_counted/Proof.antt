@@ -8,7 +8,7 @@ use Rattle.text_report.specs.Lines.{blank}
 use lib.ListN.{length-set}
 use Rattle.text_numbers.specs.Number.{digits}
 use Rattle.text_numbers.specs.PutLaws.{Put-as, put_byte}
-use Rattle.text_report.proofs.Spacing.{SoFar, spacedWords, far-below, far-length, far-inside, far-space, far-next, count-few}
+use Rattle.text_report.proofs.Spacing.{SoFar, spaced_words, far-below, far-length, far-inside, far-space, far-next, count-few}
 use Rattle.command_lines.proofs.Joined.{counted_is}
 use borrow.Author.Rules.{rules}
 use Rattle.command_lines.proofs.put_counted.Statement.{statement}
@@ -34,17 +34,17 @@ put-words-requires : tie.Need-put-words-requires
 put-words-requires c κs = far-space (counted c.before) _ (omega (arith, c.before.before.before.before.before.before.requires))
 
 -- the words behind it
-worded : (c : tie.After-slice-known3) → SoFar (11 + 12 * length c.before.before.before.before.before.before.before.before.before.args.words.now) ((blank ∷ digits c.before.before.before.before.before.before.before.before.before.args.count) ++ spacedWords c.before.before.before.before.before.before.before.before.before.args.words.now) c.before.before.before.before.before.before.before.before.before.args.text.now (c.before.before.before.before.before.before.put_count.result + c.before.before.put-words.result) (back_in c.before.before.before.before.before.before.put_count.result c.before.before.before.before.before.before.put_count.new.1.0 c.before.before.put-words.new.1.0)
+worded : (c : tie.After-slice-known3) → SoFar (11 + 12 * length c.before.before.before.before.before.before.before.before.before.args.words.now) ((blank ∷ digits c.before.before.before.before.before.before.before.before.before.args.count) ++ spaced_words c.before.before.before.before.before.before.before.before.before.args.words.now) c.before.before.before.before.before.before.before.before.before.args.text.now (c.before.before.before.before.before.before.put_count.result + c.before.before.put-words.result) (back_in c.before.before.before.before.before.before.put_count.result c.before.before.before.before.before.before.put_count.new.1.0 c.before.before.put-words.new.1.0)
 worded c = far-next (counted c.before.before.before.before) _ (12 * length c.before.before.before.before.before.before.before.before.before.args.words.now) (omega (arith, c.before.before.put-words.ensures.0.size, c.before.before.put-words.ensures.1)) (omega (arith, c.before.before.before.before.before.before.before.before.before.requires)) _ _ c.before.before.put-words.ensures.0
 
 add-end : tie.Need-overflow-add-end
-add-end c = omega (arith, far-below (worded c), c.before.before.before.before.before.before.before.before.before.requires, c.before.before.before.before.before.before.before.before.before.well-formed)
+add-end c = omega (arith, far-below (worded c), c.before.before.before.before.before.before.before.before.before.requires, c.before.before.before.before.before.before.before.before.before.well_formed)
 
 slice-write-text : tie.Need-slice-write-text
 slice-write-text c = omega (arith, far-below (worded c), far-length (worded c), c.before.before.before.before.before.before.before.before.before.requires)
 
 add-result : tie.Need-overflow-add-result
-add-result c = omega (arith, far-below (worded c), c.before.before.before.before.before.before.before.before.before.requires, c.before.before.before.before.before.before.before.before.before.well-formed)
+add-result c = omega (arith, far-below (worded c), c.before.before.before.before.before.before.before.before.before.requires, c.before.before.before.before.before.before.before.before.before.well_formed)
 
 same_length : tie.Need-same-length
 same_length c = simp length-set (far-length (worded c))

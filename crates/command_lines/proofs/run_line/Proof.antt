@@ -1,6 +1,6 @@
 -- `run_line`: a line for each case.
 use native.Mathlib.Omega.{arith}
-use Rattle.command_lines.specs.Lines.{runLine}
+use Rattle.command_lines.specs.Lines.{run_line}
 use borrow.Author.Rules.{rules}
 use Rattle.command_lines.proofs.run_line.Statement.{statement}
 use Rattle.command_lines.proofs.run_line.Tie as tie
@@ -21,14 +21,14 @@ same_length : tie.Need-same-length
 same_length c = search rules
 
 returns : tie.Need-returns
-unfolding runLine
+unfolding run_line
 returns c = rw c.before.before.before.before.before.verdict.given.1 c.before.before.ended-line.ensures
 
 same-length-2 : tie.Need-same-length-2
 same-length-2 c = search rules
 
 returns-2 : tie.Need-returns-2
-unfolding runLine
+unfolding run_line
 returns-2 c = rw c.before.before.before.before.before.verdict2.given.1 c.before.before.refused-line.ensures
 
 pub run-line-spec : {M : Type 1} → statement M

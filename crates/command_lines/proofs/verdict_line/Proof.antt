@@ -1,6 +1,6 @@
 -- `verdict_line`: a line for each case.
 use native.Mathlib.Omega.{arith}
-use Rattle.command_lines.specs.Lines.{verdictLine}
+use Rattle.command_lines.specs.Lines.{verdict_line}
 use borrow.Author.Rules.{rules}
 use Rattle.command_lines.proofs.verdict_line.Statement.{statement}
 use Rattle.command_lines.proofs.verdict_line.Tie as tie
@@ -24,14 +24,14 @@ same_length : tie.Need-same-length
 same_length c = search rules
 
 returns : tie.Need-returns
-unfolding verdictLine
+unfolding verdict_line
 returns c = rw c.before.before.before.before.before.enum_told.given.1 c.before.before.put-bytes.ensures
 
 same-length-2 : tie.Need-same-length-2
 same-length-2 c = search rules
 
 returns-2 : tie.Need-returns-2
-unfolding verdictLine
+unfolding verdict_line
 returns-2 c = rw c.before.before.before.before.before.verdict.given.1 c.before.before.refused-line.ensures
 
 pub verdict-line-spec : {M : Type 1} → statement M

@@ -10,26 +10,26 @@ use mir.Syntax.{w32}
 use mir.Val.{to_z, of_z}
 use Rattle.words.specs.Laws.{back}
 use Rattle.words.specs.OverLaws.{back_in}
-use Rattle.text_numbers.specs.Number.{digits, numberBytes}
+use Rattle.text_numbers.specs.Number.{digits, number_bytes}
 use Rattle.text_lines.specs.Line.{newline}
 use Rattle.text_numbers.specs.Writer.{Put}
 use Rattle.text_numbers.specs.PutLaws.{Put-as, put_byte, number-eleven}
 use Rattle.text_report.specs.Lines.{blank, spaced, line_of}
 use Rattle.text_report.proofs.Spacing.{SoFar, far-below, far-length, far-inside, far-space, far-next, place-few}
-use Rattle.command_preview_lines.specs.Changes.{colon, changeLine}
+use Rattle.command_preview_lines.specs.Changes.{colon, change_line}
 use borrow.Author.Rules.{rules}
 use Rattle.command_preview_lines.proofs.change_line.Statement.{statement}
 use Rattle.command_preview_lines.proofs.change_line.Tie as tie
 
-change-is : (place : ℕ) (before after : ℤ) → (((digits place ++ (colon ∷ [])) ++ (blank ∷ numberBytes before)) ++ (blank ∷ numberBytes after)) ++ (newline ∷ []) ≡ changeLine place before after
-unfolding changeLine line_of spaced
+change-is : (place : ℕ) (before after : ℤ) → (((digits place ++ (colon ∷ [])) ++ (blank ∷ number_bytes before)) ++ (blank ∷ number_bytes after)) ++ (newline ∷ []) ≡ change_line place before after
+unfolding change_line line_of spaced
 change-is place before after = simp append_assoc
 
 -- a word as the code reads it, with its blank
-word-put : (z : ℤ) → mag z < 2 ^ 31 → {buffer : List ℕ} {size : ℕ} {left : List ℕ} → Put (blank ∷ numberBytes (to_z w32 (of_z w32 z))) buffer size left → Put (blank ∷ numberBytes z) buffer size left
-word-put z h p = Put-as (ap (λ (y : ℤ). blank ∷ numberBytes y) (back z h)) p
+word-put : (z : ℤ) → mag z < 2 ^ 31 → {buffer : List ℕ} {size : ℕ} {left : List ℕ} → Put (blank ∷ number_bytes (to_z w32 (of_z w32 z))) buffer size left → Put (blank ∷ number_bytes z) buffer size left
+word-put z h p = Put-as (ap (λ (y : ℤ). blank ∷ number_bytes y) (back z h)) p
 
-word-few : (z : ℤ) → mag z < 2 ^ 31 → length (blank ∷ numberBytes z) ≤ 12
+word-few : (z : ℤ) → mag z < 2 ^ 31 → length (blank ∷ number_bytes z) ≤ 12
 word-few z h = omega (arith, number-eleven z h)
 
 put-digits-requires : tie.Need-put-digits-requires
@@ -70,11 +70,11 @@ put-word-requires : tie.Need-put-word-requires
 put-word-requires c κs = far-space (placed c.before) 12 (omega (arith, c.before.before.before.before.before.before.requires))
 
 -- what the word holds
-held : (c : tie.After-slice-known3) → SoFar 33 ((digits c.before.before.before.before.before.before.before.before.before.args.place ++ (colon ∷ [])) ++ (blank ∷ numberBytes c.before.before.before.before.before.before.before.before.before.args.before)) c.before.before.before.before.before.before.before.before.before.args.text.now (c.before.before.before.before.before.before.put-digits.result + 1 + c.before.before.put_word.result) (back_in (c.before.before.before.before.before.before.put-digits.result + 1) (set c.before.before.before.before.before.before.put-digits.new.1.0 c.before.before.before.before.before.before.put-digits.result colon) c.before.before.put_word.new.1.0)
+held : (c : tie.After-slice-known3) → SoFar 33 ((digits c.before.before.before.before.before.before.before.before.before.args.place ++ (colon ∷ [])) ++ (blank ∷ number_bytes c.before.before.before.before.before.before.before.before.before.args.before)) c.before.before.before.before.before.before.before.before.before.args.text.now (c.before.before.before.before.before.before.put-digits.result + 1 + c.before.before.put_word.result) (back_in (c.before.before.before.before.before.before.put-digits.result + 1) (set c.before.before.before.before.before.before.put-digits.new.1.0 c.before.before.before.before.before.before.put-digits.result colon) c.before.before.put_word.new.1.0)
 held c =
     let start = c.before.before.before.before.before.before.before.before.before in
     let fits = start.ranges.before.sfits in
-    far-next (placed c.before.before.before.before) (blank ∷ numberBytes start.args.before) 12 (word-few start.args.before fits) (omega (arith, start.requires)) _ _ (word-put start.args.before fits c.before.before.put_word.ensures)
+    far-next (placed c.before.before.before.before) (blank ∷ number_bytes start.args.before) 12 (word-few start.args.before fits) (omega (arith, start.requires)) _ _ (word-put start.args.before fits c.before.before.put_word.ensures)
 
 add-second : tie.Need-overflow-add-second
 add-second c = omega (arith, far-below (held c))
@@ -99,11 +99,11 @@ abbrev filled : tie.After-slice-known4 → List ℕ
 filled c = back_in (c.before.before.before.before.before.before.before.before.before.before.put-digits.result + 1 + c.before.before.before.before.before.before.put_word.result) (back_in (c.before.before.before.before.before.before.before.before.before.before.put-digits.result + 1) (set c.before.before.before.before.before.before.before.before.before.before.put-digits.new.1.0 c.before.before.before.before.before.before.before.before.before.before.put-digits.result colon) c.before.before.before.before.before.before.put_word.new.1.0) c.before.before.put-word2.new.1.0
 
 -- what it would hold
-both : (c : tie.After-slice-known4) → SoFar 45 (((digits c.before.before.before.before.before.before.before.before.before.before.before.before.before.args.place ++ (colon ∷ [])) ++ (blank ∷ numberBytes c.before.before.before.before.before.before.before.before.before.before.before.before.before.args.before)) ++ (blank ∷ numberBytes c.before.before.before.before.before.before.before.before.before.before.before.before.before.args.after)) c.before.before.before.before.before.before.before.before.before.before.before.before.before.args.text.now (end c) (filled c)
+both : (c : tie.After-slice-known4) → SoFar 45 (((digits c.before.before.before.before.before.before.before.before.before.before.before.before.before.args.place ++ (colon ∷ [])) ++ (blank ∷ number_bytes c.before.before.before.before.before.before.before.before.before.before.before.before.before.args.before)) ++ (blank ∷ number_bytes c.before.before.before.before.before.before.before.before.before.before.before.before.before.args.after)) c.before.before.before.before.before.before.before.before.before.before.before.before.before.args.text.now (end c) (filled c)
 both c =
     let start = c.before.before.before.before.before.before.before.before.before.before.before.before.before in
     let fits = start.ranges.after.sfits in
-    far-next (held c.before.before.before.before) (blank ∷ numberBytes start.args.after) 12 (word-few start.args.after fits) (omega (arith, start.requires)) _ _ (word-put start.args.after fits c.before.before.put-word2.ensures)
+    far-next (held c.before.before.before.before) (blank ∷ number_bytes start.args.after) 12 (word-few start.args.after fits) (omega (arith, start.requires)) _ _ (word-put start.args.after fits c.before.before.put-word2.ensures)
 
 add-end : tie.Need-overflow-add-end
 add-end c = omega (arith, far-below (both c))

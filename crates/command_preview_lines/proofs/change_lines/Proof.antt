@@ -17,13 +17,13 @@ loop-holds : tie.Need-loop-init invariant-loop decreases-loop
 loop-holds c = passed_start _ _ _ _ c.before.requires.1
 
 mul-change-at : tie.Need-overflow-mul-change-at invariant-loop decreases-loop
-mul-change-at c = omega (arith, c.loop-test.true, c.before.before.before.requires.0.0, c.before.before.before.well-formed)
+mul-change-at c = omega (arith, c.loop-test.true, c.before.before.before.requires.0.0, c.before.before.before.well_formed)
 
 shared-slice-copy-out-change-at : tie.Need-shared-slice-copy-out-change-at invariant-loop decreases-loop
 shared-slice-copy-out-change-at c = omega (arith, c.loop-test.true, c.before.before.before.requires.0.0)
 
 mul-change-at-2 : tie.Need-overflow-mul-change-at-2 invariant-loop decreases-loop
-mul-change-at-2 c = omega (arith, c.before.loop-test.true, c.before.before.before.before.requires.0.0, c.before.before.before.before.well-formed)
+mul-change-at-2 c = omega (arith, c.before.loop-test.true, c.before.before.before.before.requires.0.0, c.before.before.before.before.well_formed)
 
 shared-slice-copy-out-change-at-2 : tie.Need-shared-slice-copy-out-change-at-2 invariant-loop decreases-loop
 shared-slice-copy-out-change-at-2 c = omega (arith, c.before.loop-test.true, c.before.before.before.before.requires.0.1)
@@ -45,10 +45,10 @@ next : (c : tie.After-slice-known2 invariant-loop decreases-loop) → Passed c.b
 next c = passed-next c.before.before.before.before.before.before.before.loop.invariant c.before.before.before.before.before.before.loop-test.true c.before.before.before.before.before.change-at-arg.given c.before.before.before.before.change-at-arg2.given _ _ c.before.before.change-at.ensures.0 c.before.before.change-at.ensures.1
 
 add_at : tie.Need-overflow-add-at invariant-loop decreases-loop
-add_at c = omega (arith, passed-inside (next c), passed_length (next c), c.before.before.before.before.before.before.before.before.before.well-formed)
+add_at c = omega (arith, passed-inside (next c), passed_length (next c), c.before.before.before.before.before.before.before.before.before.well_formed)
 
 add-i : tie.Need-overflow-add-i invariant-loop decreases-loop
-add-i c = omega (arith, c.before.before.before.before.before.before.loop-test.true, c.before.before.before.before.before.before.before.before.before.requires.0.0, c.before.before.before.before.before.before.before.before.before.well-formed)
+add-i c = omega (arith, c.before.before.before.before.before.before.loop-test.true, c.before.before.before.before.before.before.before.before.before.requires.0.0, c.before.before.before.before.before.before.before.before.before.well_formed)
 
 loop-less : tie.Need-loop-smaller invariant-loop decreases-loop
 loop-less c = omega (arith, c.before.before.before.before.before.before.loop-test.true)

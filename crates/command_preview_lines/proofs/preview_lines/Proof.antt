@@ -2,7 +2,7 @@
 use Prim.Native.Nat.{◌≤◌}
 use native.Mathlib.Omega.{arith}
 use lib.ListN.{length}
-use Rattle.command_preview_lines.specs.Changes.{previewLines}
+use Rattle.command_preview_lines.specs.Changes.{preview_lines}
 use borrow.Author.Rules.{rules}
 use Rattle.command_preview_lines.proofs.preview_lines.Statement.{statement}
 use Rattle.command_preview_lines.proofs.preview_lines.Tie as tie
@@ -31,7 +31,7 @@ same-length-2 : tie.Need-same-length-2
 same-length-2 c = search rules
 
 returns-2 : tie.Need-returns-2
-unfolding previewLines
+unfolding preview_lines
 returns-2 c = rw c.before.before.before.before.before.verdict2.given.1 c.before.before.refused-line.ensures
 
 pub preview-lines-spec : {M : Type 1} → statement M

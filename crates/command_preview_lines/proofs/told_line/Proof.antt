@@ -5,27 +5,27 @@ use Prim.Native.Nat.{ℕ, ◌+◌}
 use native.Mathlib.Omega.{arith}
 use lib.ListN.{length, length-set}
 use Rattle.words.specs.OverLaws.{back_in}
-use Rattle.words.specs.Answers.{endingName}
+use Rattle.words.specs.Answers.{ending_name}
 use Rattle.words.specs.declared.Ending.{Ending}
 use Rattle.text_numbers.specs.Number.{digits}
 use Rattle.text_lines.specs.Line.{newline}
 use Rattle.text_numbers.specs.PutLaws.{Put-as, put_byte}
 use Rattle.text_report.specs.Lines.{blank, spaced, line_of}
 use Rattle.text_report.proofs.Spacing.{SoFar, far-below, far-length, far-inside, far-space, far-next, ending-few, count-few, place-few}
-use Rattle.command_preview_lines.specs.Changes.{toldLine}
+use Rattle.command_preview_lines.specs.Changes.{told_line}
 use borrow.Author.Rules.{rules}
 use Rattle.command_preview_lines.proofs.told_line.Statement.{statement}
 use Rattle.command_preview_lines.proofs.told_line.Tie as tie
 
-told_is : (ending : Ending) (count differing : ℕ) → ((endingName ending ++ (blank ∷ digits count)) ++ (blank ∷ digits differing)) ++ (newline ∷ []) ≡ toldLine ending count differing
-unfolding toldLine line_of spaced
+told_is : (ending : Ending) (count differing : ℕ) → ((ending_name ending ++ (blank ∷ digits count)) ++ (blank ∷ digits differing)) ++ (newline ∷ []) ≡ told_line ending count differing
+unfolding told_line line_of spaced
 told_is ending count differing = simp append_assoc
 
 put-ending-name-requires : tie.Need-put-ending-name-requires
 put-ending-name-requires c κs = omega (arith, c.before.before.requires)
 
 -- the ending
-named : (c : tie.After-slice-known2) → SoFar 8 (endingName c.before.before.before.before.before.args.ending) c.before.before.before.before.before.args.text.now c.before.before.put-ending-name.result c.before.before.put-ending-name.new.1.0
+named : (c : tie.After-slice-known2) → SoFar 8 (ending_name c.before.before.before.before.before.args.ending) c.before.before.before.before.before.args.text.now c.before.before.put-ending-name.result c.before.before.put-ending-name.new.1.0
 named c = record { put = c.before.before.put-ending-name.ensures; few = omega (arith, ending-few c.before.before.before.before.before.args.ending); room = omega (arith, c.before.before.before.before.before.requires) }
 
 sub-put-count : tie.Need-overflow-sub-put-count
@@ -41,7 +41,7 @@ put-count-requires : tie.Need-put-count-requires
 put-count-requires c κs = far-space (named c.before) 21 (omega (arith, c.before.before.before.before.before.before.requires))
 
 -- the count
-counted : (c : tie.After-slice-known3) → SoFar 19 (endingName c.before.before.before.before.before.before.before.before.before.args.ending ++ (blank ∷ digits c.before.before.before.before.before.before.before.before.before.args.count)) c.before.before.before.before.before.before.before.before.before.args.text.now (c.before.before.before.before.before.before.put-ending-name.result + c.before.before.put_count.result) (back_in c.before.before.before.before.before.before.put-ending-name.result c.before.before.before.before.before.before.put-ending-name.new.1.0 c.before.before.put_count.new.1.0)
+counted : (c : tie.After-slice-known3) → SoFar 19 (ending_name c.before.before.before.before.before.before.before.before.before.args.ending ++ (blank ∷ digits c.before.before.before.before.before.before.before.before.before.args.count)) c.before.before.before.before.before.before.before.before.before.args.text.now (c.before.before.before.before.before.before.put-ending-name.result + c.before.before.put_count.result) (back_in c.before.before.before.before.before.before.put-ending-name.result c.before.before.before.before.before.before.put-ending-name.new.1.0 c.before.before.put_count.new.1.0)
 counted c = far-next (named c.before.before.before.before) _ 11 (count-few _ c.before.before.before.before.before.before.before.before.before.ranges.count.fits) (omega (arith, c.before.before.before.before.before.before.before.before.before.requires)) _ _ c.before.before.put_count.ensures
 
 add-counted : tie.Need-overflow-add-counted
@@ -66,7 +66,7 @@ end c = c.before.before.before.before.before.before.before.before.before.before.
 abbrev filled : tie.After-slice-known4 → List ℕ
 filled c = back_in (c.before.before.before.before.before.before.before.before.before.before.put-ending-name.result + c.before.before.before.before.before.before.put_count.result) (back_in c.before.before.before.before.before.before.before.before.before.before.put-ending-name.result c.before.before.before.before.before.before.before.before.before.before.put-ending-name.new.1.0 c.before.before.before.before.before.before.put_count.new.1.0) c.before.before.put-count2.new.1.0
 
-tallied : (c : tie.After-slice-known4) → SoFar 40 ((endingName c.before.before.before.before.before.before.before.before.before.before.before.before.before.args.ending ++ (blank ∷ digits c.before.before.before.before.before.before.before.before.before.before.before.before.before.args.count)) ++ (blank ∷ digits c.before.before.before.before.before.before.before.before.before.before.before.before.before.args.differing)) c.before.before.before.before.before.before.before.before.before.before.before.before.before.args.text.now (end c) (filled c)
+tallied : (c : tie.After-slice-known4) → SoFar 40 ((ending_name c.before.before.before.before.before.before.before.before.before.before.before.before.before.args.ending ++ (blank ∷ digits c.before.before.before.before.before.before.before.before.before.before.before.before.before.args.count)) ++ (blank ∷ digits c.before.before.before.before.before.before.before.before.before.before.before.before.before.args.differing)) c.before.before.before.before.before.before.before.before.before.before.before.before.before.args.text.now (end c) (filled c)
 tallied c = far-next (counted c.before.before.before.before) _ 21 (place-few _ c.before.before.before.before.before.before.before.before.before.before.before.before.before.ranges.differing.fits) (omega (arith, c.before.before.before.before.before.before.before.before.before.before.before.before.before.requires)) _ _ c.before.before.put-count2.ensures
 
 add-end : tie.Need-overflow-add-end

@@ -41,8 +41,8 @@ returns c =
     let text = c.before.before.before.before.before.before.before.before.before.before.before.before.before.before.before.before.before.before.read-text in
     let store = c.before.before.before.before.before.before.before.before.before.before.before.before.read-file in
     record {
-      text-read = record { absent = text.ensures.absent; inside = omega (arith, text.ensures.inside, text.auto.1.0) };
-      store-read = record { absent = store.ensures.absent ∙ ap not c.before.before.before.before.before.before.before.before.before.before.before.before.before.before.before.reads-store.ensures; inside = omega (arith, store.ensures.inside, store.auto.1.1.0) };
+      text_read = record { absent = text.ensures.absent; inside = omega (arith, text.ensures.inside, text.auto.1.0) };
+      store_read = record { absent = store.ensures.absent ∙ ap not c.before.before.before.before.before.before.before.before.before.before.before.before.before.before.before.reads-store.ensures; inside = omega (arith, store.ensures.inside, store.auto.1.1.0) };
       printed = c.before.before.before.before.inputs-answer.ensures;
     }
 

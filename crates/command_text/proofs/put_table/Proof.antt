@@ -7,7 +7,7 @@ use Rattle.command_text.proofs.put_table.Statement.{statement}
 use Rattle.command_text.proofs.put_table.Tie as tie
 
 size-of-requires : tie.Need-size-of-requires
-size-of-requires c κs = omega (arith, c.before.requires.0.header-few)
+size-of-requires c κs = omega (arith, c.before.requires.0.header_few)
 
 size-of-requires-2 : tie.Need-size-of-requires-2
 size-of-requires-2 c κs = c.before.before.requires.0.rows_few
@@ -35,10 +35,10 @@ same_length c = search rules
 returns : tie.Need-returns
 returns c =
     let start = c.before.before.before.before.before.before.before in
-    let header-size = c.before.before.before.before.before.type_size in
-    let rows-size = c.before.before.before.before.size-of2 in
-    put_first _ start.args.out.now (header-size.result + rows-size.result) _ _
-    (sizes-fill start.requires.0 header-size.ensures rows-size.ensures start.args.out.now start.requires.1).room c.before.before.put-text.ensures
+    let header_size = c.before.before.before.before.before.type_size in
+    let rows_size = c.before.before.before.before.size-of2 in
+    put_first _ start.args.out.now (header_size.result + rows_size.result) _ _
+    (sizes-fill start.requires.0 header_size.ensures rows_size.ensures start.args.out.now start.requires.1).room c.before.before.put-text.ensures
 
 pub put-table-spec : {M : Type 1} → statement M
 put-table-spec =

@@ -2,14 +2,14 @@
 use native.Mathlib.Omega.{arith}
 use Prim.Native.Nat.{◌+◌, ◌-◌}
 use Rattle.words.specs.OverLaws.{back_in}
-use Rattle.command_written_lines.specs.Lines.{bitsOf, isIn}
+use Rattle.command_written_lines.specs.Lines.{bits_of, is_in}
 use Rattle.command_written_lines.proofs.NumberLaws.{Listed, listed_start, listed-length, listed-inside, listed-space, listed_next, listed-end}
 use borrow.Author.Rules.{rules}
 use Rattle.command_written_lines.proofs.put_numbers.Statement.{statement}
 use Rattle.command_written_lines.proofs.put_numbers.Tie as tie
 
 abbrev invariant-loop : tie.invariant-loop
-invariant-loop set arrays sort text₀ bits at₀ i₀ text at i = Listed (isIn set arrays sort) (bitsOf sort) i at text₀ text
+invariant-loop set arrays sort text₀ bits at₀ i₀ text at i = Listed (is_in set arrays sort) (bits_of sort) i at text₀ text
 
 abbrev decreases-loop : tie.decreases-loop
 decreases-loop set arrays sort text₀ bits at₀ i₀ text at i = bits - i
@@ -18,7 +18,7 @@ bits-of-requires : tie.Need-bits-of-requires invariant-loop decreases-loop
 bits-of-requires c κs = search rules
 
 loop-holds : tie.Need-loop-init invariant-loop decreases-loop
-loop-holds c = listed_start (isIn c.before.before.args.set c.before.before.args.arrays c.before.before.args.sort) (bitsOf c.before.before.args.sort) _ c.before.before.requires
+loop-holds c = listed_start (is_in c.before.before.args.set c.before.before.args.arrays c.before.before.args.sort) (bits_of c.before.before.args.sort) _ c.before.before.requires
 
 is-in-requires : tie.Need-is-in-requires invariant-loop decreases-loop
 is-in-requires c κs = omega (arith, c.loop-test.true, c.before.before.bits_of.ensures)
@@ -36,11 +36,11 @@ put-if-requires : tie.Need-put-if-requires invariant-loop decreases-loop
 put-if-requires c κs = listed-space c.before.before.before.loop.invariant (omega (arith, c.before.before.loop-test.true, c.before.before.before.before.bits_of.ensures))
 
 -- one number more
-next : (c : tie.After-slice-known2 invariant-loop decreases-loop) → Listed (isIn c.before.before.before.before.before.before.before.before.before.args.set c.before.before.before.before.before.before.before.before.before.args.arrays c.before.before.before.before.before.before.before.before.before.args.sort) (bitsOf c.before.before.before.before.before.before.before.before.before.args.sort) (c.before.before.before.before.before.before.loop.i + 1) (c.before.before.before.before.before.before.loop.at + c.before.before.put_if.result) c.before.before.before.before.before.before.before.before.before.args.text.now (back_in c.before.before.before.before.before.before.loop.at c.before.before.before.before.before.before.loop.text c.before.before.put_if.new.1.1.0)
+next : (c : tie.After-slice-known2 invariant-loop decreases-loop) → Listed (is_in c.before.before.before.before.before.before.before.before.before.args.set c.before.before.before.before.before.before.before.before.before.args.arrays c.before.before.before.before.before.before.before.before.before.args.sort) (bits_of c.before.before.before.before.before.before.before.before.before.args.sort) (c.before.before.before.before.before.before.loop.i + 1) (c.before.before.before.before.before.before.loop.at + c.before.before.put_if.result) c.before.before.before.before.before.before.before.before.before.args.text.now (back_in c.before.before.before.before.before.before.loop.at c.before.before.before.before.before.before.loop.text c.before.before.put_if.new.1.1.0)
 next c = listed_next c.before.before.before.before.before.before.loop.invariant (omega (arith, c.before.before.before.before.before.loop-test.true, c.before.before.before.before.before.before.before.bits_of.ensures)) c.before.before.before.before.is-in.ensures _ _ c.before.before.put_if.ensures.0 c.before.before.put_if.ensures.1
 
 add_at : tie.Need-overflow-add-at invariant-loop decreases-loop
-add_at c = omega (arith, listed-inside (next c), listed-length (next c), c.before.before.before.before.before.before.before.before.before.well-formed)
+add_at c = omega (arith, listed-inside (next c), listed-length (next c), c.before.before.before.before.before.before.before.before.before.well_formed)
 
 add-i : tie.Need-overflow-add-i invariant-loop decreases-loop
 add-i c = search rules

@@ -1,7 +1,7 @@
 -- `line_causes` takes the causes in order.
 use mathlib.Core.Path.{sym, ◌∙◌}
 use Rattle.check_structure.specs.RefusalLaws.{ends, goes_on, last}
-use Rattle.flat.specs.Refusal.{lineCauses}
+use Rattle.flat.specs.Refusal.{line_causes}
 use borrow.Author.Rules.{rules}
 use Rattle.flat_check.proofs.line_causes.Statement.{statement}
 use Rattle.flat_check.proofs.line_causes.Tie as tie
@@ -13,7 +13,7 @@ enum-known-unknown : tie.Need-enum-known-unknown
 enum-known-unknown c = search rules
 
 returns : tie.Need-returns
-unfolding lineCauses
+unfolding line_causes
 returns c =
     ends _ _ _ _ _ c.before.unknown.given.1 c.before.before.before.lowest-line.ensures
 
@@ -27,7 +27,7 @@ enum-known-outside : tie.Need-enum-known-outside
 enum-known-outside c = search rules
 
 returns-2 : tie.Need-returns-2
-unfolding lineCauses
+unfolding line_causes
 returns-2 c =
     ends _ _ _ _ _ c.before.outside.given.1 c.before.before.before.lowest-line2.ensures ∙ sym (goes_on _ _ _ _ c.before.before.before.before.enum_told.given.1 c.before.before.before.before.before.before.lowest-line.ensures)
 
@@ -41,7 +41,7 @@ at-requires : tie.Need-at-requires
 at-requires c κs = search rules
 
 returns-3 : tie.Need-returns-3
-unfolding lineCauses
+unfolding line_causes
 returns-3 c =
     last _ _ _ _ c.at.ensures c.before.lowest-line3.ensures ∙ sym (goes_on _ _ _ _ c.before.before.enum-told2.given.1 c.before.before.before.before.lowest-line2.ensures) ∙ sym (goes_on _ _ _ _ c.before.before.before.before.before.enum_told.given.1 c.before.before.before.before.before.before.before.lowest-line.ensures)
 

@@ -3,14 +3,14 @@ use mathlib.Core.Path.{◌≡◌, refl}
 use Prim.Native.Nat.{◌≤◌, ◌-◌}
 use native.Mathlib.Omega.{arith}
 use Rattle.words.specs.SearchLaws.{Looked, looked-start, looked-on, looked-hit, looked-end}
-use Rattle.flat.specs.Words.{lineCount}
+use Rattle.flat.specs.Words.{line_count}
 use Rattle.flat_check.specs.Causes.{breaks}
 use Rattle.flat_check.proofs.lowest_line.Statement.{statement}
 use Rattle.flat_check.proofs.lowest_line.Tie as tie
 
 abbrev invariant-loop : tie.invariant-loop
 invariant-loop cause bounds list count line₀ line =
-    (line ≤ count) × (count ≡ lineCount list) × Looked (breaks cause bounds list) count line
+    (line ≤ count) × (count ≡ line_count list) × Looked (breaks cause bounds list) count line
 
 abbrev decreases-loop : tie.decreases-loop
 decreases-loop cause bounds list count line₀ line =

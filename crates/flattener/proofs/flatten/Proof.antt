@@ -2,7 +2,7 @@
 use mathlib.Core.Path.{sym, ◌∙◌}
 use borrow.Author.Rules.{rules}
 use Rattle.check_plain.specs.Accepts.{accepted-plain}
-use Rattle.flattener.specs.FlatteningLaws.{refused-first, accepted-next, written-form}
+use Rattle.flattener.proofs.FlatteningLaws.{refused-first, accepted-next, written-form}
 use Rattle.flattener.proofs.flatten.Statement.{statement}
 use Rattle.flattener.proofs.flatten.Tie as tie
 

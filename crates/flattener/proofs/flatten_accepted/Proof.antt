@@ -3,7 +3,7 @@ use mathlib.Core.Path.{◌≡◌, sym, ap}
 use Prim.Native.Nat.{ℕ, ◌*◌}
 use native.Mathlib.Omega.{arith}
 use lib.Seq.{length-take-le}
-use Rattle.flattener.specs.FlatteningLaws.{rows_few, zeros-room, root-size, lines-few, too_short, exact-part, list_put}
+use Rattle.flattener.proofs.FlatteningLaws.{rows_few, zeros-room, root-size, lines-few, too-short, exact-part, list_put}
 use borrow.Author.Rules.{rules}
 use Rattle.flattener.proofs.flatten_accepted.Statement.{statement}
 use Rattle.flattener.proofs.flatten_accepted.Tie as tie
@@ -32,7 +32,7 @@ mul_words c =
 
 returns : tie.Need-returns
 returns c =
-    too_short c.before.before.before.before.before.requires c.before.before.before.before.before.args.out.now _ (root-size c.before.before.before.before.before.requires c.before.before.before.size-rows.ensures _ (ap (λ (n : ℕ). 5 * n) c.before.wide.ensures)) c.if1.true
+    too-short c.before.before.before.before.before.requires c.before.before.before.before.before.args.out.now _ (root-size c.before.before.before.before.before.requires c.before.before.before.size-rows.ensures _ (ap (λ (n : ℕ). 5 * n) c.before.wide.ensures)) c.if1.true
 
 slice-aggregate-write-sized : tie.Need-slice-aggregate-write-sized
 slice-aggregate-write-sized c = search rules

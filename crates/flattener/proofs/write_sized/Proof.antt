@@ -1,6 +1,6 @@
 -- `write_sized` fills the tables of lines, from zeros, and writes by them.
 use native.Mathlib.Omega.{arith}
-use Rattle.flattener.specs.FlatteningLaws.{rows_few, zeros-room, zeros-first}
+use Rattle.flattener.proofs.FlatteningLaws.{rows_few, zeros-room, zeros-first}
 use borrow.Author.Rules.{rules}
 use Rattle.flattener.proofs.write_sized.Statement.{statement}
 use Rattle.flattener.proofs.write_sized.Tie as tie

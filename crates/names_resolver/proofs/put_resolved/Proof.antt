@@ -6,15 +6,15 @@ use lib.ListN.{length}
 use Rattle.words.specs.Laws.{back}
 use Rattle.words.specs.Over.{over}
 use Rattle.words.specs.OverLaws.{length_over, over_none}
-use Rattle.names.specs.Names.{table_of, resolvedWord, resolved}
-use Rattle.names.specs.TableLaws.{table-length}
+use Rattle.names.specs.Names.{table_of, resolved_word, resolved}
+use Rattle.names.proofs.TableLaws.{table-length}
 use Rattle.names_resolver.specs.WordLaws.{fill_more}
 use Rattle.names_resolver.proofs.put_resolved.Statement.{statement}
 use Rattle.names_resolver.proofs.put_resolved.Tie as tie
 
 abbrev invariant-loop : tie.invariant-loop
 invariant-loop kinds store rows scopes around counts out₀ word₀ out word =
-    (word ≤ length rows) × (out ≡ over (table_of (resolvedWord store rows) word) out₀)
+    (word ≤ length rows) × (out ≡ over (table_of (resolved_word store rows) word) out₀)
 
 abbrev decreases-loop : tie.decreases-loop
 decreases-loop kinds store rows scopes around counts out₀ word₀ out word =
@@ -25,8 +25,8 @@ kept : (c : tie.At-loop invariant-loop decreases-loop) → length c.loop.out ≡
 kept c =
     let at = c.loop in
     let s = c.before.before.before.before in
-    let written = table-length (resolvedWord s.args.store s.args.rows.now) at.word in
-    length_over (table_of (resolvedWord s.args.store s.args.rows.now) at.word) s.args.out.now at.out at.invariant.1 (omega (arith, written, at.invariant.0, s.requires.2))
+    let written = table-length (resolved_word s.args.store s.args.rows.now) at.word in
+    length_over (table_of (resolved_word s.args.store s.args.rows.now) at.word) s.args.out.now at.out at.invariant.1 (omega (arith, written, at.invariant.0, s.requires.2))
 
 loop-holds : tie.Need-loop-init invariant-loop decreases-loop
 loop-holds c =
@@ -54,7 +54,7 @@ loop-less c =
 
 loop-again : tie.Need-loop-preserved invariant-loop decreases-loop
 loop-again c =
-    (omega arith, fill_more (resolvedWord c.before.before.before.before.before.before.args.store c.before.before.before.before.before.before.args.rows.now) c.before.before.before.before.before.before.args.out.now c.before.before.loop.out c.before.before.loop.word _ c.before.before.loop.invariant.1 (omega (arith, c.before.before.before.before.before.before.requires.2)) (back _ c.resolved-word.type-inv ∙ c.resolved-word.ensures))
+    (omega arith, fill_more (resolved_word c.before.before.before.before.before.before.args.store c.before.before.before.before.before.before.args.rows.now) c.before.before.before.before.before.before.args.out.now c.before.before.loop.out c.before.before.loop.word _ c.before.before.loop.invariant.1 (omega (arith, c.before.before.before.before.before.before.requires.2)) (back _ c.resolved-word.type-inv ∙ c.resolved-word.ensures))
 
 same_length : tie.Need-same-length invariant-loop decreases-loop
 same_length c =
@@ -63,7 +63,7 @@ same_length c =
 returns : tie.Need-returns invariant-loop decreases-loop
 unfolding resolved
 returns c =
-    let e : c.before.loop.word ≡ length c.before.before.before.before.before.args.rows.now = omega arith in c.before.loop.invariant.1 ∙ ap (λ (n : ℕ). over (table_of (resolvedWord c.before.before.before.before.before.args.store c.before.before.before.before.before.args.rows.now) n) c.before.before.before.before.before.args.out.now) e
+    let e : c.before.loop.word ≡ length c.before.before.before.before.before.args.rows.now = omega arith in c.before.loop.invariant.1 ∙ ap (λ (n : ℕ). over (table_of (resolved_word c.before.before.before.before.before.args.store c.before.before.before.before.before.args.rows.now) n) c.before.before.before.before.before.args.out.now) e
 
 pub put-resolved-spec : {M : Type 1} → statement M
 put-resolved-spec =

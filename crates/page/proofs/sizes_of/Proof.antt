@@ -1,7 +1,7 @@
 -- `sizes_of`: S and D, by their functions.
 use mathlib.Core.Path.{ap₂}
 use Prim.Native.Nat.{ℕ}
-use Rattle.words.specs.Laws.{headerFits-facts}
+use Rattle.words.specs.Laws.{header_fits-facts}
 use Rattle.words.specs.declared.Form.TheVariants.{Kernel}
 use Rattle.page.specs.declared.Sizes.{Sizes}
 use borrow.Author.Rules.{rules}
@@ -15,7 +15,7 @@ store-size-requires : tie.Need-store-size-requires
 store-size-requires c κs = search rules
 
 declared-requires : tie.Need-declared-requires
-declared-requires c κs = (headerFits-facts Kernel c.before.args.header.now c.before.requires).least
+declared-requires c κs = (header_fits-facts Kernel c.before.args.header.now c.before.requires).least
 
 returns : tie.Need-returns
 returns c = ap₂ sizes c.before.store-size.ensures c.declared.ensures

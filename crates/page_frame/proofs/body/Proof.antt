@@ -1,6 +1,6 @@
 -- `body`: the statement, and how far in it stands.
 use mathlib.Core.Path.{ap₂, ◌∙◌}
-use Rattle.page_frame.specs.Frames.{levelled, bodyRead}
+use Rattle.page_frame.specs.Frames.{levelled, body_read}
 use borrow.Author.Rules.{rules}
 use Rattle.page_frame.proofs.body.Statement.{statement}
 use Rattle.page_frame.proofs.body.Tie as tie
@@ -15,7 +15,7 @@ at-level-requires : tie.Need-at-level-requires
 at-level-requires c κs = search rules
 
 returns : tie.Need-returns
-unfolding bodyRead
+unfolding body_read
 returns c =
     c.at_level.ensures ∙ ap₂ (levelled c.before.before.before.before.args.depth) c.before.before.leading-blanks.ensures c.before.statement.ensures
 

@@ -2,7 +2,7 @@
 use mathlib.Core.Path.{sym, ap, ◌∙◌}
 use native.Mathlib.Omega.{arith}
 use Rattle.page_frame.specs.Frames.{is_number}
-use Rattle.page_frame.specs.BlankLaws.{leading-within}
+use Rattle.page_frame.proofs.BlankLaws.{leading-within}
 use Rattle.page_frame.proofs.Steps.{numbered-by}
 use borrow.Author.Rules.{rules}
 use Rattle.page_frame.proofs.is_numbered.Statement.{statement}

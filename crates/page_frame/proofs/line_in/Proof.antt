@@ -1,7 +1,7 @@
 -- `line_in`: number, blank and newline first, then the body.
 use mathlib.Core.Path.{sym, ◌∙◌}
 use borrow.Author.Tests.{eq-eqb, ne_eqb, not-true, not-false}
-use Rattle.page_frame.specs.Frames.{lineIn}
+use Rattle.page_frame.specs.Frames.{line_in}
 use borrow.Author.Rules.{rules}
 use Rattle.page_frame.proofs.line_in.Statement.{statement}
 use Rattle.page_frame.proofs.line_in.Tie as tie
@@ -19,7 +19,7 @@ is-numbered-requires : tie.Need-is-numbered-requires
 is-numbered-requires c κs = search rules
 
 returns : tie.Need-returns
-unfolding lineIn
+unfolding line_in
 returns c =
     rw (sym c.before.is-numbered.ensures ∙ not-true _ c.if1.true)
 
@@ -27,7 +27,7 @@ shared-slice-read-if2 : tie.Need-shared-slice-read-if2
 shared-slice-read-if2 c = search rules
 
 returns-2 : tie.Need-returns-2
-unfolding lineIn
+unfolding line_in
 returns-2 c =
     rw (sym c.before.before.before.is-numbered.ensures ∙ not-false _ c.before.before.if1.false, ne_eqb _ _ c.if2.true)
 
@@ -35,7 +35,7 @@ shared-slice-read-if3 : tie.Need-shared-slice-read-if3
 shared-slice-read-if3 c = search rules
 
 returns-3 : tie.Need-returns-3
-unfolding lineIn
+unfolding line_in
 returns-3 c =
     rw (sym c.before.before.before.before.before.is-numbered.ensures ∙ not-false _ c.before.before.before.before.if1.false, eq-eqb _ _ c.before.before.if2.false, ne_eqb _ _ c.if3.true)
 
@@ -52,7 +52,7 @@ body-requires : tie.Need-body-requires
 body-requires c κs = search rules
 
 returns-4 : tie.Need-returns-4
-unfolding lineIn
+unfolding line_in
 returns-4 c =
     rw (sym c.before.before.before.before.before.before.before.is-numbered.ensures ∙ not-false _ c.before.before.before.before.before.before.if1.false, eq-eqb _ _ c.before.before.before.before.if2.false, eq-eqb _ _ c.before.before.if3.false) c.body.ensures
 

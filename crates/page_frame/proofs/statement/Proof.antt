@@ -1,7 +1,7 @@
 -- `statement`: it stands between the blanks before it and those behind it.
 use mathlib.Core.Path.{◌∙◌}
 use native.Mathlib.Omega.{arith}
-use Rattle.page_frame.specs.BlankLaws.{filled_within}
+use Rattle.page_frame.proofs.BlankLaws.{filled_within}
 use Rattle.page_frame.proofs.Steps.{statement-short, statement-long}
 use borrow.Author.Rules.{rules}
 use Rattle.page_frame.proofs.statement.Statement.{statement}

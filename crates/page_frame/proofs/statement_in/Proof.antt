@@ -1,5 +1,5 @@
 -- `statement_in`: the statement stands between the number and the newline.
-use Rattle.page_frame.specs.Frames.{statementIn}
+use Rattle.page_frame.specs.Frames.{statement_in}
 use borrow.Author.Rules.{rules}
 use Rattle.page_frame.proofs.statement_in.Statement.{statement}
 use Rattle.page_frame.proofs.statement_in.Tie as tie
@@ -17,7 +17,7 @@ statement-requires : tie.Need-statement-requires
 statement-requires c κs = search rules
 
 returns : tie.Need-returns
-unfolding statementIn
+unfolding statement_in
 returns c = c.statement.ensures
 
 pub statement-in-spec : {M : Type 1} → statement M

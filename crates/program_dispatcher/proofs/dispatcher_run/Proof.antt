@@ -1,7 +1,7 @@
 -- `dispatcher_run` hands the check's refusal on, or the answer for an accepted program.
 use mathlib.Core.Path.{sym, ◌∙◌}
 use borrow.Author.Rules.{rules}
-use Rattle.program_dispatcher.specs.DispatcherRuns.{dispatcherResult}
+use Rattle.program_dispatcher.specs.DispatcherRuns.{dispatcher_result}
 use Rattle.program_dispatcher.proofs.dispatcher_run.Statement.{statement}
 use Rattle.program_dispatcher.proofs.dispatcher_run.Tie as tie
 
@@ -21,11 +21,11 @@ same_length : tie.Need-same-length
 same_length c = search rules
 
 returns : tie.Need-returns
-unfolding dispatcherResult
+unfolding dispatcher_result
 returns c = rw (← c.before.before.before.before.before.kernel-check.ensures.0, c.before.before.before.enum_told.given.1) c.before.run-shown.ensures
 
 returns-2 : tie.Need-returns-2
-unfolding dispatcherResult
+unfolding dispatcher_result
 returns-2 c = rw (← c.before.before.before.kernel-check.ensures.0, c.before.verdict.given.1)
 
 pub dispatcher-run-spec : {M : Type 1} → statement M

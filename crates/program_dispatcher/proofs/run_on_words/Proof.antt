@@ -5,7 +5,7 @@ use borrow.Author.Rules.{rules}
 use Rattle.words.specs.Layout.{zeros}
 use Rattle.words.specs.Laws.{zeros-part}
 use Rattle.words.specs.declared.Form.TheVariants.{Kernel}
-use Rattle.program_runs.specs.AcceptedLaws.{accepted-header, kernel-words}
+use Rattle.program_runs.proofs.AcceptedLaws.{accepted-header, kernel_words}
 use Rattle.program_dispatcher.proofs.run_on_words.Statement.{statement}
 use Rattle.program_dispatcher.proofs.run_on_words.Tie as tie
 
@@ -21,13 +21,13 @@ part-store-start c = search rules
 part-store-end : tie.Need-slice-bounds-store-end
 part-store-end c =
     let s = c.before.before in
-    omega (arith, c.before.header-store.ensures, kernel-words s.args.header.now s.args.rows.now s.requires.0)
+    omega (arith, c.before.header-store.ensures, kernel_words s.args.header.now s.args.rows.now s.requires.0)
 
 run-in-store-requires : tie.Need-run-in-store-requires
 run-in-store-requires c κs =
     let call = c.before.before.header-store in
     let s = c.before.before.before in
-    let most = kernel-words s.args.header.now s.args.rows.now s.requires.0 in
+    let most = kernel_words s.args.header.now s.args.rows.now s.requires.0 in
     (s.requires.0, (s.requires.1, zeros-part call.result 16448 (omega (arith, call.ensures, most)) ∙ ap zeros call.ensures))
 
 same_length : tie.Need-same-length

@@ -11,7 +11,7 @@ use mir.Syntax.{w32}
 use mir.Val.{to_z, of_z}
 use Rattle.words.specs.Laws.{back}
 use Rattle.program_previews.specs.Previews.{difference, differences}
-use Rattle.program_previews.specs.PreviewLaws.{differences-next, differences-most}
+use Rattle.program_previews.proofs.PreviewLaws.{differences-next, differences-most}
 use Rattle.program_previews.proofs.count_differences.Statement.{statement}
 use Rattle.program_previews.proofs.count_differences.Tie as tie
 

@@ -1,6 +1,6 @@
 -- `differs` compares words by their bits.
 use borrow.Author.Tests.{eq-eqb, ne_eqb}
-use Rattle.words.specs.Laws.{sameWord-bits}
+use Rattle.words.specs.Laws.{same_word-bits}
 use Rattle.program_previews.specs.Previews.{difference}
 use Rattle.program_previews.proofs.differs.Statement.{statement}
 use Rattle.program_previews.proofs.differs.Tie as tie
@@ -9,13 +9,13 @@ returns : tie.Need-returns
 unfolding difference
 returns c =
     let start = c.before in
-    rw (← sameWord-bits start.args.word start.args.other start.ranges.word.sfits start.ranges.other.sfits, eq-eqb _ _ c.if1.true)
+    rw (← same_word-bits start.args.word start.args.other start.ranges.word.sfits start.ranges.other.sfits, eq-eqb _ _ c.if1.true)
 
 returns-2 : tie.Need-returns-2
 unfolding difference
 returns-2 c =
     let start = c.before in
-    rw (← sameWord-bits start.args.word start.args.other start.ranges.word.sfits start.ranges.other.sfits, ne_eqb _ _ c.if1.false)
+    rw (← same_word-bits start.args.word start.args.other start.ranges.word.sfits start.ranges.other.sfits, ne_eqb _ _ c.if1.false)
 
 pub differs-spec : {M : Type 1} → statement M
 differs-spec = tie.close (tie.spec returns returns-2)

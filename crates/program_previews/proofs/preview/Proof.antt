@@ -1,8 +1,8 @@
 -- `preview` hands the check's refusal on, or the preview of an accepted program.
 use mathlib.Core.Path.{sym, ◌∙◌}
 use borrow.Author.Rules.{rules}
-use Rattle.program_runs.specs.Runs.{runResult}
-use Rattle.program_previews.specs.Previews.{previewResult}
+use Rattle.program_runs.specs.Runs.{run_result}
+use Rattle.program_previews.specs.Previews.{preview_result}
 use Rattle.program_previews.proofs.preview.Statement.{statement}
 use Rattle.program_previews.proofs.preview.Tie as tie
 
@@ -22,11 +22,11 @@ same_length : tie.Need-same-length
 same_length c = search rules
 
 returns : tie.Need-returns
-unfolding previewResult runResult
+unfolding preview_result run_result
 returns c = rw (← c.before.before.before.before.before.check.ensures.0, c.before.before.before.enum_told.given.1) c.before.preview-accepted.ensures
 
 returns-2 : tie.Need-returns-2
-unfolding previewResult runResult
+unfolding preview_result run_result
 returns-2 c = rw (← c.before.before.before.check.ensures.0, c.before.verdict.given.1)
 
 pub preview-spec : {M : Type 1} → statement M

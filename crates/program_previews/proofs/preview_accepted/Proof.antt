@@ -7,10 +7,10 @@ use borrow.Author.Rules.{rules}
 use lib.ListN.{drop}
 use lib.Seq.{length-take-le, length_front}
 use Rattle.words.specs.declared.Form.TheVariants.{Source}
-use Rattle.program_runs.specs.AcceptedLaws.{accepted-header}
-use Rattle.program_previews.specs.Previews.{answerAndWords}
+use Rattle.program_runs.proofs.AcceptedLaws.{accepted-header}
+use Rattle.program_previews.specs.Previews.{answer_and_words}
 use Rattle.program_previews.specs.declared.PreviewVerdict.TheVariants.{Previewed}
-use Rattle.program_previews.specs.PreviewLaws.{store-refused, scratch-refused, run-told}
+use Rattle.program_previews.proofs.PreviewLaws.{store-refused, scratch-refused, run-told}
 use Rattle.program_previews.proofs.preview_accepted.Statement.{statement}
 use Rattle.program_previews.proofs.preview_accepted.Tie as tie
 
@@ -49,7 +49,7 @@ returns-3 c =
     let call = c.before.preview-on-copy in
     let size = c.before.before.before.before.before.store_words_lem.ensures in
     let s = c.before.before.before.before.before.before in
-    ap (λ (n : ℕ). answerAndWords (Previewed call.result) s.args.store.now (call.new.1.1.1.1.0 ++ drop n s.args.scratch.now)) size
+    ap (λ (n : ℕ). answer_and_words (Previewed call.result) s.args.store.now (call.new.1.1.1.1.0 ++ drop n s.args.scratch.now)) size
     ∙ run-told s.args.header.now s.args.rows.now s.args.budget s.args.store.now s.args.scratch.now (omega (arith, c.before.before.before.before.if1.false, size)) (omega (arith, c.before.before.before.if2.false, size)) call.result _ call.ensures
 
 pub preview-accepted-spec : {M : Type 1} → statement M

@@ -5,10 +5,10 @@ use native.Mathlib.Omega.{arith}
 use borrow.Author.Rules.{rules}
 use Rattle.words.specs.StoreLaws.{size-least}
 use Rattle.words.specs.declared.Form.TheVariants.{Source}
-use Rattle.language_programs.specs.Program.{sourceSize, runProgram}
-use Rattle.program_runs.specs.AcceptedLaws.{accepted-header}
+use Rattle.language_programs.specs.Program.{source_size, run_program}
+use Rattle.program_runs.proofs.AcceptedLaws.{accepted-header}
 use Rattle.program_previews.specs.Previews.{differences}
-use Rattle.program_previews.specs.PreviewLaws.{foretold}
+use Rattle.program_previews.proofs.PreviewLaws.{foretold}
 use Rattle.program_previews.proofs.preview_on_copy.Statement.{statement}
 use Rattle.program_previews.proofs.preview_on_copy.Tie as tie
 
@@ -43,7 +43,7 @@ returns c =
     let ran = c.before.before.before.before in
     let copied = ran.before.before.before in
     let start = copied.before.before in
-    foretold (runProgram Source start.args.header.now start.args.rows.now start.args.budget) ran.run-accepted.result start.args.store.now start.args.copy.now _ _ (sourceSize start.args.header.now) c.count-differences.result
+    foretold (run_program Source start.args.header.now start.args.rows.now start.args.budget) ran.run-accepted.result start.args.store.now start.args.copy.now _ _ (source_size start.args.header.now) c.count-differences.result
     (start.requires.1.0 ∙ sym start.requires.1.1) copied.put.ensures ran.run-accepted.ensures
     (c.count-differences.ensures ∙ ap (λ (n : ℕ). differences n start.args.store.now ran.run-accepted.new.1.1.1.0) c.before.before.store-size.ensures)
 

@@ -2,7 +2,7 @@
 -- definitions.
 use borrow.Author.Rules.{rules}
 use Rattle.words.specs.declared.Form.TheVariants.{Source}
-use Rattle.program_runs.specs.AcceptanceLaws.{check-accepts-legal, check-no-cause-if-legal}
+use Rattle.program_runs.proofs.AcceptanceLaws.{check-accepts-legal, check-no-cause-if-legal}
 use Rattle.program_runs.proofs.check.Statement.{statement}
 use Rattle.program_runs.proofs.check.Tie as tie
 

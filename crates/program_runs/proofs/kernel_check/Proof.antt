@@ -2,7 +2,7 @@
 -- about the definitions.
 use borrow.Author.Rules.{rules}
 use Rattle.words.specs.declared.Form.TheVariants.{Kernel}
-use Rattle.program_runs.specs.AcceptanceLaws.{check-accepts-legal, check-no-cause-if-legal}
+use Rattle.program_runs.proofs.AcceptanceLaws.{check-accepts-legal, check-no-cause-if-legal}
 use Rattle.program_runs.proofs.kernel_check.Statement.{statement}
 use Rattle.program_runs.proofs.kernel_check.Tie as tie
 

@@ -1,7 +1,7 @@
 -- `run` hands the check's refusal on, or the answer for an accepted program.
 use mathlib.Core.Path.{sym, ◌∙◌}
 use borrow.Author.Rules.{rules}
-use Rattle.program_runs.specs.Runs.{runResult}
+use Rattle.program_runs.specs.Runs.{run_result}
 use Rattle.program_runs.proofs.run.Statement.{statement}
 use Rattle.program_runs.proofs.run.Tie as tie
 
@@ -21,11 +21,11 @@ same_length : tie.Need-same-length
 same_length c = search rules
 
 returns : tie.Need-returns
-unfolding runResult
+unfolding run_result
 returns c = rw (← c.before.before.before.before.before.check.ensures.0, c.before.before.before.enum_told.given.1) c.before.run-on-store.ensures
 
 returns-2 : tie.Need-returns-2
-unfolding runResult
+unfolding run_result
 returns-2 c = rw (← c.before.before.before.check.ensures.0, c.before.verdict.given.1)
 
 pub run_spec : {M : Type 1} → statement M

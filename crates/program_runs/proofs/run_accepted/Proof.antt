@@ -8,18 +8,18 @@ use lib.ListN.{length}
 use Rattle.words.specs.Layout.{store_words}
 use Rattle.words.specs.declared.Form.{Form}
 use Rattle.words.specs.declared.Verdict.TheVariants.{Accepted}
-use Rattle.language_programs.specs.Program.{runProgram}
-use Rattle.program_runs.specs.Runs.{refusalOf}
+use Rattle.language_programs.specs.Program.{run_program}
+use Rattle.program_runs.specs.Runs.{refusal_of}
 use Rattle.program_runs.proofs.run_accepted.Statement.{statement}
 use Rattle.program_runs.proofs.run_accepted.Tie as tie
 
 -- what the run of either form asks and promises, once its form is known
-asks_at : {form same : Form} (header rows store : List ℤ) → (refusalOf form header rows ≡ Accepted) × (length store ≡ store_words form header rows) → form ≡ same
-    → (refusalOf same header rows ≡ Accepted) × (length store ≡ store_words same header rows)
-asks_at header rows store asked e = subst (λ (form : Form). (refusalOf form header rows ≡ Accepted) × (length store ≡ store_words form header rows)) e asked
+asks_at : {form same : Form} (header rows store : List ℤ) → (refusal_of form header rows ≡ Accepted) × (length store ≡ store_words form header rows) → form ≡ same
+    → (refusal_of same header rows ≡ Accepted) × (length store ≡ store_words same header rows)
+asks_at header rows store asked e = subst (λ (form : Form). (refusal_of form header rows ≡ Accepted) × (length store ≡ store_words form header rows)) e asked
 
-run_at : {form same : Form} (header rows store : List ℤ) (budget : ℕ) → form ≡ same → runProgram form header rows budget store ≡ runProgram same header rows budget store
-run_at header rows store budget e = ap (λ (form : Form). runProgram form header rows budget store) e
+run_at : {form same : Form} (header rows store : List ℤ) (budget : ℕ) → form ≡ same → run_program form header rows budget store ≡ run_program same header rows budget store
+run_at header rows store budget e = ap (λ (form : Form). run_program form header rows budget store) e
 
 enum_told : tie.Need-enum-told
 enum_told c = search rules

@@ -1,8 +1,8 @@
 -- `run_kernel`: the machine walks the rows as they stand, and a kernel program's run is that of its rows.
 use borrow.Author.Rules.{rules}
 use Rattle.words.specs.declared.Form.TheVariants.{Kernel}
-use Rattle.language_programs.specs.Program.{runProgram}
-use Rattle.program_runs.specs.AcceptedLaws.{accepted-runnable}
+use Rattle.language_programs.specs.Program.{run_program}
+use Rattle.program_runs.proofs.AcceptedLaws.{accepted-runnable}
 use Rattle.program_runs.proofs.run_kernel.Statement.{statement}
 use Rattle.program_runs.proofs.run_kernel.Tie as tie
 
@@ -15,7 +15,7 @@ same_length : tie.Need-same-length
 same_length c = search rules
 
 returns : tie.Need-returns
-unfolding runProgram
+unfolding run_program
 returns c = c.before.run-kernel-table.ensures
 
 pub run-kernel-spec : {M : Type 1} → statement M

@@ -6,7 +6,7 @@ use borrow.Author.Tests.{eq-eqb, ne_eqb}
 use lib.ListN.{length}
 use Rattle.words.specs.Layout.{store_words}
 use Rattle.program_runs.specs.Runs.{ran}
-use Rattle.program_runs.specs.AcceptedLaws.{accepted-header}
+use Rattle.program_runs.proofs.AcceptedLaws.{accepted-header}
 use Rattle.program_runs.proofs.run_on_store.Statement.{statement}
 use Rattle.program_runs.proofs.run_on_store.Tie as tie
 

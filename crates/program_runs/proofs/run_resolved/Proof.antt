@@ -4,7 +4,7 @@ use native.Mathlib.Omega.{arith}
 use borrow.Author.Rules.{rules}
 use lib.ListN.{length}
 use Rattle.accepted_rows.specs.ResolvedPrograms.{accepted-words, lent-table}
-use Rattle.program_runs.specs.AcceptedLaws.{table-runnable, table-run}
+use Rattle.program_runs.proofs.AcceptedLaws.{table-runnable, table-run}
 use Rattle.program_runs.proofs.run_resolved.Statement.{statement}
 use Rattle.program_runs.proofs.run_resolved.Tie as tie
 

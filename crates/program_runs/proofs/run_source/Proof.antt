@@ -4,8 +4,8 @@ use native.Mathlib.Omega.{arith}
 use lib.ListN.{length}
 use borrow.Author.Rules.{rules}
 use Rattle.words.specs.declared.Form.TheVariants.{Source}
-use Rattle.language_programs.specs.Program.{resolvedRows}
-use Rattle.program_runs.specs.AcceptedLaws.{accepted-header, table-runnable, table-run, undeclared-store}
+use Rattle.language_programs.specs.Program.{resolved_rows}
+use Rattle.program_runs.proofs.AcceptedLaws.{accepted-header, table-runnable, table-run, undeclared-store}
 use Rattle.program_runs.proofs.run_source.Statement.{statement}
 use Rattle.program_runs.proofs.run_source.Tie as tie
 
@@ -13,7 +13,7 @@ store-size-requires : tie.Need-store-size-requires
 store-size-requires c κs = accepted-header Source c.args.header.now c.args.rows.now c.requires.0
 
 -- the store says that there are none
-undeclared : (c : tie.Then1) → c.before.before.args.rows.now ≡ resolvedRows Source c.before.before.args.header.now c.before.before.args.rows.now
+undeclared : (c : tie.Then1) → c.before.before.args.rows.now ≡ resolved_rows Source c.before.before.args.header.now c.before.before.args.rows.now
 undeclared c =
     let s = c.before.before in
     undeclared-store s.args.header.now s.args.rows.now s.requires.0 (length s.args.store.now) s.requires.1 (omega (arith, c.if1.true, c.before.store-size.ensures))

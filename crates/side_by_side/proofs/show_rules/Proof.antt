@@ -4,14 +4,14 @@ use mathlib.Core.List.{List}
 use Prim.Native.Nat.{ℕ, ◌+◌, ◌-◌, ◌≤◌, ◌<◌}
 use native.Mathlib.Omega.{arith}
 use lib.ListN.{length, drop}
-use Rattle.text_lines.specs.Reader.{pieceEnd}
+use Rattle.text_lines.specs.Reader.{piece_end}
 use Rattle.text_lines.proofs.Pieces.{piece_of}
 use borrow.Author.Rules.{rules}
 use Rattle.side_by_side.proofs.show_rules.Statement.{statement}
 use Rattle.side_by_side.proofs.show_rules.Tie as tie
 
 -- A rule that begins within the input ends within it.
-rule-inside : (input : List ℕ) (at end : ℕ) → at < length input → end ≡ at + 1 + pieceEnd 35 (drop (at + 1) input) → end ≤ length input
+rule-inside : (input : List ℕ) (at end : ℕ) → at < length input → end ≡ at + 1 + piece_end 35 (drop (at + 1) input) → end ≤ length input
 rule-inside input at end h e = (piece_of 35 input (at + 1) end (omega arith) e).inside
 
 abbrev invariant-loop : tie.invariant-loop

@@ -4,8 +4,8 @@ use native.Mathlib.Omega.{arith}
 use mathlib.Core.Bool.{true}
 use mathlib.Core.Option.{none}
 use lib.ListN.{length}
-use Rattle.text_form.specs.Answers.{causeOf}
-use Rattle.text_form.specs.Reader.{causeSays}
+use Rattle.text_form.specs.Answers.{cause_of}
+use Rattle.text_form.specs.Reader.{cause_says}
 use Rattle.text_form.proofs.Sizing.{Sized, Limited, limited, sized-fills, writes_short, writes-all, writes-cause}
 use borrow.Author.Rules.{rules}
 use Rattle.text_form.proofs.write.Statement.{statement}
@@ -18,29 +18,29 @@ enum-known-cause : tie.Need-enum-known-cause
 enum-known-cause c = search rules
 
 returns : tie.Need-returns
-returns c = writes-cause _ _ _ _ _ (sym c.before.before.before.first-cause.ensures ∙ ap causeSays c.before.cause.given.1)
+returns c = writes-cause _ _ _ _ _ (sym c.before.before.before.first-cause.ensures ∙ ap cause_says c.before.cause.given.1)
 
 enum_told : tie.Need-enum-told
 enum_told c = search rules
 
 -- no cause but 10 is left
-passes : (c : tie.After-enum-told) → causeOf c.before.before.before.before.args.form c.before.before.before.before.args.header.now (length c.before.before.before.before.args.rows.now) true ≡ none
-passes c = sym c.before.before.first-cause.ensures ∙ ap causeSays c.enum_told.given.1
+passes : (c : tie.After-enum-told) → cause_of c.before.before.before.before.args.form c.before.before.before.before.args.header.now (length c.before.before.before.before.args.rows.now) true ≡ none
+passes c = sym c.before.before.first-cause.ensures ∙ ap cause_says c.enum_told.given.1
 
 limits : (c : tie.After-enum-told) → Limited c.before.before.before.before.args.header.now c.before.before.before.before.args.rows.now
 limits c = limited c.before.before.before.before.args.form _ _ (passes c)
 
-sized : (c : tie.After-size-of2) → Sized c.before.before.before.before.before.before.args.form c.before.before.before.before.before.before.args.header.now c.before.before.before.before.before.before.args.rows.now c.before.size_of.result c.size-of2.result
-sized c = record { passes = passes c.before.before; header-size = c.before.size_of.ensures; rows-size = c.size-of2.ensures }
+sized : (c : tie.After-size-of2) → Sized c.before.before.before.before.before.before.args.form c.before.before.before.before.before.before.args.header.now c.before.before.before.before.before.before.args.rows.now c.before.size-of.result c.size-of2.result
+sized c = record { passes = passes c.before.before; header_size = c.before.size-of.ensures; rows_size = c.size-of2.ensures }
 
 size-of-requires : tie.Need-size-of-requires
-size-of-requires c κs = omega (arith, (limits c).header-few)
+size-of-requires c κs = omega (arith, (limits c).header_few)
 
 size-of-requires-2 : tie.Need-size-of-requires-2
 size-of-requires-2 c κs = (limits c.before).rows_few
 
 add-if1 : tie.Need-overflow-add-if1
-add-if1 c = omega (arith, c.before.size_of.ensures.most, c.size-of2.ensures.most, (limits c.before.before).header-few, (limits c.before.before).rows_few)
+add-if1 c = omega (arith, c.before.size-of.ensures.most, c.size-of2.ensures.most, (limits c.before.before).header_few, (limits c.before.before).rows_few)
 
 returns-2 : tie.Need-returns-2
 returns-2 c = writes_short (sized c.before) _ c.if1.true

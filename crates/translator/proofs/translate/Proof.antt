@@ -2,8 +2,8 @@
 -- shares its fate is a theorem about the definitions.
 use mathlib.Core.Path.{sym, ◌∙◌}
 use borrow.Author.Rules.{rules}
-use Rattle.translation_fate.specs.KernelFormLaws.{has-kernel-form}
-use Rattle.translator.specs.Translation.{translateResult}
+use Rattle.translation_fate.proofs.KernelFormLaws.{has-kernel-form}
+use Rattle.translator.specs.Translation.{translate_result}
 use Rattle.translator.proofs.translate.Statement.{statement}
 use Rattle.translator.proofs.translate.Tie as tie
 
@@ -29,7 +29,7 @@ returns : tie.Need-returns
 returns c = c.before.before.translate-accepted.ensures
 
 returns-2 : tie.Need-returns-2
-unfolding translateResult
+unfolding translate_result
 returns-2 c =
     let start = c.before.before.before.before in (
       rw (← c.before.before.before.check.ensures, c.before.verdict.given.1),

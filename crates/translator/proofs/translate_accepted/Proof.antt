@@ -5,24 +5,24 @@ use native.Mathlib.Omega.{arith}
 use lib.IntN.{ℤ}
 use borrow.Author.Rules.{rules}
 use Rattle.words.specs.declared.Verdict.TheVariants.{Accepted}
-use Rattle.check_source.specs.Refusal.{refusal as sourceRefusal}
+use Rattle.check_source.specs.Refusal.{refusal as source_refusal}
 use Rattle.accepted_rows.specs.ResolvedPrograms.{undeclared-table}
 use Rattle.translation_fate.specs.KernelForms.{HasKernelForm}
-use Rattle.translation_fate.specs.KernelFormLaws.{has-kernel-form}
+use Rattle.translation_fate.proofs.KernelFormLaws.{has-kernel-form}
 use Rattle.translator.specs.declared.TranslateAnswer.{TranslateAnswer}
-use Rattle.translator.specs.Translation.{answerAndTables, translateAfter, translateResult, WritesKernelForm}
-use Rattle.translator.specs.TranslationLaws.{accepted-result, writes-kernel-form}
+use Rattle.translator.specs.Translation.{answer_and_tables, translate_after, translate_result, WritesKernelForm}
+use Rattle.translator.proofs.TranslationLaws.{accepted-result, writes-kernel-form}
 use Rattle.translator.proofs.translate_accepted.Statement.{statement}
 use Rattle.translator.proofs.translate_accepted.Tie as tie
 
 -- the three promises, from what the writers leave
-promises : (header rows outHeader outRows headerLeft rowsLeft : List ℤ) (answer : TranslateAnswer) → sourceRefusal header rows ≡ Accepted
-    → answerAndTables answer headerLeft rowsLeft ≡ translateAfter Accepted header rows outHeader outRows
-    → (answerAndTables answer headerLeft rowsLeft ≡ translateResult header rows outHeader outRows) × (HasKernelForm header rows × WritesKernelForm header rows answer headerLeft rowsLeft)
-promises header rows outHeader outRows headerLeft rowsLeft answer accepted e =
+promises : (header rows outHeader outRows headerLeft rows_left : List ℤ) (answer : TranslateAnswer) → source_refusal header rows ≡ Accepted
+    → answer_and_tables answer headerLeft rows_left ≡ translate_after Accepted header rows outHeader outRows
+    → (answer_and_tables answer headerLeft rows_left ≡ translate_result header rows outHeader outRows) × (HasKernelForm header rows × WritesKernelForm header rows answer headerLeft rows_left)
+promises header rows outHeader outRows headerLeft rows_left answer accepted e =
     let has = has-kernel-form header rows in
-    let result = accepted-result header rows outHeader outRows headerLeft rowsLeft answer accepted e in
-    (result, (has, writes-kernel-form header rows outHeader outRows headerLeft rowsLeft answer has result))
+    let result = accepted-result header rows outHeader outRows headerLeft rows_left answer accepted e in
+    (result, (has, writes-kernel-form header rows outHeader outRows headerLeft rows_left answer has result))
 
 declaration-count-requires : tie.Need-declaration-count-requires
 declaration-count-requires c κs = search rules

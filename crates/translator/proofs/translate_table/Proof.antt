@@ -23,7 +23,7 @@ measure-requires c κs =
     let same = sym start.requires.1 in
     let source = subst (λ (l : List ℤ). Source l) same (accepted-source header rows start.requires.0) in
     let names = subst (λ (l : List ℤ). NamesFrom c.before.store-size.result l) same (names-from header rows start.requires.0 c.before.store-size.ensures) in
-    (source, names, omega (arith, source.few-rows))
+    (source, names, omega (arith, source.few_rows))
 
 slice-aggregate-write-measured : tie.Need-slice-aggregate-write-measured
 slice-aggregate-write-measured c = search rules

@@ -10,30 +10,30 @@ use Rattle.words.specs.Layout.{store_words}
 use Rattle.words.specs.Over.{over}
 use Rattle.words.specs.declared.Form.TheVariants.{Source}
 use Rattle.language.specs.Program.{contents}
-use Rattle.language_programs.specs.Program.{resolvedRows}
+use Rattle.language_programs.specs.Program.{resolved_rows}
 use Rattle.language_emission.specs.Emission.{emit}
-use Rattle.measures_table.specs.Parts.{calledIn}
+use Rattle.measures_table.specs.Parts.{called_in}
 use Rattle.measures_table.specs.Measures.{Measured, ProgramMeasured}
-use Rattle.writers_programs.specs.Asks.{ProgramAsks, kernelProgram}
-use Rattle.translation_fate.specs.KernelForms.{kernelHeaderOf, kernelRowsOf}
+use Rattle.writers_programs.specs.Asks.{ProgramAsks, kernel_program}
+use Rattle.translation_fate.specs.KernelForms.{kernel_header_of, kernel_rows_of}
 use Rattle.words.specs.declared.Verdict.TheVariants.{Accepted}
-use Rattle.translator.specs.Translation.{answerAndTables, translateAfter}
-use Rattle.translator.specs.TranslationLaws.{header-short, rows_short, both-written}
+use Rattle.translator.specs.Translation.{answer_and_tables, translate_after}
+use Rattle.translator.proofs.TranslationLaws.{header-short, rows_short, both-written}
 use Rattle.translator.specs.declared.TranslateAnswer.TheVariants.{Translated}
-use Rattle.translator.specs.AcceptedLaws.{accepted-header, few-declarations, first-is, first-low, accepted-asks, temporaries-low, header-words, row_words, row-words-low, header_is, rows_are}
+use Rattle.translator.specs.AcceptedLaws.{accepted-header, few_declarations, first_is, first-low, accepted-asks, temporaries-low, header-words, row-words, row-words-low, header_is, rows_are}
 use Rattle.translator.proofs.write_measured.Statement.{statement}
 use Rattle.translator.proofs.write_measured.Tie as tie
 
 -- what the measures are of
-measured : (start : tie.Start) → Measured (resolvedRows Source start.args.header.now start.args.rows.now) start.args.table.now
+measured : (start : tie.Start) → Measured (resolved_rows Source start.args.header.now start.args.rows.now) start.args.table.now
 measured start = subst (λ (l : List ℤ). Measured l start.args.table.now) start.requires.1 start.requires.2
 
 -- what stands in both tables, where they have room
-all-written : (header rows outHeader outRows : List ℤ) {n k : ℕ} {headerLeft rowsLeft : List ℤ} → n ≡ length (kernelHeaderOf header rows) → k ≡ length (kernelRowsOf header rows)
-    → headerLeft ≡ over (kernelHeaderOf header rows) outHeader → rowsLeft ≡ over (kernelRowsOf header rows) outRows → n ≤ length outHeader → k ≤ length outRows
-    → answerAndTables (Translated n k) headerLeft rowsLeft ≡ translateAfter Accepted header rows outHeader outRows
+all-written : (header rows outHeader outRows : List ℤ) {n k : ℕ} {headerLeft rows_left : List ℤ} → n ≡ length (kernel_header_of header rows) → k ≡ length (kernel_rows_of header rows)
+    → headerLeft ≡ over (kernel_header_of header rows) outHeader → rows_left ≡ over (kernel_rows_of header rows) outRows → n ≤ length outHeader → k ≤ length outRows
+    → answer_and_tables (Translated n k) headerLeft rows_left ≡ translate_after Accepted header rows outHeader outRows
 all-written header rows outHeader outRows en ek eh er hn hk =
-    rw (en, ek, eh, er) (both-written (kernelHeaderOf header rows) (kernelRowsOf header rows) outHeader outRows (omega (arith, en, hn)) (omega (arith, ek, hk)))
+    rw (en, ek, eh, er) (both-written (kernel_header_of header rows) (kernel_rows_of header rows) outHeader outRows (omega (arith, en, hn)) (omega (arith, ek, hk)))
 
 measured-program-requires : tie.Need-measured-program-requires
 measured-program-requires c κs = c.before.requires.2
@@ -43,9 +43,9 @@ abbrev begin : tie.After-measured-program → tie.Start
 begin c = c.before.before
 
 counted : (c : tie.After-measured-program) →
-    let resolved = resolvedRows Source (begin c).args.header.now (begin c).args.rows.now in
-    ProgramMeasured (calledIn resolved) (contents resolved) c.measured-program.result
-counted c = subst (λ (l : List ℤ). ProgramMeasured (calledIn l) (contents l) c.measured-program.result) (begin c).requires.1 c.measured-program.ensures
+    let resolved = resolved_rows Source (begin c).args.header.now (begin c).args.rows.now in
+    ProgramMeasured (called_in resolved) (contents resolved) c.measured-program.result
+counted c = subst (λ (l : List ℤ). ProgramMeasured (called_in l) (contents l) c.measured-program.result) (begin c).requires.1 c.measured-program.ensures
 
 add-header-words : tie.Need-overflow-add-header-words
 add-header-words c = search rules
@@ -55,7 +55,7 @@ returns c =
     let start = begin c.before in
     let header = start.args.header.now in
     let rows = start.args.rows.now in
-    header-short (kernelHeaderOf header rows) (kernelRowsOf header rows) start.args.kernel-header.now start.args.kernel-rows.now
+    header-short (kernel_header_of header rows) (kernel_rows_of header rows) start.args.kernel-header.now start.args.kernel-rows.now
     (omega (arith, header-words header rows start.pre.0, c.if1.true))
 
 add-row-words : tie.Need-overflow-add-row-words
@@ -74,8 +74,8 @@ returns-2 c =
     let start = begin known in
     let header = start.args.header.now in
     let rows = start.args.rows.now in
-    rows_short (kernelHeaderOf header rows) (kernelRowsOf header rows) start.args.kernel-header.now start.args.kernel-rows.now
-    (omega (arith, row_words header rows start.pre.0 (counted known), c.if2.true))
+    rows_short (kernel_header_of header rows) (kernel_rows_of header rows) start.args.kernel-header.now start.args.kernel-rows.now
+    (omega (arith, row-words header rows start.pre.0 (counted known), c.if2.true))
 
 declaration-count-requires : tie.Need-declaration-count-requires
 declaration-count-requires c κs = search rules
@@ -87,7 +87,7 @@ write-header-requires c κs =
     let header = start.args.header.now in
     let rows = start.args.rows.now in (
       accepted-header header rows start.pre.0,
-      omega (arith, c.before.declaration-count.ensures, few-declarations header rows start.pre.0),
+      omega (arith, c.before.declaration-count.ensures, few_declarations header rows start.pre.0),
       temporaries-low header rows start.pre.0 (counted known),
       omega (arith, c.before.before.before.before.if1.false),
     )
@@ -107,7 +107,7 @@ first_counted : (c : tie.After-store-size)
     ≡ store_words Source (begin (known c)).args.header.now (begin (known c)).args.rows.now
 first_counted c =
     let start = begin (known c) in
-    first-is start.args.header.now start.args.rows.now start.pre.0 _ _ c.store-size.ensures c.before.before.before.before.declaration-count.ensures
+    first_is start.args.header.now start.args.rows.now start.pre.0 _ _ c.store-size.ensures c.before.before.before.before.declaration-count.ensures
 
 add-first : tie.Need-overflow-add-first
 add-first c =
@@ -126,7 +126,7 @@ write-program-requires c κs =
     let first = at.store-size.result + at.before.before.before.before.declaration-count.result in
     let asks = accepted-asks header rows start.pre.0 (counted (known at)) (measured start) room (omega (arith, at.before.before.before.before.before.if2.false)) in
     subst (λ (l : List ℤ). ProgramAsks l table first program.rows program.levels room) (sym start.pre.1)
-    (subst (λ (S : ℕ). ProgramAsks (resolvedRows Source header rows) table S program.rows program.levels room) (sym (first_counted at)) asks)
+    (subst (λ (S : ℕ). ProgramAsks (resolved_rows Source header rows) table S program.rows program.levels room) (sym (first_counted at)) asks)
 
 same_length : tie.Need-same-length
 same_length c = search rules
@@ -147,8 +147,8 @@ returns-3 c =
     let declared = at.before.before.before.before.declaration-count in
     let first = at.store-size.result + declared.result in
     let headerLeft = at.before.before.write-header.ensures ∙ ap (λ (ws : List ℤ). over ws outHeader) (header_is header rows accepted counts _ declared.ensures) in
-    let rowsLeft = c.before.write-program.ensures ∙ ap (λ (ws : List ℤ). over ws outRows) (ap (λ (l : List ℤ). emit (kernelProgram first (contents l))) start.pre.1 ∙ rows_are header rows accepted _ (first_counted at)) in
-    all-written header rows outHeader outRows (header-words header rows accepted) (row_words header rows accepted counts) headerLeft rowsLeft (omega (arith, at.before.before.before.before.before.before.before.if1.false)) (omega (arith, at.before.before.before.before.before.if2.false))
+    let rows_left = c.before.write-program.ensures ∙ ap (λ (ws : List ℤ). over ws outRows) (ap (λ (l : List ℤ). emit (kernel_program first (contents l))) start.pre.1 ∙ rows_are header rows accepted _ (first_counted at)) in
+    all-written header rows outHeader outRows (header-words header rows accepted) (row-words header rows accepted counts) headerLeft rows_left (omega (arith, at.before.before.before.before.before.before.before.if1.false)) (omega (arith, at.before.before.before.before.before.if2.false))
 
 pub write-measured-spec : {M : Type 1} → statement M
 write-measured-spec =

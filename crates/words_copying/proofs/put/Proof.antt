@@ -5,7 +5,7 @@ use native.Mathlib.Omega.{arith}
 use borrow.Author.Rules.{rules}
 use lib.ListN.{length}
 use lib.Seq.{paste, paste-zero}
-use Rattle.words_copying.proofs.Copies.{put-kept, put_back, put_all}
+use Rattle.words_copying.proofs.Copies.{put-kept, put_back, put-all}
 use Rattle.words_copying.proofs.put.Statement.{statement}
 use Rattle.words_copying.proofs.put.Tie as tie
 
@@ -45,7 +45,7 @@ same_length c = put-kept _ c.before.before.args.words.now _ c.before.loop.i (ome
 returns : tie.Need-returns invariant-loop decreases-loop
 returns c =
     let e : c.before.loop.i ≡ length c.before.before.args.words.now = omega arith in
-    rw e at c.before.loop.invariant.2 ∙ put_all _ _
+    rw e at c.before.loop.invariant.2 ∙ put-all _ _
 
 pub put_spec : {M : Type 1} → statement M
 put_spec =

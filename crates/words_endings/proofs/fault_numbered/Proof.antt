@@ -3,31 +3,31 @@ use mathlib.Core.Path.{◌≡◌, refl, sym, ap}
 use mathlib.Core.List.{List, [], ◌∷◌}
 use Prim.Native.Nat.{ℕ}
 use borrow.Author.Tests.{ne_eqb}
-use Rattle.words.specs.Answers.{faultNumber, faultAmong, otherFaults, faultNumbered}
+use Rattle.words.specs.Answers.{fault_number, fault_among, other_faults, fault_numbered}
 use Rattle.words.specs.declared.FaultSort.{FaultSort}
 use Rattle.words.specs.declared.FaultSort.TheVariants.{Index}
 use Rattle.words_endings.proofs.fault_numbered.Statement.{statement}
 use Rattle.words_endings.proofs.fault_numbered.Tie as tie
 
 -- an arm: the fault with the arm's number
-arm : {number : ℕ} (key : ℕ) → number ≡ key → faultNumbered key ≡ faultNumbered number
-arm key e = ap faultNumbered (sym e)
+arm : {number : ℕ} (key : ℕ) → number ≡ key → fault_numbered key ≡ fault_numbered number
+arm key e = ap fault_numbered (sym e)
 
 -- what the match leaves: the number is that of no fault of the list
 abbrev NoneOf : List FaultSort → ℕ → Type 0 → Type 0
 NoneOf [] number known = known
-NoneOf (sort ∷ sorts) number known = NoneOf sorts number (known × (number ≡ faultNumber sort → ⊥))
+NoneOf (sort ∷ sorts) number known = NoneOf sorts number (known × (number ≡ fault_number sort → ⊥))
 
-none_of : (sorts : List FaultSort) (number : ℕ) (known : Type 0) → NoneOf sorts number known → (Index ≡ faultAmong sorts number) × known
+none_of : (sorts : List FaultSort) (number : ℕ) (known : Type 0) → NoneOf sorts number known → (Index ≡ fault_among sorts number) × known
 none_of [] number known r = (refl, r)
 none_of (sort ∷ sorts) number known r =
-    let later = none_of sorts number (known × (number ≡ faultNumber sort → ⊥)) r in
+    let later = none_of sorts number (known × (number ≡ fault_number sort → ⊥)) r in
     (rw (ne_eqb _ _ later.1.1) later.0, later.1.0)
 
-rest : {number : ℕ} (known : Type 0) → NoneOf otherFaults number known → Index ≡ faultNumbered number
-unfolding faultNumbered
-rest known r = (none_of otherFaults _ known r).0
+rest : {number : ℕ} (known : Type 0) → NoneOf other_faults number known → Index ≡ fault_numbered number
+unfolding fault_numbered
+rest known r = (none_of other_faults _ known r).0
 
 pub fault-numbered-spec : {M : Type 1} → statement M
-unfolding faultNumbered
+unfolding fault_numbered
 fault-numbered-spec = tie.close (tie.spec (λ c. arm 2 c.match.keys1) (λ c. arm 3 c.match.keys2) (λ c. arm 5 c.match.keys3) (λ c. rest _ c.match.rest))

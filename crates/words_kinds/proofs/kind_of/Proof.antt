@@ -3,7 +3,7 @@ use mathlib.Core.Path.{◌≡◌, refl, sym, ap}
 use mathlib.Core.List.{List, [], ◌∷◌}
 use Prim.Native.Nat.{ℕ}
 use borrow.Author.Tests.{ne_eqb}
-use Rattle.words.specs.Kinds.{kinds, kindIn, kind_of}
+use Rattle.words.specs.Kinds.{kinds, kind_in, kind_of}
 use Rattle.words.specs.declared.Kind.TheVariants.{Other}
 use Rattle.words.specs.declared.Kind.{Kind}
 use Rattle.words_kinds.proofs.kind_of.Statement.{statement}
@@ -14,8 +14,8 @@ abbrev NoLine : List (ℕ × Kind) → ℕ → Type 0 → Type 0
 NoLine [] number known = known
 NoLine (k ∷ ks) number known = NoLine ks number (known × (number ≡ k.0 → ⊥))
 
-no_line : (ks : List (ℕ × Kind)) (number : ℕ) (known : Type 0) → NoLine ks number known → (kindIn ks number ≡ Other) × known
-unfolding kindIn
+no_line : (ks : List (ℕ × Kind)) (number : ℕ) (known : Type 0) → NoLine ks number known → (kind_in ks number ≡ Other) × known
+unfolding kind_in
 no_line [] number known r = (refl, r)
 no_line (k ∷ ks) number known r =
     let later = no_line ks number (known × (number ≡ k.0 → ⊥)) r in
@@ -26,7 +26,7 @@ arm : (number key : ℕ) → number ≡ key → kind_of key ≡ kind_of number
 arm number key e = ap kind_of (sym e)
 
 pub kind-of-spec : {M : Type 1} → statement M
-unfolding kinds kindIn kind_of
+unfolding kinds kind_in kind_of
 kind-of-spec =
     tie.close
     (tie.spec

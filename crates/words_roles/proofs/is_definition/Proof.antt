@@ -1,5 +1,5 @@
 -- `is_definition` asks for the kind.
-use Rattle.words_roles.specs.Roles.{isDefinition}
+use Rattle.words_roles.specs.Roles.{is_definition}
 use borrow.Author.Rules.{rules}
 use Rattle.words_roles.proofs.is_definition.Statement.{statement}
 use Rattle.words_roles.proofs.is_definition.Tie as tie
@@ -8,7 +8,7 @@ number-at-requires : tie.Need-number-at-requires
 number-at-requires c κs = search rules
 
 returns : tie.Need-returns
-unfolding isDefinition
+unfolding is_definition
 returns c =
     rw c.number_at.ensures
 

@@ -1,6 +1,6 @@
 -- `mark_link` makes its definition's tests in order.
 use borrow.Author.Tests.{lt-ltb, le-ltb}
-use Rattle.words_roles.specs.Passes.{markedLink}
+use Rattle.words_roles.specs.Passes.{marked_link}
 use borrow.Author.Rules.{rules}
 use Rattle.words_roles.proofs.mark_link.Statement.{statement}
 use Rattle.words_roles.proofs.mark_link.Tie as tie
@@ -15,19 +15,19 @@ same_length : tie.Need-same-length
 same_length c = search rules
 
 returns : tie.Need-returns
-unfolding markedLink
+unfolding marked_link
 returns c = rw (lt-ltb _ _ c.before.before.before.if1.true, lt-ltb _ _ c.before.before.if2.true, ← c.before.is-declaration.ensures, c.if3.true)
 
 returns-2 : tie.Need-returns-2
-unfolding markedLink
+unfolding marked_link
 returns-2 c = rw (lt-ltb _ _ c.before.before.before.if1.true, lt-ltb _ _ c.before.before.if2.true, ← c.before.is-declaration.ensures, c.if3.false)
 
 returns-3 : tie.Need-returns-3
-unfolding markedLink
+unfolding marked_link
 returns-3 c = rw (lt-ltb _ _ c.before.if1.true, le-ltb _ _ c.if2.false)
 
 returns-4 : tie.Need-returns-4
-unfolding markedLink
+unfolding marked_link
 returns-4 c = rw (le-ltb _ _ c.if1.false)
 
 pub mark-link-spec : {M : Type 1} → statement M

@@ -4,7 +4,7 @@ use Prim.Native.Nat.{◌-◌, ◌/◌, ◌≤◌}
 use native.Mathlib.Omega.{arith}
 use lib.ListN.{length}
 use Rattle.words_roles.specs.Passes.{Marking}
-use Rattle.words_roles.specs.MarkLaws.{marking-begun, marking-on, marking-ended, marked-length}
+use Rattle.words_roles.proofs.MarkLaws.{marking-begun, marking-on, marking-ended, marked-length}
 use Rattle.words_roles.proofs.mark_parameters.Statement.{statement}
 use Rattle.words_roles.proofs.mark_parameters.Tie as tie
 

@@ -14,7 +14,7 @@ shr-result : tie.Need-overflow-shr-result
 shr-result c = place-below c.before.before.args.store c.before.before.args.i c.before.bit-of.ensures
 
 returns : tie.Need-returns
-returns c = member-shift c.before.before.args.store c.before.before.args.s c.before.before.args.i c.before.bit-of.ensures c.word_at.ensures
+returns c = member-shift c.before.before.args.store c.before.before.args.s c.before.before.args.i c.before.bit-of.ensures c.word-at.ensures
 
 pub has-spec : {M : Type 1} → statement M
 has-spec = tie.close (tie.spec bit-of-requires word-at-requires shr-result returns)

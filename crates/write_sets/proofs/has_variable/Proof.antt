@@ -11,7 +11,7 @@ shr-result : tie.Need-overflow-shr-result
 shr-result c = search rules
 
 returns : tie.Need-returns
-returns c = variable-shift c.before.args.s c.before.args.i c.word_at.ensures
+returns c = variable-shift c.before.args.s c.before.args.i c.word-at.ensures
 
 pub has-variable-spec : {M : Type 1} → statement M
 has-variable-spec = tie.close (tie.spec word-at-requires shr-result returns)

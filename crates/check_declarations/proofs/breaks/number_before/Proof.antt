@@ -3,19 +3,19 @@ use mathlib.Core.Path.{◌≡◌, sym, ap, ◌∙◌}
 use Prim.Native.Nat.{◌<◌}
 use native.Mathlib.Omega.{arith}
 use borrow.Author.Tests.{eq-eqb, ne_eqb}
-use Rattle.words.specs.Table.{rowCount}
+use Rattle.words.specs.Table.{row_count}
 use Rattle.check_structure.specs.NoteLaws.{above_zero}
-use Rattle.words.specs.Declarations.{isDeclaration}
-use Rattle.check_items.specs.Items.{someFrom, someEarlier}
-use Rattle.check_items.specs.EarlierLaws.{earlier-lower, earlier-inside, from-none, from-here, from_back}
-use Rattle.check_declaration_causes.specs.Causes.{sameNumber}
+use Rattle.words.specs.Declarations.{is_declaration}
+use Rattle.check_items.specs.Items.{some_from, some_earlier}
+use Rattle.check_items.proofs.EarlierLaws.{earlier-lower, earlier-inside, from-none, from-here, from_back}
+use Rattle.check_declaration_causes.specs.Causes.{same_number}
 use Rattle.check_declarations.proofs.breaks.number_before.Statement.{statement}
 use Rattle.check_declarations.proofs.breaks.number_before.Tie as tie
 
 abbrev invariant-loop : tie.invariant-loop
 invariant-loop rows earlier row number item₀ item =
-    (item < rowCount rows)
-    × (someEarlier (isDeclaration rows) (sameNumber rows row) rows row ≡ someFrom item (isDeclaration rows) (sameNumber rows row) rows item)
+    (item < row_count rows)
+    × (some_earlier (is_declaration rows) (same_number rows row) rows row ≡ some_from item (is_declaration rows) (same_number rows row) rows item)
 
 abbrev decreases-loop : tie.decreases-loop
 decreases-loop rows earlier row number item₀ item =
@@ -38,7 +38,7 @@ wide-requires c κs =
     tt
 
 loop-holds : tie.Need-loop-init invariant-loop decreases-loop
-unfolding someEarlier
+unfolding some_earlier
 loop-holds c =
     let start = c.before.before.before.before in
     let is = c.wide.ensures ∙ start.requires.2.is _ start.requires.1 in
@@ -54,7 +54,7 @@ number-at-requires-2 c κs =
     let n = c.before.loop.invariant.0 in omega arith
 
 returns-2 : tie.Need-returns-2 invariant-loop decreases-loop
-unfolding sameNumber
+unfolding same_number
 returns-2 c =
     let start = c.before.before.before.before.before.before.before.before in
     sym (c.before.before.before.loop.invariant.1 ∙ from-here _ start.requires.0 _ _ _ c.before.before.if1.false
@@ -79,11 +79,11 @@ loop-less c =
     let start = c.before.before.before.before.before.before.before.before.before.before in
     let n = c.before.before.before.before.before.loop.invariant.0 in
     let is = c.wide2.ensures ∙ start.requires.2.is _ n in
-    let lower = earlier-lower _ start.requires.0 (isDeclaration start.args.rows.now) _ (above_zero _ c.before.before.before.before.if1.false) n in
+    let lower = earlier-lower _ start.requires.0 (is_declaration start.args.rows.now) _ (above_zero _ c.before.before.before.before.if1.false) n in
     omega arith
 
 loop-again : tie.Need-loop-preserved invariant-loop decreases-loop
-unfolding sameNumber
+unfolding same_number
 loop-again c =
     let start = c.before.before.before.before.before.before.before.before.before.before in
     let n = c.before.before.before.before.before.loop.invariant.0 in

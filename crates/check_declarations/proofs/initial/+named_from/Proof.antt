@@ -5,8 +5,8 @@ use native.Mathlib.Omega.{arith}
 use Rattle.words.specs.Links.{link as link_of}
 use Rattle.words.specs.SearchLaws.{Tried, tried-start, tried-on, tried-hit, tried-end}
 use Rattle.check_structure.specs.NoteLaws.{above_zero}
-use Rattle.check_declaration_causes.specs.Causes.{namedFrom}
-use Rattle.check_declaration_causes.specs.InitialLaws.{named_none, named_step}
+use Rattle.check_declaration_causes.specs.Causes.{named_from}
+use Rattle.check_declaration_causes.proofs.InitialLaws.{named_none, named_step}
 use Rattle.check_structure.specs.LinkLaws.{part-inside}
 use Rattle.check_declarations.specs.WalkLaws.{left, part_falls, below-only}
 use Prim.Native.Nat.{ℕ, ◌<◌}
@@ -37,7 +37,7 @@ named-from-claims t = (names-number-reads.Asked, names-number-reads.Learnt, link
 
 abbrev named-from-Inv-loop : named-from-lts.invariant-loop
 named-from-Inv-loop kinds rows number row field₀ field =
-    (field ≤ 6) × Tried (λ (f : ℕ). namedFrom rows number (link_of rows row f)) 6 field
+    (field ≤ 6) × Tried (λ (f : ℕ). named_from rows number (link_of rows row f)) 6 field
 
 abbrev named-from-μ-loop : named-from-lts.decreases-loop
 named-from-μ-loop kinds rows number row field₀ field =
@@ -79,7 +79,7 @@ named-from-named-from-requires t c κs =
 named-from-returns-3 : (t : ℕ) → named-from-lts.Need-returns-3 (named-from-claims t) (named-from-at t) named-from.Post named-from-Inv-loop named-from-μ-loop
 named-from-returns-3 t c =
     let start = c.before.before.before.before.before.before.before.before in
-    tried-hit _ 6 _ _ (omega arith) c.before.before.before.before.loop.invariant.1 (c.before.named-from.ensures ∙ ap (namedFrom _ _) c.before.before.link.ensures) c.if3.true
+    tried-hit _ 6 _ _ (omega arith) c.before.before.before.before.loop.invariant.1 (c.before.named-from.ensures ∙ ap (named_from _ _) c.before.before.link.ensures) c.if3.true
     ∙ sym (below-only _ start.requires.1.0 _ _ _ c.before.before.before.before.before.before.before.if1.false start.requires.1.1 c.before.before.before.before.before.before.names-number.ensures c.before.before.before.before.before.if2.false)
 
 named-from-add-field : (t : ℕ) → named-from-lts.Need-overflow-add-field (named-from-claims t) (named-from-at t) named-from.Post named-from-Inv-loop named-from-μ-loop
@@ -92,7 +92,7 @@ named-from-loop-less t c =
 
 named-from-loop-again : (t : ℕ) → named-from-lts.Need-loop-preserved (named-from-claims t) (named-from-at t) named-from.Post named-from-Inv-loop named-from-μ-loop
 named-from-loop-again t c =
-    (omega arith, tried-on _ 6 _ _ (omega arith) c.before.before.before.before.loop.invariant.1 (c.before.named-from.ensures ∙ ap (namedFrom _ _) c.before.before.link.ensures) c.if3.false)
+    (omega arith, tried-on _ 6 _ _ (omega arith) c.before.before.before.before.loop.invariant.1 (c.before.named-from.ensures ∙ ap (named_from _ _) c.before.before.link.ensures) c.if3.false)
 
 named-from-returns-4 : (t : ℕ) → named-from-lts.Need-returns-4 (named-from-claims t) (named-from-at t) named-from.Post named-from-Inv-loop named-from-μ-loop
 named-from-returns-4 t c =

@@ -9,24 +9,24 @@ use lib.ListN.{get_or}
 use mir.Syntax.{w32}
 use mir.Val.{to_z, of_z}
 use Rattle.words.specs.Word.{natural}
-use Rattle.words.specs.Layout.{layout_of, storeSize, declaredOf}
-use Rattle.words.specs.Laws.{back, HeaderFits, headerFits-facts, leading-limits}
+use Rattle.words.specs.Layout.{layout_of, store_size, declared_of}
+use Rattle.words.specs.Laws.{back, HeaderFits, header_fits-facts, leading-limits}
 use Rattle.words.specs.declared.Form.{Form}
 use Rattle.words.specs.declared.Form.TheVariants.{Source, Kernel}
-use Rattle.check_fields.specs.Fields.{declaredRange}
+use Rattle.check_fields.specs.Fields.{declared_range}
 use Rattle.check_fields.specs.declared.NumberRange.{NumberRange}
 use borrow.Author.Rules.{rules}
 use Rattle.check_fields.proofs.fields.declared_range.Statement.{statement}
 use Rattle.check_fields.proofs.fields.declared_range.Tie as tie
 
 fits : (s : tie.Start) → HeaderFits s.args.form s.args.header.now
-fits s = headerFits-facts s.args.form s.args.header.now s.requires
+fits s = header_fits-facts s.args.form s.args.header.now s.requires
 
-source-range : (form : Form) (header : List ℤ) (v : ℕ) → form ≡ Source → mag (get_or header 0 (pos 0)) < 2 ^ 31 → v ≡ natural (to_z w32 (of_z w32 (get_or header 0 (pos 0)))) → ◌≡◌ {A = NumberRange} (record { first = 0; past = v }) (declaredRange form header)
+source-range : (form : Form) (header : List ℤ) (v : ℕ) → form ≡ Source → mag (get_or header 0 (pos 0)) < 2 ^ 31 → v ≡ natural (to_z w32 (of_z w32 (get_or header 0 (pos 0)))) → ◌≡◌ {A = NumberRange} (record { first = 0; past = v }) (declared_range form header)
 unfolding layout_of
 source-range form header v f h e = rw (f, e ∙ ap natural (back (get_or header 0 (pos 0)) h))
 
-kernel-range : (form : Form) (header : List ℤ) (s d : ℕ) → form ≡ Kernel → s ≡ storeSize (layout_of form header) → d ≡ declaredOf form header → ◌≡◌ {A = NumberRange} (record { first = s; past = s + d }) (declaredRange form header)
+kernel-range : (form : Form) (header : List ℤ) (s d : ℕ) → form ≡ Kernel → s ≡ store_size (layout_of form header) → d ≡ declared_of form header → ◌≡◌ {A = NumberRange} (record { first = s; past = s + d }) (declared_range form header)
 kernel-range form header s d f e g = rw (e, g, f)
 
 enum_told : tie.Need-enum-told
@@ -50,7 +50,7 @@ declared-requires c κs = (fits c.before.before.before).least
 add-past : tie.Need-overflow-add-past
 add-past c =
     let f = fits c.before.before.before.before in
-    omega (arith, f.small-store, f.few-declared, c.before.store-size.ensures, c.declared.ensures)
+    omega (arith, f.small_store, f.few_declared, c.before.store-size.ensures, c.declared.ensures)
 
 returns : tie.Need-returns
 returns c =

@@ -4,7 +4,7 @@ use mathlib.Core.Path.{sym, ap, ◌∙◌}
 use lib.Dec.{eqb}
 use borrow.Author.Tests.{eq-eqb, ne_eqb}
 use Rattle.words.specs.Table.{numberAt}
-use Rattle.words.specs.Kinds.{unused, sortAt, inLanguage}
+use Rattle.words.specs.Kinds.{unused, sort_at, in_language}
 use Rattle.check_fields.specs.Fields.{foreign}
 use borrow.Author.Rules.{rules}
 use Rattle.check_fields.proofs.fields.is_foreign.Statement.{statement}
@@ -22,13 +22,13 @@ returns c =
     let start = c.before.before.before in
     let first = c.before.if1.true in
     let kind = c.before.before.number-at.ensures ∙ ap (numberAt start.args.rows.now start.args.row) first in
-    rw (eq-eqb _ _ first) (ap not (c.in-language.ensures ∙ ap (inLanguage start.args.form) kind))
+    rw (eq-eqb _ _ first) (ap not (c.in-language.ensures ∙ ap (in_language start.args.form) kind))
 
 returns-2 : tie.Need-returns-2
 unfolding foreign
 returns-2 c =
     let start = c.before.before.before in
-    rw (ne_eqb _ _ c.before.if1.false, ← c.before.before.number-at.ensures, eq-eqb _ _ c.if2.true) (sym (and-false (eqb (sortAt start.args.rows.now start.args.row start.args.field) unused)))
+    rw (ne_eqb _ _ c.before.if1.false, ← c.before.before.number-at.ensures, eq-eqb _ _ c.if2.true) (sym (and-false (eqb (sort_at start.args.rows.now start.args.row start.args.field) unused)))
 
 sort-at-requires : tie.Need-sort-at-requires
 sort-at-requires c κs = search rules

@@ -1,7 +1,7 @@
 -- `number_fits` makes its definition's tests in order.
 use borrow.Author.Tests.{eq-eqb, ne_eqb}
 use borrow.Author.Rules.{rules}
-use Rattle.check_fields.specs.Fields.{numberFits}
+use Rattle.check_fields.specs.Fields.{number_fits}
 use Rattle.check_fields.proofs.fields.number_fits.Statement.{statement}
 use Rattle.check_fields.proofs.fields.number_fits.Tie as tie
 
@@ -9,7 +9,7 @@ variable-fits-requires : tie.Need-variable-fits-requires
 variable-fits-requires c κs = search rules
 
 returns : tie.Need-returns
-unfolding numberFits
+unfolding number_fits
 returns c =
     rw (eq-eqb _ _ c.before.if1.true) c.variable-fits.ensures
 
@@ -17,22 +17,22 @@ declared-fits-requires : tie.Need-declared-fits-requires
 declared-fits-requires c κs = search rules
 
 returns-2 : tie.Need-returns-2
-unfolding numberFits
+unfolding number_fits
 returns-2 c =
     rw (ne_eqb _ _ c.before.before.if1.false, eq-eqb _ _ c.before.if2.true) c.declared-fits.ensures
 
 returns-3 : tie.Need-returns-3
-unfolding numberFits
+unfolding number_fits
 returns-3 c =
     rw (ne_eqb _ _ c.before.before.before.if1.false, ne_eqb _ _ c.before.before.if2.false, eq-eqb _ _ c.before.if3.true)
 
 returns-4 : tie.Need-returns-4
-unfolding numberFits
+unfolding number_fits
 returns-4 c =
     rw (ne_eqb _ _ c.before.before.before.if1.false, ne_eqb _ _ c.before.before.if2.false, ne_eqb _ _ c.before.if3.false, eq-eqb _ _ c.if4.true)
 
 returns-5 : tie.Need-returns-5
-unfolding numberFits
+unfolding number_fits
 returns-5 c =
     rw (ne_eqb _ _ c.before.before.before.if1.false, ne_eqb _ _ c.before.before.if2.false, ne_eqb _ _ c.before.if3.false, ne_eqb _ _ c.if4.false)
 

@@ -3,9 +3,9 @@ use mathlib.Core.Path.{◌∙◌}
 use native.Mathlib.Omega.{arith}
 use borrow.Author.Tests.{eq-eqb, ne_eqb}
 use Rattle.check_function_causes.specs.Functions.{is_call}
-use Rattle.check_function_causes.specs.Causes.{wrongCall}
-use Rattle.check_function_causes.specs.FrontLaws.{function-inside}
-use Rattle.check_function_causes.specs.AroundLaws.{around-most}
+use Rattle.check_function_causes.specs.Causes.{wrong_call}
+use Rattle.check_function_causes.proofs.FrontLaws.{function-inside}
+use Rattle.check_function_causes.proofs.AroundLaws.{around-most}
 use borrow.Author.Rules.{rules}
 use Rattle.check_functions.proofs.breaks.calls_wrongly.Statement.{statement}
 use Rattle.check_functions.proofs.breaks.calls_wrongly.Tie as tie
@@ -33,12 +33,12 @@ is-wrong-call-requires c κs =
     let start = c.before.before.before.before.before.before.before.before in let n = start.requires.2 in let is = c.wide.ensures ∙ start.requires.3.stands.is _ n in let most = around-most _ start.requires.0 _ n in (start.requires.0, rw c.before.before.Function-of.ensures (function-inside _ start.requires.0 start.requires.1 _), omega arith, n, start.requires.4)
 
 returns : tie.Need-returns
-unfolding wrongCall is_call
+unfolding wrong_call is_call
 returns c =
     let start = c.before.before.before.before.before.before.before.before.before in let is = c.before.wide.ensures ∙ start.requires.3.stands.is _ start.requires.2 in rw (← c.before.before.before.before.before.before.number_at.ensures, eq-eqb _ _ c.before.before.before.before.before.if1.true, ← c.before.before.before.before.number-at2.ensures, ← c.before.before.before.Function-of.ensures, ← is) c.is-wrong-call.ensures
 
 returns-2 : tie.Need-returns-2
-unfolding wrongCall is_call
+unfolding wrong_call is_call
 returns-2 c =
     rw (← c.before.number_at.ensures, ne_eqb _ _ c.if1.false)
 

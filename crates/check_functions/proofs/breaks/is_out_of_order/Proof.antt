@@ -1,5 +1,5 @@
 -- `is_out_of_order` looks up the definition with the row's number.
-use Rattle.check_function_causes.specs.Causes.{outOfOrder}
+use Rattle.check_function_causes.specs.Causes.{out_of_order}
 use borrow.Author.Rules.{rules}
 use Rattle.check_functions.proofs.breaks.is_out_of_order.Statement.{statement}
 use Rattle.check_functions.proofs.breaks.is_out_of_order.Tie as tie
@@ -14,12 +14,12 @@ function-of-requires : tie.Need-function-of-requires
 function-of-requires c κs = search rules
 
 returns : tie.Need-returns
-unfolding outOfOrder
+unfolding out_of_order
 returns c =
     rw (← c.before.before.before.is-definition.ensures, c.before.before.if1.true, ← c.before.number_at.ensures, ← c.Function-of.ensures)
 
 returns-2 : tie.Need-returns-2
-unfolding outOfOrder
+unfolding out_of_order
 returns-2 c =
     rw (← c.before.is-definition.ensures, c.if1.false)
 

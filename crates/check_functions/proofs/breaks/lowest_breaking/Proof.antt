@@ -2,8 +2,8 @@
 use mathlib.Core.Path.{◌≡◌, refl}
 use Prim.Native.Nat.{◌≤◌, ◌-◌}
 use native.Mathlib.Omega.{arith}
-use Rattle.words.specs.Table.{rowCount}
-use Rattle.words.specs.Search.{lowestRow}
+use Rattle.words.specs.Table.{row_count}
+use Rattle.words.specs.Search.{lowest_row}
 use Rattle.words.specs.SearchLaws.{Looked, looked-start, looked-on, looked-hit, looked-end}
 use Rattle.check_functions.specs.Passes.{breaks}
 use Rattle.check_functions.proofs.breaks.lowest_breaking.Statement.{statement}
@@ -11,7 +11,7 @@ use Rattle.check_functions.proofs.breaks.lowest_breaking.Tie as tie
 
 abbrev invariant-loop : tie.invariant-loop
 invariant-loop cause kinds rows around functions count row₀ row =
-    (row ≤ count) × (count ≡ rowCount rows) × Looked (breaks cause rows) count row
+    (row ≤ count) × (count ≡ row_count rows) × Looked (breaks cause rows) count row
 
 abbrev decreases-loop : tie.decreases-loop
 decreases-loop cause kinds rows around functions count row₀ row =
@@ -26,7 +26,7 @@ row-breaks-requires c κs =
     (c.before.before.before.before.requires.0, c.before.before.before.before.requires.1, omega arith, c.before.before.before.before.requires.2, c.before.before.before.before.requires.3)
 
 returns : tie.Need-returns invariant-loop decreases-loop
-unfolding lowestRow
+unfolding lowest_row
 returns c =
     looked-hit _ _ _ _ (omega arith) c.before.before.before.loop.invariant.2 c.before.row-breaks.ensures c.if1.true
 
@@ -43,7 +43,7 @@ loop-again c =
     (omega arith, refl, looked-on _ _ _ _ (omega arith) c.before.before.before.loop.invariant.2 c.before.row-breaks.ensures c.if1.false)
 
 returns-2 : tie.Need-returns-2 invariant-loop decreases-loop
-unfolding lowestRow
+unfolding lowest_row
 returns-2 c =
     looked-end _ _ _ (omega arith) c.before.loop.invariant.2
 

@@ -1,7 +1,7 @@
 -- `returns_outside` makes the two tests in order.
 use borrow.Author.Tests.{eq-eqb, ne_eqb}
-use Rattle.check_function_causes.specs.Functions.{isReturn}
-use Rattle.check_function_causes.specs.Causes.{returnsOutside}
+use Rattle.check_function_causes.specs.Functions.{is_return}
+use Rattle.check_function_causes.specs.Causes.{returns_outside}
 use borrow.Author.Rules.{rules}
 use Rattle.check_functions.proofs.breaks.returns_outside.Statement.{statement}
 use Rattle.check_functions.proofs.breaks.returns_outside.Tie as tie
@@ -16,12 +16,12 @@ shared-slice-read-result : tie.Need-shared-slice-read-result
 shared-slice-read-result c = search rules
 
 returns : tie.Need-returns
-unfolding returnsOutside isReturn
+unfolding returns_outside is_return
 returns c =
     let is = c.before.before.before.before.before.requires.1.stands.is _ c.before.before.before.before.before.requires.0 in rw (← c.before.before.number_at.ensures, eq-eqb _ _ c.before.if1.true, ← is)
 
 returns-2 : tie.Need-returns-2
-unfolding returnsOutside isReturn
+unfolding returns_outside is_return
 returns-2 c =
     rw (← c.before.number_at.ensures, ne_eqb _ _ c.if1.false)
 

@@ -3,21 +3,21 @@ use mathlib.Core.Path.{◌≡◌, refl}
 use Prim.Native.Nat.{◌<◌}
 use native.Mathlib.Omega.{arith}
 use lib.Dec.{eqb}
-use Rattle.words.specs.Table.{rowCount}
+use Rattle.words.specs.Table.{row_count}
 use Rattle.check_structure.specs.LinkLaws.{part-inside}
-use Rattle.check_function_causes.specs.Functions.{listLength}
-use Rattle.check_function_causes.specs.LengthLaws.{length-step}
+use Rattle.check_function_causes.specs.Functions.{list_length}
+use Rattle.check_function_causes.proofs.LengthLaws.{length-step}
 use Rattle.check_functions.specs.KnownLaws.{both-ended, one_ended, both-on}
 use Rattle.check_functions.proofs.calls.same_length.Statement.{statement}
 use Rattle.check_functions.proofs.calls.same_length.Tie as tie
 
 abbrev invariant-loop : tie.invariant-loop
 invariant-loop kinds rows one other row₀ beside₀ row beside =
-    (row < rowCount rows) × (beside < rowCount rows) × (eqb (listLength rows one) (listLength rows other) ≡ eqb (listLength rows row) (listLength rows beside))
+    (row < row_count rows) × (beside < row_count rows) × (eqb (list_length rows one) (list_length rows other) ≡ eqb (list_length rows row) (list_length rows beside))
 
 abbrev decreases-loop : tie.decreases-loop
 decreases-loop kinds rows one other row₀ beside₀ row beside =
-    listLength rows row
+    list_length rows row
 
 loop-holds : tie.Need-loop-init invariant-loop decreases-loop
 loop-holds c =

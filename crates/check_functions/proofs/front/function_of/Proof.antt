@@ -1,6 +1,6 @@
 -- `function_of` reads the definition of a number below the number of rows; others have none.
 use mathlib.Core.Path.{sym, ◌∙◌}
-use Rattle.check_function_causes.specs.FrontLaws.{function-none}
+use Rattle.check_function_causes.proofs.FrontLaws.{function-none}
 use borrow.Author.Rules.{rules}
 use Rattle.check_functions.proofs.front.function_of.Statement.{statement}
 use Rattle.check_functions.proofs.front.function_of.Tie as tie

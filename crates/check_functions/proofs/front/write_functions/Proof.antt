@@ -2,7 +2,7 @@
 use mathlib.Core.Path.{sym, ◌∙◌}
 use Prim.Native.Nat.{◌-◌}
 use native.Mathlib.Omega.{arith}
-use Rattle.words.specs.Table.{rowCount}
+use Rattle.words.specs.Table.{row_count}
 use Rattle.check_functions.specs.WalkLaws.{Walking, walking-begun, walking-number, walking_on, walking-ended}
 use Rattle.check_functions.proofs.front.write_functions.Statement.{statement}
 use Rattle.check_functions.proofs.front.write_functions.Tie as tie
@@ -13,11 +13,11 @@ invariant-loop kinds rows functions₀ row₀ number₀ functions row number =
 
 abbrev decreases-loop : tie.decreases-loop
 decreases-loop kinds rows functions₀ row₀ number₀ functions row number =
-    rowCount rows - number
+    row_count rows - number
 
 link-requires : tie.Need-link-requires invariant-loop decreases-loop
 link-requires c κs =
-    let whole = c.before.requires.0.whole in let some = c.before.requires.0.some-rows in (omega arith, omega arith, c.before.requires.3)
+    let whole = c.before.requires.0.whole in let some = c.before.requires.0.some_rows in (omega arith, omega arith, c.before.requires.3)
 
 loop-holds : tie.Need-loop-init invariant-loop decreases-loop
 loop-holds c =

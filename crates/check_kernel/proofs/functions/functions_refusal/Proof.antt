@@ -1,6 +1,6 @@
 -- `functions_refusal` accepts where there is no function; else the causes decide.
 use mathlib.Core.Path.{sym, ◌∙◌}
-use Rattle.check_function_causes.specs.AcceptsFunctions.{without-functions, functionless-accepted}
+use Rattle.check_function_causes.proofs.AcceptsFunctions.{without-functions, functionless-accepted}
 use borrow.Author.Rules.{rules}
 use Rattle.check_kernel.proofs.functions.functions_refusal.Statement.{statement}
 use Rattle.check_kernel.proofs.functions.functions_refusal.Tie as tie

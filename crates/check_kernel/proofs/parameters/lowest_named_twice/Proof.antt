@@ -1,5 +1,5 @@
 -- `lowest_named_twice` begins without notes and lends what the pass has written.
-use Rattle.check_declarations.specs.Passes.{breaks, lookedUp}
+use Rattle.check_declarations.specs.Passes.{breaks, looked_up}
 use borrow.Author.Rules.{rules}
 use Rattle.check_kernel.proofs.parameters.lowest_named_twice.Statement.{statement}
 use Rattle.check_kernel.proofs.parameters.lowest_named_twice.Tie as tie
@@ -14,7 +14,7 @@ slice-aggregate-lowest-breaking : tie.Need-slice-aggregate-lowest-breaking
 slice-aggregate-lowest-breaking c = search rules
 
 lowest-breaking-requires : tie.Need-lowest-breaking-requires
-unfolding lookedUp
+unfolding looked_up
 lowest-breaking-requires c κs = search rules
 
 returns : tie.Need-returns

@@ -1,6 +1,6 @@
 -- `lowest_parameter_twice` finds nothing where there is no parameter.
 use mathlib.Core.Path.{sym, ◌∙◌}
-use Rattle.check_declaration_causes.specs.AcceptsDeclared.{undeclared-once}
+use Rattle.check_declaration_causes.proofs.AcceptsDeclared.{undeclared-once}
 use borrow.Author.Rules.{rules}
 use Rattle.check_kernel.proofs.parameters.lowest_parameter_twice.Statement.{statement}
 use Rattle.check_kernel.proofs.parameters.lowest_parameter_twice.Tie as tie

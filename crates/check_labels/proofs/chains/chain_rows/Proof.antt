@@ -3,14 +3,14 @@ use mathlib.Core.Path.{◌≡◌, refl, ◌∙◌}
 use Prim.Native.Nat.{◌≤◌, ◌+◌, ◌-◌}
 use native.Mathlib.Omega.{arith}
 use lib.ListN.{length}
-use Rattle.words.specs.Table.{rowCount}
+use Rattle.words.specs.Table.{row_count}
 use Rattle.check_labels.specs.Passes.{Heads, Chain}
 use Rattle.check_labels.proofs.chains.chain_rows.Statement.{statement}
 use Rattle.check_labels.proofs.chains.chain_rows.Tie as tie
 
 abbrev invariant-loop : tie.invariant-loop
 invariant-loop rows heads₀ chain₀ row₀ heads chain row =
-    (row ≤ rowCount rows) × Heads rows row heads × Chain rows row chain × (length heads ≡ length heads₀) × (length chain ≡ length chain₀)
+    (row ≤ row_count rows) × Heads rows row heads × Chain rows row chain × (length heads ≡ length heads₀) × (length chain ≡ length chain₀)
 
 abbrev decreases-loop : tie.decreases-loop
 decreases-loop rows heads₀ chain₀ row₀ heads chain row = row

@@ -2,15 +2,15 @@
 use mathlib.Core.Path.{◌≡◌, refl, sym, ◌∙◌}
 use Prim.Native.Nat.{◌<◌}
 use native.Mathlib.Omega.{arith}
-use Rattle.words.specs.Table.{rowCount}
+use Rattle.words.specs.Table.{row_count}
 use Rattle.check_structure.specs.NoteLaws.{above_zero}
-use Rattle.check_labels.specs.Labels.{labelAhead}
-use Rattle.check_labels.specs.LabelLaws.{around-below, ahead_step, ahead-end}
+use Rattle.check_labels.specs.Labels.{label_ahead}
+use Rattle.check_labels.proofs.LabelLaws.{around-below, ahead_step, ahead-end}
 use Rattle.check_labels.proofs.labels.is_ahead.Statement.{statement}
 use Rattle.check_labels.proofs.labels.is_ahead.Tie as tie
 
 abbrev invariant-loop : tie.invariant-loop
-invariant-loop rows firsts owners marks number goto row₀ row = (row < rowCount rows) × (labelAhead goto rows number goto ≡ labelAhead row rows number row)
+invariant-loop rows firsts owners marks number goto row₀ row = (row < row_count rows) × (label_ahead goto rows number goto ≡ label_ahead row rows number row)
 
 abbrev decreases-loop : tie.decreases-loop
 decreases-loop rows firsts owners marks number goto row₀ row = row
@@ -30,7 +30,7 @@ returns c =
 around-requires : tie.Need-around-requires invariant-loop decreases-loop
 around-requires c κs =
     let start = c.before.before.before.before.before.before.before in
-    (start.requires.0.tree, start.requires.0.lone, start.requires.0.owner-rows, c.before.before.before.loop.invariant.0)
+    (start.requires.0.tree, start.requires.0.lone, start.requires.0.owner_rows, c.before.before.before.loop.invariant.0)
 
 loop-less : tie.Need-loop-smaller invariant-loop decreases-loop
 loop-less c =

@@ -4,23 +4,23 @@ use Prim.Native.Nat.{◌<◌}
 use native.Mathlib.Omega.{arith}
 use borrow.Author.Rules.{rules}
 use lib.ListN.{get_or}
-use Rattle.words.specs.Table.{rowCount}
-use Rattle.check_labels.specs.ListLaws.{first-most}
-use Rattle.check_labels.specs.Passes.{noteAt}
+use Rattle.words.specs.Table.{row_count}
+use Rattle.check_labels.proofs.ListLaws.{first-most}
+use Rattle.check_labels.specs.Passes.{note_at}
 use Rattle.check_labels.specs.declared.LabelNote.TheVariants.{First}
 use Rattle.check_labels.proofs.Marking.{mark-some, mark-none}
 use borrow.Author.Rules.{rules}
 use Rattle.check_labels.proofs.labels.is_behind.Statement.{statement}
 use Rattle.check_labels.proofs.labels.is_behind.Tie as tie
 
-first-is : (c : tie.After-wide) → c.wide.result ≡ noteAt First c.before.before.before.before.args.rows.now c.before.before.before.before.args.row
-first-is c = let s : tie.Start = c.before.before.before.before in c.wide.ensures ∙ s.requires.2.is _ s.requires.1
+first_is : (c : tie.After-wide) → c.wide.result ≡ note_at First c.before.before.before.before.args.rows.now c.before.before.before.before.args.row
+first_is c = let s : tie.Start = c.before.before.before.before in c.wide.ensures ∙ s.requires.2.is _ s.requires.1
 
-first_below : (c : tie.After-wide) → c.wide.result < rowCount c.before.before.before.before.args.rows.now
-first_below c = let s : tie.Start = c.before.before.before.before in let e = first-is c in let most = first-most _ s.requires.0 _ s.requires.1 in omega arith
+first_below : (c : tie.After-wide) → c.wide.result < row_count c.before.before.before.before.args.rows.now
+first_below c = let s : tie.Start = c.before.before.before.before in let e = first_is c in let most = first-most _ s.requires.0 _ s.requires.1 in omega arith
 
-mark-is : (c : tie.After-wide2) → c.wide2.result ≡ get_or c.before.before.before.before.before.before.args.marks.now (noteAt First c.before.before.before.before.before.before.args.rows.now c.before.before.before.before.before.before.args.row) 0
-mark-is c = c.wide2.ensures ∙ ap (λ first. get_or c.before.before.before.before.before.before.args.marks.now first 0) (first-is c.before.before)
+mark-is : (c : tie.After-wide2) → c.wide2.result ≡ get_or c.before.before.before.before.before.before.args.marks.now (note_at First c.before.before.before.before.before.before.args.rows.now c.before.before.before.before.before.before.args.row) 0
+mark-is c = c.wide2.ensures ∙ ap (λ first. get_or c.before.before.before.before.before.before.args.marks.now first 0) (first_is c.before.before)
 
 mul_wide : tie.Need-overflow-mul-wide
 mul_wide c = let s : tie.Start = c.before.before in let few = s.requires.0.few in record { fits = omega arith }

@@ -50,7 +50,7 @@ slice-aggregate-lowest-of-all-5 c = search rules
 lowest-of-all-requires : tie.Need-lowest-of-all-requires
 lowest-of-all-requires c κs =
     let s : tie.Start = c.before.before.before.before.before.before.before.before.before.before.before.before.before.before.before.before in (
-      record { tree = s.requires.0; lone = s.requires.1; first_rows = c.before.before.before.before.before.before.before.before.before.before.before.before.before.before.write-notes.ensures; owner-rows = c.before.before.before.before.before.before.before.before.before.before.before.write-notes2.ensures },
+      record { tree = s.requires.0; lone = s.requires.1; first_rows = c.before.before.before.before.before.before.before.before.before.before.before.before.before.before.write-notes.ensures; owner_rows = c.before.before.before.before.before.before.before.before.before.before.before.write-notes2.ensures },
       c.before.before.before.before.before.before.before.chain-rows.ensures.0,
       c.before.before.before.before.before.before.before.chain-rows.ensures.1,
       marks-start _ 40980 s.requires.0.few,

@@ -3,7 +3,7 @@ use mathlib.Core.Path.{◌≡◌, refl, ◌∙◌}
 use Prim.Native.Nat.{◌-◌, ◌≤◌}
 use native.Mathlib.Omega.{arith}
 use lib.ListN.{length}
-use Rattle.check_labels.specs.Labels.{labelFault}
+use Rattle.check_labels.specs.Labels.{label_fault}
 use Rattle.check_labels.specs.Passes.{Marks, LowestAmong, NumberBelow}
 use Rattle.check_labels.proofs.Faults.{lowest-none}
 use Rattle.check_labels.proofs.labels.lowest_of_all.Statement.{statement}
@@ -11,7 +11,7 @@ use Rattle.check_labels.proofs.labels.lowest_of_all.Tie as tie
 
 abbrev invariant-loop : tie.invariant-loop
 invariant-loop rows firsts owners heads chain marks₀ found₀ number₀ marks found number =
-    (number ≤ 40980) × Marks rows marks × LowestAmong rows (NumberBelow rows number) (labelFault rows) found × (length marks ≡ length marks₀)
+    (number ≤ 40980) × Marks rows marks × LowestAmong rows (NumberBelow rows number) (label_fault rows) found × (length marks ≡ length marks₀)
 
 abbrev decreases-loop : tie.decreases-loop
 decreases-loop rows firsts owners heads chain marks₀ found₀ number₀ marks found number = 40980 - number

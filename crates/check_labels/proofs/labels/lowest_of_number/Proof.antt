@@ -3,9 +3,9 @@
 use mathlib.Core.Path.{◌≡◌, refl, sym, ◌∙◌}
 use Prim.Native.Nat.{◌+◌, ◌-◌, ◌<◌}
 use native.Mathlib.Omega.{arith}
-use Rattle.words.specs.Table.{rowCount}
+use Rattle.words.specs.Table.{row_count}
 use Rattle.words.specs.Search.{some}
-use Rattle.check_labels.specs.Labels.{isLabel, labelFault}
+use Rattle.check_labels.specs.Labels.{is_label, label_fault}
 use Rattle.check_labels.specs.Passes.{Jump, NextJump, LowestAmong, Passed}
 use Rattle.check_labels.proofs.Faults.{seen_skip, lowest_start, lowest-skip, lowest-row, lowest-end}
 use Rattle.check_labels.proofs.labels.lowest_of_number.Statement.{statement}
@@ -13,8 +13,8 @@ use Rattle.check_labels.proofs.labels.lowest_of_number.Tie as tie
 
 abbrev invariant-loop : tie.invariant-loop
 invariant-loop rows firsts owners chain marks number head found count lowest₀ seen₀ row₀ lowest seen row =
-    (count ≡ rowCount rows) × (row < rowCount rows → Jump rows number row) × (row < rowCount rows → seen ≡ some (isLabel rows number) 0 row)
-    × LowestAmong rows (Passed rows number row) (labelFault rows) lowest
+    (count ≡ row_count rows) × (row < row_count rows → Jump rows number row) × (row < row_count rows → seen ≡ some (is_label rows number) 0 row)
+    × LowestAmong rows (Passed rows number row) (label_fault rows) lowest
 
 abbrev decreases-loop : tie.decreases-loop
 decreases-loop rows firsts owners chain marks number head found count lowest₀ seen₀ row₀ lowest seen row = count - row
@@ -46,18 +46,18 @@ wide-requires : tie.Need-wide-requires invariant-loop decreases-loop
 wide-requires c κs = tt
 
 -- what follows in the chain
-next-is : (c : tie.After-wide invariant-loop decreases-loop) → NextJump c.before.before.before.before.before.before.before.before.before.before.before.args.rows.now c.before.before.before.before.before.before.before.before.before.before.before.args.number (c.before.before.before.before.before.before.loop.row + 1) c.wide.result
-next-is c = rw c.wide.ensures (c.before.before.before.before.before.before.before.before.before.before.before.requires.2.follows _ _ (omega arith) (c.before.before.before.before.before.before.loop.invariant.1 (omega arith)))
+next_is : (c : tie.After-wide invariant-loop decreases-loop) → NextJump c.before.before.before.before.before.before.before.before.before.before.before.args.rows.now c.before.before.before.before.before.before.before.before.before.before.before.args.number (c.before.before.before.before.before.before.loop.row + 1) c.wide.result
+next_is c = rw c.wide.ensures (c.before.before.before.before.before.before.before.before.before.before.before.requires.2.follows _ _ (omega arith) (c.before.before.before.before.before.before.loop.invariant.1 (omega arith)))
 
 loop-less : tie.Need-loop-smaller invariant-loop decreases-loop
-loop-less c = let next = (next-is c).least in omega arith
+loop-less c = let next = (next_is c).least in omega arith
 
 loop-again : tie.Need-loop-preserved invariant-loop decreases-loop
 loop-again c = (
   refl,
-  (next-is c).is,
-  (λ n. c.before.before.has-seen.ensures ∙ sym (seen_skip _ _ _ _ (next-is c) (omega arith))),
-  rw c.before.before.before.lower-row.ensures (lowest-skip _ _ _ _ _ (next-is c) (lowest-row _ _ _ _ _ (omega arith) c.before.before.before.before.is-label-fault.ensures c.before.before.before.before.before.before.loop.invariant.3)),
+  (next_is c).is,
+  (λ n. c.before.before.has-seen.ensures ∙ sym (seen_skip _ _ _ _ (next_is c) (omega arith))),
+  rw c.before.before.before.lower-row.ensures (lowest-skip _ _ _ _ _ (next_is c) (lowest-row _ _ _ _ _ (omega arith) c.before.before.before.before.is-label-fault.ensures c.before.before.before.before.before.before.loop.invariant.3)),
 )
 
 returns : tie.Need-returns invariant-loop decreases-loop

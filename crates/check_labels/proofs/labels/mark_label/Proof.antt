@@ -3,20 +3,20 @@ use mathlib.Core.Path.{◌≡◌, ◌∙◌}
 use Prim.Native.Nat.{◌<◌}
 use native.Mathlib.Omega.{arith}
 use borrow.Author.Rules.{rules}
-use Rattle.words.specs.Table.{rowCount}
-use Rattle.check_labels.specs.ListLaws.{first-most}
-use Rattle.check_labels.specs.Passes.{noteAt}
+use Rattle.words.specs.Table.{row_count}
+use Rattle.check_labels.proofs.ListLaws.{first-most}
+use Rattle.check_labels.specs.Passes.{note_at}
 use Rattle.check_labels.specs.declared.LabelNote.TheVariants.{First}
 use Rattle.check_labels.proofs.Marking.{marked-set, marked-none}
 use borrow.Author.Rules.{rules}
 use Rattle.check_labels.proofs.labels.mark_label.Statement.{statement}
 use Rattle.check_labels.proofs.labels.mark_label.Tie as tie
 
-first-is : (c : tie.After-wide) → c.wide.result ≡ noteAt First c.before.before.before.before.before.before.args.rows.now c.before.before.before.before.before.before.args.row
-first-is c = let s : tie.Start = c.before.before.before.before.before.before in c.wide.ensures ∙ s.requires.2.is _ s.requires.1
+first_is : (c : tie.After-wide) → c.wide.result ≡ note_at First c.before.before.before.before.before.before.args.rows.now c.before.before.before.before.before.before.args.row
+first_is c = let s : tie.Start = c.before.before.before.before.before.before in c.wide.ensures ∙ s.requires.2.is _ s.requires.1
 
-first_below : (c : tie.After-wide) → c.wide.result < rowCount c.before.before.before.before.before.before.args.rows.now
-first_below c = let s : tie.Start = c.before.before.before.before.before.before in let e = first-is c in let most = first-most _ s.requires.0 _ s.requires.1 in omega arith
+first_below : (c : tie.After-wide) → c.wide.result < row_count c.before.before.before.before.before.before.args.rows.now
+first_below c = let s : tie.Start = c.before.before.before.before.before.before in let e = first_is c in let most = first-most _ s.requires.0 _ s.requires.1 in omega arith
 
 is-label-requires : tie.Need-is-label-requires
 is-label-requires c κs = let s : tie.Start = c.before.before in s.requires.0.whole
@@ -45,7 +45,7 @@ same_length c = search rules
 returns : tie.Need-returns
 returns c =
     let s : tie.Start = c.before.before.before.before.before.before.before in
-    rw c.narrow.ensures (marked-set _ _ _ s.requires.0 _ _ _ s.requires.1 (first-is c.before) c.before.before.before.before.is-label.ensures c.before.before.before.if1.true s.requires.3)
+    rw c.narrow.ensures (marked-set _ _ _ s.requires.0 _ _ _ s.requires.1 (first_is c.before) c.before.before.before.before.is-label.ensures c.before.before.before.if1.true s.requires.3)
 
 returns-2 : tie.Need-returns-2
 returns-2 c = let s : tie.Start = c.before.before.before.before in marked-none _ _ _ _ _ c.before.is-label.ensures c.if1.false s.requires.3

@@ -3,7 +3,7 @@ use mathlib.Core.Path.{◌≡◌, refl, ◌∙◌}
 use Prim.Native.Nat.{◌<◌, ◌+◌, ◌-◌}
 use native.Mathlib.Omega.{arith}
 use lib.ListN.{length}
-use Rattle.words.specs.Table.{rowCount}
+use Rattle.words.specs.Table.{row_count}
 use Rattle.check_labels.specs.Passes.{Jump, NextJump, Marked}
 use Rattle.check_labels.proofs.Marking.{marked_start, marked-skip, marked_all}
 use Rattle.check_labels.proofs.labels.mark_labels.Statement.{statement}
@@ -11,7 +11,7 @@ use Rattle.check_labels.proofs.labels.mark_labels.Tie as tie
 
 abbrev invariant-loop : tie.invariant-loop
 invariant-loop rows firsts chain marks₀ number head count row₀ marks row =
-    (count ≡ rowCount rows) × Marked rows number row marks × (row < rowCount rows → Jump rows number row) × (length marks ≡ length marks₀)
+    (count ≡ row_count rows) × Marked rows number row marks × (row < row_count rows → Jump rows number row) × (length marks ≡ length marks₀)
 
 abbrev decreases-loop : tie.decreases-loop
 decreases-loop rows firsts chain marks₀ number head count row₀ marks row = count - row
@@ -34,15 +34,15 @@ wide-requires : tie.Need-wide-requires invariant-loop decreases-loop
 wide-requires c κs = tt
 
 -- what follows in the chain
-next-is : (c : tie.After-wide invariant-loop decreases-loop) → NextJump c.before.before.before.before.before.before.before.before.before.before.before.args.rows.now c.before.before.before.before.before.before.before.before.before.before.before.args.number (c.before.before.before.before.before.before.before.loop.row + 1) c.wide.result
-next-is c = rw c.wide.ensures (c.before.before.before.before.before.before.before.before.before.before.before.requires.2.follows _ _ (omega arith) (c.before.before.before.before.before.before.before.loop.invariant.2 (omega arith)))
+next_is : (c : tie.After-wide invariant-loop decreases-loop) → NextJump c.before.before.before.before.before.before.before.before.before.before.before.args.rows.now c.before.before.before.before.before.before.before.before.before.before.before.args.number (c.before.before.before.before.before.before.before.loop.row + 1) c.wide.result
+next_is c = rw c.wide.ensures (c.before.before.before.before.before.before.before.before.before.before.before.requires.2.follows _ _ (omega arith) (c.before.before.before.before.before.before.before.loop.invariant.2 (omega arith)))
 
 loop-less : tie.Need-loop-smaller invariant-loop decreases-loop
-loop-less c = let next = (next-is c).least in omega arith
+loop-less c = let next = (next_is c).least in omega arith
 
 loop-again : tie.Need-loop-preserved invariant-loop decreases-loop
 loop-again c =
-    (refl, marked-skip _ _ _ _ _ (next-is c) c.before.before.before.before.mark-label.ensures, (next-is c).is, c.before.before.before.before.mark-label.auto.1.1.0 ∙ c.before.before.before.before.before.before.before.loop.invariant.3)
+    (refl, marked-skip _ _ _ _ _ (next_is c) c.before.before.before.before.mark-label.ensures, (next_is c).is, c.before.before.before.before.mark-label.auto.1.1.0 ∙ c.before.before.before.before.before.before.before.loop.invariant.3)
 
 same_length : tie.Need-same-length invariant-loop decreases-loop
 same_length c = c.before.loop.invariant.3

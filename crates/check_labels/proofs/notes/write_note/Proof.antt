@@ -3,7 +3,7 @@ use mathlib.Core.Path.{◌∙◌}
 use Prim.Native.Nat.{◌/◌, ◌<◌}
 use native.Mathlib.Omega.{arith}
 use borrow.Author.Rules.{rules}
-use Rattle.words.specs.Table.{rowCount}
+use Rattle.words.specs.Table.{row_count}
 use Rattle.words.specs.Links.{target}
 use Rattle.check_structure.specs.WrittenLaws.{linked-inside, written_none, written-link}
 use Rattle.check_labels.proofs.Handed.{handed-small}
@@ -12,7 +12,7 @@ use Rattle.check_labels.proofs.notes.write_note.Statement.{statement}
 use Rattle.check_labels.proofs.notes.write_note.Tie as tie
 
 -- a link leads to a row of the table
-inside : (c : tie.Then1) → c.before.link.result < rowCount c.before.before.before.args.rows.now
+inside : (c : tie.Then1) → c.before.link.result < row_count c.before.before.before.args.rows.now
 inside c = let s : tie.Start = c.before.before.before in linked-inside _ _ _ s.requires.0 (omega arith) c.before.link.ensures c.if1.true
 
 link-requires : tie.Need-link-requires

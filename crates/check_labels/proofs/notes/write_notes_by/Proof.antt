@@ -6,7 +6,7 @@ use lib.ListN.{length}
 use borrow.Author.Rules.{rules}
 use Rattle.check_structure.specs.NoteLaws.{Noted, noted-start}
 use Rattle.check_structure.specs.Structured.{Tree}
-use Rattle.check_labels.specs.Passes.{handed, noteAt}
+use Rattle.check_labels.specs.Passes.{handed, note_at}
 use Rattle.check_structure.specs.WrittenLaws.{written-length, written-noted, notes-written}
 use Rattle.check_labels.proofs.notes.write_notes_by.Statement.{statement}
 use Rattle.check_labels.proofs.notes.write_notes_by.Tie as tie
@@ -41,7 +41,7 @@ same_length : tie.Need-same-length invariant-loop decreases-loop
 same_length c = c.before.loop.invariant.2
 
 returns : tie.Need-returns invariant-loop decreases-loop
-unfolding noteAt
+unfolding note_at
 returns c =
     let t = c.before.before.before.requires.0 in
     let whole = t.whole in

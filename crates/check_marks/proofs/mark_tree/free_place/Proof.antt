@@ -29,7 +29,7 @@ key-of-requires c κs =
 loop-holds : tie.Need-loop-init invariant-loop decreases-loop
 unfolding key_at
 loop-holds c =
-    searched-start _ _ _ _ _ c.before.before.before.requires.2 (c.key_of.ensures ∙ ap mag (back _ c.before.word_at.type-inv ∙ c.before.word_at.ensures))
+    searched-start _ _ _ _ _ c.before.before.before.requires.2 (c.key_of.ensures ∙ ap mag (back _ c.before.word-at.type-inv ∙ c.before.word-at.ensures))
 
 same-mark-requires : tie.Need-same-mark-requires invariant-loop decreases-loop
 same-mark-requires c κs =

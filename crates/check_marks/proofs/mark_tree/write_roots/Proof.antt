@@ -3,8 +3,8 @@ use mathlib.Core.Path.{◌≡◌, refl}
 use Prim.Native.Nat.{◌≤◌, ◌<◌, ◌-◌}
 use native.Mathlib.Omega.{arith}
 use lib.ListN.{length, length-set}
-use Rattle.words.specs.Table.{rowCount}
-use Rattle.check_items.specs.EarlierLaws.{earlier-inside}
+use Rattle.words.specs.Table.{row_count}
+use Rattle.check_items.proofs.EarlierLaws.{earlier-inside}
 use Rattle.check_marks.specs.MarkTree.{Roots}
 use Rattle.check_marks.specs.MarkTreeLaws.{roots-start, roots-next}
 use Rattle.check_marks.proofs.mark_tree.write_roots.Statement.{statement}
@@ -12,11 +12,11 @@ use Rattle.check_marks.proofs.mark_tree.write_roots.Tie as tie
 
 abbrev invariant-loop : tie.invariant-loop
 invariant-loop rows before roots₀ row₀ row-end roots row =
-    (row ≤ rowCount rows) × (length roots ≡ length roots₀) × Roots rows row roots
+    (row ≤ row_count rows) × (length roots ≡ length roots₀) × Roots rows row roots
 
 abbrev decreases-loop : tie.decreases-loop
 decreases-loop rows before roots₀ row₀ row-end roots row =
-    rowCount rows - row
+    row_count rows - row
 
 loop-holds : tie.Need-loop-init invariant-loop decreases-loop
 loop-holds c =
@@ -47,7 +47,7 @@ loop-less c = omega arith
 loop-again : tie.Need-loop-preserved invariant-loop decreases-loop
 loop-again c =
     let tree = c.before.before.before.before.before.before.requires.0 in
-    let inside : c.before.before.before.loop.row < rowCount c.before.before.before.before.before.before.args.rows.now = omega arith in
+    let inside : c.before.before.before.loop.row < row_count c.before.before.before.before.before.before.args.rows.now = omega arith in
     let root = c.root-of.ensures in
     let note = c.before.before.before.before.before.before.requires.1.is _ inside in (
       omega arith,
@@ -60,7 +60,7 @@ same_length c = c.before.loop.invariant.1
 
 returns : tie.Need-returns invariant-loop decreases-loop
 returns c =
-    let all : c.before.loop.row ≡ rowCount c.before.before.before.before.args.rows.now = omega arith in rw (← all) c.before.loop.invariant.2
+    let all : c.before.loop.row ≡ row_count c.before.before.before.before.args.rows.now = omega arith in rw (← all) c.before.loop.invariant.2
 
 pub write-roots-spec : {M : Type 1} → statement M
 write-roots-spec =

@@ -1,6 +1,6 @@
 -- `lowest_repeated` begins with trees of no marks.
 use native.Mathlib.Omega.{arith}
-use Rattle.check_places.specs.NoteLaws.{mark-notes}
+use Rattle.check_places.proofs.NoteLaws.{mark-notes}
 use Rattle.check_marks.specs.MarkTreeLaws.{holds-marks-start}
 use borrow.Author.Rules.{rules}
 use Rattle.check_marks.proofs.marks.lowest_repeated.Statement.{statement}

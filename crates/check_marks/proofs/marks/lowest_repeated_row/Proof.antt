@@ -5,8 +5,8 @@ use Prim.Native.Nat.{◌≤◌, ◌-◌}
 use native.Mathlib.Omega.{arith}
 use lib.ListN.{length}
 use borrow.Author.Tests.{not-true, not-false}
-use Rattle.words.specs.Table.{rowCount}
-use Rattle.words.specs.Search.{lowestRow}
+use Rattle.words.specs.Table.{row_count}
+use Rattle.words.specs.Search.{lowest_row}
 use Rattle.words.specs.SearchLaws.{Looked, looked-start, looked-on, looked-hit, looked-end}
 use Rattle.check_marks.specs.Marks.{repeated}
 use Rattle.check_marks.specs.MarkTree.{HoldsMarks}
@@ -15,7 +15,7 @@ use Rattle.check_marks.proofs.marks.lowest_repeated_row.Tie as tie
 
 abbrev invariant-loop : tie.invariant-loop
 invariant-loop rows roots children₀ count row₀ children row =
-    (row ≤ count) × (count ≡ rowCount rows) × (length children ≡ length children₀) × HoldsMarks rows roots row children × Looked (repeated rows) count row
+    (row ≤ count) × (count ≡ row_count rows) × (length children ≡ length children₀) × HoldsMarks rows roots row children × Looked (repeated rows) count row
 
 abbrev decreases-loop : tie.decreases-loop
 decreases-loop rows roots children₀ count row₀ children row =
@@ -35,7 +35,7 @@ same_length c =
     c.before.before.before.take_in.auto.1.1.0 ∙ c.before.before.before.before.before.before.loop.invariant.2
 
 returns : tie.Need-returns invariant-loop decreases-loop
-unfolding lowestRow
+unfolding lowest_row
 returns c =
     looked-hit _ _ _ true (omega arith) c.before.before.before.before.before.before.loop.invariant.4 (sym (rw (not-true c.before.before.before.take_in.result c.if1.true) at c.before.before.before.take_in.ensures)) refl
 
@@ -50,14 +50,14 @@ loop-less c =
 loop-again : tie.Need-loop-preserved invariant-loop decreases-loop
 loop-again c =
     let taken = rw (not-false c.before.before.before.take_in.result c.if1.false) at c.before.before.before.take_in.ensures in
-    (omega arith, refl, c.before.before.before.take_in.auto.1.1.0 ∙ c.before.before.before.before.before.before.loop.invariant.2, taken.holds-marks, looked-on _ _ _ false (omega arith) c.before.before.before.before.before.before.loop.invariant.4 (sym taken.new) refl)
+    (omega arith, refl, c.before.before.before.take_in.auto.1.1.0 ∙ c.before.before.before.before.before.before.loop.invariant.2, taken.holds_marks, looked-on _ _ _ false (omega arith) c.before.before.before.before.before.before.loop.invariant.4 (sym taken.new) refl)
 
 same-length-2 : tie.Need-same-length-2 invariant-loop decreases-loop
 same-length-2 c =
     c.before.loop.invariant.2
 
 returns-2 : tie.Need-returns-2 invariant-loop decreases-loop
-unfolding lowestRow
+unfolding lowest_row
 returns-2 c =
     looked-end _ _ _ (omega arith) c.before.loop.invariant.4
 

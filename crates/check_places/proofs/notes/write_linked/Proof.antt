@@ -125,10 +125,10 @@ returns c =
     let start = c.before.before.before.before.before.before.before.before.before.before.before.before.before in
     let links = start.requires.0.2 in
     let taken = c.before.before.before.before.before.before.before.before.if1.true in
-    let in-loop = written-link _ _ _ _ _ _ links taken c.before.before.before.before.before.before.hand-inside.ensures in
+    let in_loop = written-link _ _ _ _ _ _ links taken c.before.before.before.before.before.before.hand-inside.ensures in
     let breakable = written-link _ _ _ _ _ _ links taken c.before.before.before.before.hand-inside2.ensures in
     let item = written-link _ _ _ _ _ _ links taken c.before.before.hand-item.ensures in
-    (in-loop, (breakable, (item, written-link _ _ _ _ _ _ links taken c.hand-before.ensures)))
+    (in_loop, (breakable, (item, written-link _ _ _ _ _ _ links taken c.hand-before.ensures)))
 
 returns-2 : tie.Need-returns-2
 returns-2 c =

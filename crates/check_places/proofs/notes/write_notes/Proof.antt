@@ -5,7 +5,7 @@ use native.Mathlib.Omega.{arith}
 use lib.ListN.{length}
 use Rattle.words.specs.Links.{target}
 use Rattle.check_notes.specs.RowNoteLaws.{Noting, noting-begun, noting-on, noting-ended}
-use Rattle.check_places.specs.Places.{in_loop, inLoopOrSwitch, switchItem, markBefore}
+use Rattle.check_places.specs.Places.{in_loop, in_loop_or_switch, switch_item, mark_before}
 use Rattle.check_places.proofs.notes.write_notes.Statement.{statement}
 use Rattle.check_places.proofs.notes.write_notes.Tie as tie
 
@@ -13,9 +13,9 @@ abbrev invariant-loop : tie.invariant-loop
 invariant-loop kinds rows loops₀ breakable₀ items₀ before₀ word₀ word_end loops breakable items before word =
     (word ≤ length rows)
     × Noting in_loop rows loops₀ word loops
-    × Noting inLoopOrSwitch rows breakable₀ word breakable
-    × Noting switchItem rows items₀ word items
-    × Noting markBefore rows before₀ word before
+    × Noting in_loop_or_switch rows breakable₀ word breakable
+    × Noting switch_item rows items₀ word items
+    × Noting mark_before rows before₀ word before
 
 abbrev decreases-loop : tie.decreases-loop
 decreases-loop kinds rows loops₀ breakable₀ items₀ before₀ word₀ word_end loops breakable items before word =
@@ -85,7 +85,7 @@ returns c =
     let t = c.before.before.before.before.before.before.requires.0 in
     let held = c.before.loop.invariant in
     record {
-      in-loop = noting-ended t (omega arith) held.1;
+      in_loop = noting-ended t (omega arith) held.1;
       in-loop-or-switch = noting-ended t (omega arith) held.2;
       switch-item = noting-ended t (omega arith) held.3;
       mark-before = noting-ended t (omega arith) held.4;

@@ -3,16 +3,16 @@ use mathlib.Core.Path.{◌≡◌, refl}
 use Prim.Native.Nat.{ℕ, ◌≤◌, ◌-◌}
 use native.Mathlib.Omega.{arith}
 use lib.ListN.{get_or}
-use Rattle.words.specs.Table.{rowCount, numberAt}
-use Rattle.words.specs.Search.{lowestRow}
+use Rattle.words.specs.Table.{row_count, numberAt}
+use Rattle.words.specs.Search.{lowest_row}
 use Rattle.words.specs.SearchLaws.{Looked, looked-start, looked-on, looked-hit, looked-end}
-use Rattle.check_places.specs.Places.{outOfPlace}
+use Rattle.check_places.specs.Places.{out_of_place}
 use Rattle.check_places.proofs.places.lowest_out_of_place.Statement.{statement}
 use Rattle.check_places.proofs.places.lowest_out_of_place.Tie as tie
 
 abbrev invariant-loop : tie.invariant-loop
 invariant-loop rows loops breakable items count row₀ row =
-    (row ≤ count) × (count ≡ rowCount rows) × Looked (λ (i : ℕ). outOfPlace (numberAt rows i 0) (get_or loops i 0) (get_or breakable i 0) (get_or items i 0)) count row
+    (row ≤ count) × (count ≡ row_count rows) × Looked (λ (i : ℕ). out_of_place (numberAt rows i 0) (get_or loops i 0) (get_or breakable i 0) (get_or items i 0)) count row
 
 abbrev decreases-loop : tie.decreases-loop
 decreases-loop rows loops breakable items count row₀ row =
@@ -55,7 +55,7 @@ is-out-of-place-requires c κs =
     tt
 
 returns : tie.Need-returns invariant-loop decreases-loop
-unfolding lowestRow
+unfolding lowest_row
 returns c =
     looked-hit _ _ _ _ (omega arith) c.before.before.before.before.before.before.before.loop.invariant.2 (rw c.before.before.before.before.before.number-at.ensures at c.before.is-out-of-place.ensures) c.if1.true
 
@@ -72,7 +72,7 @@ loop-again c =
     (omega arith, refl, looked-on _ _ _ _ (omega arith) c.before.before.before.before.before.before.before.loop.invariant.2 (rw c.before.before.before.before.before.number-at.ensures at c.before.is-out-of-place.ensures) c.if1.false)
 
 returns-2 : tie.Need-returns-2 invariant-loop decreases-loop
-unfolding lowestRow
+unfolding lowest_row
 returns-2 c =
     looked-end _ _ _ (omega arith) c.before.loop.invariant.2
 

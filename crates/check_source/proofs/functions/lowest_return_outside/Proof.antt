@@ -1,6 +1,6 @@
 -- `lowest_return_outside` finds nothing where there is no function.
 use mathlib.Core.Path.{sym, ◌∙◌}
-use Rattle.check_function_causes.specs.AcceptsFunctions.{without-functions, functionless-inside}
+use Rattle.check_function_causes.proofs.AcceptsFunctions.{without-functions, functionless-inside}
 use borrow.Author.Rules.{rules}
 use Rattle.check_source.proofs.functions.lowest_return_outside.Statement.{statement}
 use Rattle.check_source.proofs.functions.lowest_return_outside.Tie as tie

@@ -1,6 +1,6 @@
 -- `field_cause` makes its definition's three tests in order.
 use borrow.Author.Rules.{rules}
-use Rattle.check_structure.specs.Passes.{fieldCause}
+use Rattle.check_structure.specs.Passes.{field_cause}
 use Rattle.check_structure.proofs.causes.field_cause.Statement.{statement}
 use Rattle.check_structure.proofs.causes.field_cause.Tie as tie
 
@@ -8,14 +8,14 @@ is-foreign-requires : tie.Need-is-foreign-requires
 is-foreign-requires c κs = search rules
 
 returns : tie.Need-returns
-unfolding fieldCause
+unfolding field_cause
 returns c = rw (← c.before.is-foreign.ensures, c.if1.true)
 
 is-mislinked-requires : tie.Need-is-mislinked-requires
 is-mislinked-requires c κs = search rules
 
 returns-2 : tie.Need-returns-2
-unfolding fieldCause
+unfolding field_cause
 returns-2 c =
     rw (← c.before.before.before.is-foreign.ensures, c.before.before.if1.false, ← c.before.is-mislinked.ensures, c.if2.true)
 
@@ -23,12 +23,12 @@ is-outside-requires : tie.Need-is-outside-requires
 is-outside-requires c κs = search rules
 
 returns-3 : tie.Need-returns-3
-unfolding fieldCause
+unfolding field_cause
 returns-3 c =
     rw (← c.before.before.before.before.before.is-foreign.ensures, c.before.before.before.before.if1.false, ← c.before.before.before.is-mislinked.ensures, c.before.before.if2.false, ← c.before.is-outside.ensures, c.if3.true)
 
 returns-4 : tie.Need-returns-4
-unfolding fieldCause
+unfolding field_cause
 returns-4 c =
     rw (← c.before.before.before.before.before.is-foreign.ensures, c.before.before.before.before.if1.false, ← c.before.before.before.is-mislinked.ensures, c.before.before.if2.false, ← c.before.is-outside.ensures, c.if3.false)
 

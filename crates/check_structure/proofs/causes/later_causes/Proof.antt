@@ -1,7 +1,7 @@
 -- `later_causes` takes cause 5, then what the pass found.
 use mathlib.Core.Path.{sym}
 use borrow.Author.Tests.{lt-ltb, le-ltb}
-use Rattle.check_structure.specs.Passes.{laterCauses}
+use Rattle.check_structure.specs.Passes.{later_causes}
 use Rattle.check_structure.specs.RefusalLaws.{ends, goes_on}
 use borrow.Author.Rules.{rules}
 use Rattle.check_structure.proofs.causes.later_causes.Statement.{statement}
@@ -17,7 +17,7 @@ same_length : tie.Need-same-length
 same_length c = search rules
 
 returns : tie.Need-returns
-unfolding laterCauses
+unfolding later_causes
 returns c =
     ends _ _ _ _ _ c.before.once.given.1 c.before.before.before.before.before.lowest-not-once.ensures
 
@@ -28,7 +28,7 @@ same-length-2 : tie.Need-same-length-2
 same-length-2 c = search rules
 
 returns-2 : tie.Need-returns-2
-unfolding laterCauses
+unfolding later_causes
 returns-2 c =
     rw (lt-ltb _ _ c.if1.true) (sym (goes_on _ _ _ _ c.before.before.enum_told.given.1 c.before.before.before.before.before.before.lowest-not-once.ensures))
 
@@ -36,7 +36,7 @@ same-length-3 : tie.Need-same-length-3
 same-length-3 c = search rules
 
 returns-3 : tie.Need-returns-3
-unfolding laterCauses
+unfolding later_causes
 returns-3 c =
     rw (le-ltb _ _ c.if1.false) (sym (goes_on _ _ _ _ c.before.before.enum_told.given.1 c.before.before.before.before.before.before.lowest-not-once.ensures))
 

@@ -4,22 +4,22 @@ use Prim.Native.Nat.{◌/◌, ◌≤◌, ◌-◌}
 use native.Mathlib.Omega.{arith}
 use lib.ListN.{length}
 use borrow.Author.Rules.{rules}
-use Rattle.words.specs.Table.{rowCount}
-use Rattle.check_structure.specs.Passes.{rowCause, lowestCause}
-use Rattle.check_structure.specs.CauseLaws.{lowestCause-more}
+use Rattle.words.specs.Table.{row_count}
+use Rattle.check_structure.specs.Passes.{row_cause, lowest_cause}
+use Rattle.check_structure.specs.CauseLaws.{lowest_cause-more}
 use Rattle.check_structure.proofs.causes.lowest_marked_cause.Statement.{statement}
 use Rattle.check_structure.proofs.causes.lowest_marked_cause.Tie as tie
 
 abbrev invariant-loop : tie.invariant-loop
 invariant-loop kinds form bounds rows parameters count found₀ row₀ found row =
-    (row ≤ count) × (count ≡ rowCount rows) × (found ≡ lowestCause (rowCause form bounds rows) row)
+    (row ≤ count) × (count ≡ row_count rows) × (found ≡ lowest_cause (row_cause form bounds rows) row)
 
 abbrev decreases-loop : tie.decreases-loop
 decreases-loop kinds form bounds rows parameters count found₀ row₀ found row =
     count - row
 
 loop-holds : tie.Need-loop-init invariant-loop decreases-loop
-unfolding lowestCause
+unfolding lowest_cause
 loop-holds c = (omega arith, refl, refl)
 
 row-cause-requires : tie.Need-row-cause-requires invariant-loop decreases-loop
@@ -36,7 +36,7 @@ loop-less c = omega arith
 
 loop-again : tie.Need-loop-preserved invariant-loop decreases-loop
 loop-again c =
-    (omega arith, refl, rw (lowestCause-more, ← c.before.before.before.loop.invariant.2, ← c.before.row-cause.ensures) c.lower.ensures)
+    (omega arith, refl, rw (lowest_cause-more, ← c.before.before.before.loop.invariant.2, ← c.before.row-cause.ensures) c.lower.ensures)
 
 returns : tie.Need-returns invariant-loop decreases-loop
 returns c =

@@ -3,16 +3,16 @@ use mathlib.Core.Path.{◌≡◌, refl}
 use Prim.Native.Nat.{ℕ, ◌≤◌, ◌-◌}
 use native.Mathlib.Omega.{arith}
 use lib.ListN.{get_or}
-use Rattle.words.specs.Table.{rowCount}
-use Rattle.check_structure.specs.Links.{notOnce}
-use Rattle.words.specs.Search.{lowestRow}
+use Rattle.words.specs.Table.{row_count}
+use Rattle.check_structure.specs.Links.{not_once}
+use Rattle.words.specs.Search.{lowest_row}
 use Rattle.words.specs.SearchLaws.{Looked, looked-start, looked-on, looked-hit, looked-end}
 use Rattle.check_structure.proofs.causes.lowest_not_marked_once.Statement.{statement}
 use Rattle.check_structure.proofs.causes.lowest_not_marked_once.Tie as tie
 
 abbrev invariant-loop : tie.invariant-loop
 invariant-loop rows marks count row₀ row =
-    (row ≤ count) × (count ≡ rowCount rows) × Looked (λ (i : ℕ). notOnce rows (get_or marks i 0) i) count row
+    (row ≤ count) × (count ≡ row_count rows) × Looked (λ (i : ℕ). not_once rows (get_or marks i 0) i) count row
 
 abbrev decreases-loop : tie.decreases-loop
 decreases-loop rows marks count row₀ row =
@@ -31,7 +31,7 @@ is-not-once-requires c κs =
     omega arith
 
 returns : tie.Need-returns invariant-loop decreases-loop
-unfolding lowestRow
+unfolding lowest_row
 returns c =
     looked-hit _ _ _ _ (omega arith) c.before.before.before.before.loop.invariant.2 (rw c.before.before.mark-at.ensures at c.before.is-not-once.ensures) c.if1.true
 
@@ -48,7 +48,7 @@ loop-again c =
     (omega arith, refl, looked-on _ _ _ _ (omega arith) c.before.before.before.before.loop.invariant.2 (rw c.before.before.mark-at.ensures at c.before.is-not-once.ensures) c.if1.false)
 
 returns-2 : tie.Need-returns-2 invariant-loop decreases-loop
-unfolding lowestRow
+unfolding lowest_row
 returns-2 c =
     looked-end _ _ _ (omega arith) c.before.loop.invariant.2
 

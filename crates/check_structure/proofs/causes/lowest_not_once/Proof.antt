@@ -1,6 +1,6 @@
 -- `lowest_not_once` marks all links, then looks for a row whose mark is not 1.
 use mathlib.Core.Path.{◌∙◌}
-use Rattle.words.specs.SearchLaws.{lowestRow-same}
+use Rattle.words.specs.SearchLaws.{lowest_row-same}
 use Rattle.check_structure.proofs.Marks.{marked-once}
 use borrow.Author.Rules.{rules}
 use Rattle.check_structure.proofs.causes.lowest_not_once.Statement.{statement}
@@ -17,7 +17,7 @@ same_length c = search rules
 
 returns : tie.Need-returns
 returns c =
-    c.lowest-not-marked-once.ensures ∙ lowestRow-same _ _ _ (marked-once _ _ c.before.before.before.before.before.before.before.requires.0 c.before.before.before.before.mark-links.ensures)
+    c.lowest-not-marked-once.ensures ∙ lowest_row-same _ _ _ (marked-once _ _ c.before.before.before.before.before.before.before.requires.0 c.before.before.before.before.mark-links.ensures)
 
 pub lowest-not-once-spec : {M : Type 1} → statement M
 lowest-not-once-spec =

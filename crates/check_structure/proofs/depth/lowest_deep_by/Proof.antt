@@ -11,7 +11,7 @@ depth-limit-requires c κs = search rules
 
 lowest-deep-requires : tie.Need-lowest-deep-requires
 lowest-deep-requires c κs =
-    (c.before.requires.0, limit-most c.before.args.form _ c.depth-limit.ensures, c.before.requires.0.some-rows, omega arith, depth-root _, c.before.requires.1)
+    (c.before.requires.0, limit-most c.before.args.form _ c.depth-limit.ensures, c.before.requires.0.some_rows, omega arith, depth-root _, c.before.requires.1)
 
 returns : tie.Need-returns
 returns c =

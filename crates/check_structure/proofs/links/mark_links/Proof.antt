@@ -4,7 +4,7 @@ use Prim.Native.Nat.{◌+◌, ◌*◌, ◌≤◌, ◌-◌}
 use native.Mathlib.Omega.{arith}
 use lib.ListN.{length}
 use borrow.Author.Rules.{rules}
-use Rattle.words.specs.Table.{rowCount}
+use Rattle.words.specs.Table.{row_count}
 use Rattle.check_structure.specs.Passes.{Marked}
 use Rattle.check_structure.proofs.Marks.{marked_next}
 use Rattle.check_structure.proofs.links.mark_links.Statement.{statement}
@@ -12,7 +12,7 @@ use Rattle.check_structure.proofs.links.mark_links.Tie as tie
 
 abbrev invariant-loop : tie.invariant-loop
 invariant-loop kinds rows marks₀ count row₀ marks row =
-    (row ≤ count) × (count ≡ rowCount rows) × (length marks ≡ length marks₀) × Marked rows (6 * row) marks
+    (row ≤ count) × (count ≡ row_count rows) × (length marks ≡ length marks₀) × Marked rows (6 * row) marks
 
 abbrev decreases-loop : tie.decreases-loop
 decreases-loop kinds rows marks₀ count row₀ marks row =

@@ -5,7 +5,7 @@ use native.Mathlib.Omega.{arith}
 use lib.ListN.{length}
 use borrow.Author.Rules.{rules}
 use Rattle.check_structure.specs.Passes.{Marked}
-use Rattle.check_structure.proofs.Marks.{length-markedLink, marked-begin, marked-field}
+use Rattle.check_structure.proofs.Marks.{length-marked_link, marked-begin, marked-field}
 use Rattle.check_structure.proofs.links.mark_row.Statement.{statement}
 use Rattle.check_structure.proofs.links.mark_row.Tie as tie
 
@@ -36,7 +36,7 @@ loop-less c = omega arith
 
 loop-again : tie.Need-loop-preserved invariant-loop decreases-loop
 loop-again c =
-    (omega arith, ap length c.before.before.mark-link.ensures ∙ length-markedLink _ _ ∙ c.before.before.before.before.before.before.loop.invariant.1, marked-field _ _ _ _ _ _ (omega arith) c.before.before.before.before.before.before.loop.invariant.2 c.before.before.before.link.ensures c.before.before.mark-link.ensures)
+    (omega arith, ap length c.before.before.mark-link.ensures ∙ length-marked_link _ _ ∙ c.before.before.before.before.before.before.loop.invariant.1, marked-field _ _ _ _ _ _ (omega arith) c.before.before.before.before.before.before.loop.invariant.2 c.before.before.before.link.ensures c.before.before.mark-link.ensures)
 
 same_length : tie.Need-same-length invariant-loop decreases-loop
 same_length c = c.before.loop.invariant.1

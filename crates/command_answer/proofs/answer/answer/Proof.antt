@@ -1,7 +1,7 @@
 -- `answer`: the limits, then the request.
 use native.Mathlib.Omega.{arith}
 use borrow.Author.Tests.{le-leb, lt-leb}
-use Rattle.command_answer.specs.Output.{commandOutput}
+use Rattle.command_answer.specs.Output.{command_output}
 use borrow.Author.Rules.{rules}
 use Rattle.command_answer.proofs.answer.answer.Statement.{statement}
 use Rattle.command_answer.proofs.answer.answer.Tie as tie
@@ -13,7 +13,7 @@ same_length : tie.Need-same-length
 same_length c = search rules
 
 returns : tie.Need-returns
-unfolding commandOutput
+unfolding command_output
 returns c = rw (lt-leb _ _ c.before.before.before.before.if1.true) c.before.before.long-text-line.ensures
 
 long-store-line-requires : tie.Need-long-store-line-requires
@@ -23,7 +23,7 @@ same-length-2 : tie.Need-same-length-2
 same-length-2 c = search rules
 
 returns-2 : tie.Need-returns-2
-unfolding commandOutput
+unfolding command_output
 returns-2 c = rw (le-leb _ _ c.before.before.before.before.before.if1.false, lt-leb _ _ c.before.before.before.before.if2.true) c.before.before.long-store-line.ensures
 
 request-answer-requires : tie.Need-request-answer-requires
@@ -39,7 +39,7 @@ same-length-5 : tie.Need-same-length-5
 same-length-5 c = search rules
 
 returns-3 : tie.Need-returns-3
-unfolding commandOutput
+unfolding command_output
 returns-3 c = rw (le-leb _ _ c.before.before.before.before.before.before.before.before.before.if1.false, le-leb _ _ c.before.before.before.before.before.before.before.before.if2.false) c.before.before.before.before.request-answer.ensures
 
 pub answer-spec : {M : Type 1} → statement M

@@ -6,16 +6,16 @@ use native.Mathlib.Omega.{arith}
 use lib.ListN.{length, take}
 use lib.Seq.{length-take-le}
 use Rattle.text_numbers.specs.PutLaws.{Put-as}
-use Rattle.command_answer.specs.Output.{commandOutput}
-use Rattle.command_request.specs.Inputs.{bytesRead}
+use Rattle.command_answer.specs.Output.{command_output}
+use Rattle.command_request.specs.Inputs.{bytes_read}
 use Rattle.command_request.specs.declared.Input.{Input}
-use Rattle.command_answer.specs.Inputs.{inputsOutput}
+use Rattle.command_answer.specs.Inputs.{inputs_output}
 use borrow.Author.Rules.{rules}
 use Rattle.command_answer.proofs.answer.inputs_answer.Statement.{statement}
 use Rattle.command_answer.proofs.answer.inputs_answer.Tie as tie
 
 -- the bytes that were read, at the start of a buffer
-counted : (input : Input) (n : ℕ) (bytes : List ℕ) → n ≡ bytesRead input → bytesRead input ≤ length bytes → n ≡ length (take n bytes)
+counted : (input : Input) (n : ℕ) (bytes : List ℕ) → n ≡ bytes_read input → bytes_read input ≤ length bytes → n ≡ length (take n bytes)
 counted input n bytes e h = sym (length-take-le n bytes (omega (arith, e, h)))
 
 is-unreadable-requires : tie.Need-is-unreadable-requires
@@ -28,7 +28,7 @@ same_length : tie.Need-same-length
 same_length c = search rules
 
 returns : tie.Need-returns
-unfolding inputsOutput
+unfolding inputs_output
 returns c = rw (sym c.before.before.before.before.before.is-unreadable.ensures ∙ c.before.before.before.before.if1.true) c.before.before.unreadable-text-line.ensures
 
 is-unreadable-requires-2 : tie.Need-is-unreadable-requires-2
@@ -41,7 +41,7 @@ same-length-2 : tie.Need-same-length-2
 same-length-2 c = search rules
 
 returns-2 : tie.Need-returns-2
-unfolding inputsOutput
+unfolding inputs_output
 returns-2 c = rw (sym c.before.before.before.before.before.before.before.is-unreadable.ensures ∙ c.before.before.before.before.before.before.if1.false, sym c.before.before.before.before.before.is-unreadable2.ensures ∙ c.before.before.before.before.if2.true) c.before.before.unreadable-store-line.ensures
 
 bytes-read-requires : tie.Need-bytes-read-requires
@@ -69,10 +69,10 @@ same-length-5 : tie.Need-same-length-5
 same-length-5 c = search rules
 
 returns-3 : tie.Need-returns-3
-unfolding inputsOutput
+unfolding inputs_output
 returns-3 c =
     rw (sym c.before.before.before.before.before.before.before.before.before.before.before.before.before.before.before.is-unreadable.ensures ∙ c.before.before.before.before.before.before.before.before.before.before.before.before.before.before.if1.false, sym c.before.before.before.before.before.before.before.before.before.before.before.before.before.is-unreadable2.ensures ∙ c.before.before.before.before.before.before.before.before.before.before.before.before.if2.false)
-    (Put-as (ap₂ (λ (n m : ℕ). commandOutput c.before.before.before.before.before.before.before.before.before.before.before.before.before.before.before.before.before.before.before.args.request (take n c.before.before.before.before.before.before.before.before.before.before.before.before.before.before.before.before.before.before.before.args.text.now) (take m c.before.before.before.before.before.before.before.before.before.before.before.before.before.before.before.before.before.before.before.args.stored.now)) c.before.before.before.before.before.before.before.before.before.before.before.bytes_read.ensures c.before.before.before.before.before.before.before.before.before.before.bytes-read2.ensures) c.before.before.before.before.answer.ensures)
+    (Put-as (ap₂ (λ (n m : ℕ). command_output c.before.before.before.before.before.before.before.before.before.before.before.before.before.before.before.before.before.before.before.args.request (take n c.before.before.before.before.before.before.before.before.before.before.before.before.before.before.before.before.before.before.before.args.text.now) (take m c.before.before.before.before.before.before.before.before.before.before.before.before.before.before.before.before.before.before.before.args.stored.now)) c.before.before.before.before.before.before.before.before.before.before.before.bytes_read.ensures c.before.before.before.before.before.before.before.before.before.before.bytes-read2.ensures) c.before.before.before.before.answer.ensures)
 
 pub inputs-answer-spec : {M : Type 1} → statement M
 inputs-answer-spec =

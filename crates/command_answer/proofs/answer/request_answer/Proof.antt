@@ -1,6 +1,6 @@
 -- `request_answer`: an arm for each request.
 use native.Mathlib.Omega.{arith}
-use Rattle.command_answer.specs.Output.{requestOutput}
+use Rattle.command_answer.specs.Output.{request_output}
 use Rattle.command_text.proofs.Printing.{roomy-any}
 use borrow.Author.Rules.{rules}
 use Rattle.command_answer.proofs.answer.request_answer.Statement.{statement}
@@ -52,7 +52,7 @@ same-length-3 : tie.Need-same-length-3
 same-length-3 c = search rules
 
 returns : tie.Need-returns
-unfolding requestOutput
+unfolding request_output
 returns c = rw c.before.before.before.before.before.before.before.before.before.request.given.1 c.before.before.before.before.question-answer.ensures
 
 same-length-4 : tie.Need-same-length-4
@@ -65,7 +65,7 @@ same-length-6 : tie.Need-same-length-6
 same-length-6 c = search rules
 
 returns-2 : tie.Need-returns-2
-unfolding requestOutput
+unfolding request_output
 returns-2 c = rw c.before.before.before.before.before.before.before.before.before.request2.given.1 c.before.before.before.before.translation-answer.ensures
 
 same-length-7 : tie.Need-same-length-7
@@ -78,28 +78,28 @@ same-length-9 : tie.Need-same-length-9
 same-length-9 c = search rules
 
 returns-3 : tie.Need-returns-3
-unfolding requestOutput
+unfolding request_output
 returns-3 c = rw c.before.before.before.before.before.before.before.before.before.request3.given.1 c.before.before.before.before.start-answer.ensures
 
 same-length-10 : tie.Need-same-length-10
 same-length-10 c = search rules
 
 returns-4 : tie.Need-returns-4
-unfolding requestOutput
+unfolding request_output
 returns-4 c = rw c.before.before.before.before.enum_told.given.1 c.before.before.join-answer.ensures
 
 same-length-11 : tie.Need-same-length-11
 same-length-11 c = search rules
 
 returns-5 : tie.Need-returns-5
-unfolding requestOutput
+unfolding request_output
 returns-5 c = rw c.before.before.before.before.enum-told2.given.1 c.before.before.usage-line.ensures
 
 same-length-12 : tie.Need-same-length-12
 same-length-12 c = search rules
 
 returns-6 : tie.Need-returns-6
-unfolding requestOutput
+unfolding request_output
 returns-6 c = rw c.before.before.before.before.enum-told3.given.1 c.before.before.wrong-budget-line.ensures
 
 pub request-answer-spec : {M : Type 1} → statement M

@@ -1,7 +1,7 @@
 -- `join_answer`: the refusal of the reader, or the join of what it read.
 use Rattle.words.specs.declared.Form.TheVariants.{Source}
 use Rattle.text_numbers.specs.PutLaws.{Put-as}
-use Rattle.command_questions.specs.Joins.{secondOutput, joinOutput}
+use Rattle.command_questions.specs.Joins.{second_output, join_output}
 use Rattle.command_text.proofs.Readings.{refused-text, read-text}
 use Rattle.command_text.proofs.Printing.{source-roomy}
 use borrow.Author.Rules.{rules}
@@ -34,7 +34,7 @@ part-join-second-start c = search rules
 
 part-join-second-end : tie.Need-slice-bounds-join-second-end
 part-join-second-end c =
-    (read-text Source c.before.before.before.before.before.before.before.before.before.before.before.before.args.text.now source-roomy (rw c.before.before.answer2.given.1 at c.before.before.before.before.before.before.read.ensures)).header-inside
+    (read-text Source c.before.before.before.before.before.before.before.before.before.before.before.before.args.text.now source-roomy (rw c.before.before.answer2.given.1 at c.before.before.before.before.before.before.read.ensures)).header_inside
 
 sub-join-second-2 : tie.Need-overflow-sub-join-second-2
 sub-join-second-2 c = search rules
@@ -53,19 +53,19 @@ same_length : tie.Need-same-length
 same_length c = search rules
 
 returns : tie.Need-returns
-unfolding joinOutput
+unfolding join_output
 returns c =
     let s = c.before.before.before.before.before.before.before.before.before.before.before.before.before.before.before in
-    Put-as (refused-text Source s.args.text.now source-roomy _ _ _ (rw c.before.before.before.before.before.answer.given.1 at c.before.before.before.before.before.before.before.before.before.read.ensures) (secondOutput s.args.second.now)) c.before.before.refused-line.ensures
+    Put-as (refused-text Source s.args.text.now source-roomy _ _ _ (rw c.before.before.before.before.before.answer.given.1 at c.before.before.before.before.before.before.before.before.before.read.ensures) (second_output s.args.second.now)) c.before.before.refused-line.ensures
 
 same-length-2 : tie.Need-same-length-2
 same-length-2 c = search rules
 
 returns-2 : tie.Need-returns-2
-unfolding joinOutput
+unfolding join_output
 returns-2 c =
     let s = c.before.before.before.before.before.before.before.before.before.before.before.before.before.before.before.before.before.before.before in
-    Put-as ((read-text Source s.args.text.now source-roomy (rw c.before.before.before.before.before.before.before.before.before.answer2.given.1 at c.before.before.before.before.before.before.before.before.before.before.before.before.before.read.ensures)).is (secondOutput s.args.second.now)) c.before.before.join-second.ensures
+    Put-as ((read-text Source s.args.text.now source-roomy (rw c.before.before.before.before.before.before.before.before.before.answer2.given.1 at c.before.before.before.before.before.before.before.before.before.before.before.before.before.read.ensures)).is (second_output s.args.second.now)) c.before.before.join-second.ensures
 
 pub join-answer-spec : {M : Type 1} → statement M
 join-answer-spec =

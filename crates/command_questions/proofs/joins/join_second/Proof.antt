@@ -2,11 +2,11 @@
 use mathlib.Core.Path.{ap, ◌∙◌}
 use Rattle.words.specs.declared.Form.TheVariants.{Source}
 use Rattle.text_numbers.specs.PutLaws.{Put-as}
-use Rattle.program_runs.specs.Runs.{refusalOf}
-use Rattle.command_questions.specs.Joins.{afterCheck, joinText, secondOutput}
+use Rattle.program_runs.specs.Runs.{refusal_of}
+use Rattle.command_questions.specs.Joins.{after_check, join_text, second_output}
 use Rattle.command_text.proofs.Readings.{refused-text, read-text}
 use Rattle.command_text.proofs.Printing.{source-roomy}
-use Rattle.command_questions.proofs.JoinedTexts.{after_check}
+use Rattle.command_questions.proofs.JoinedTexts.{after-check}
 use borrow.Author.Rules.{rules}
 use Rattle.command_questions.proofs.joins.join_second.Statement.{statement}
 use Rattle.command_questions.proofs.joins.join_second.Tie as tie
@@ -37,7 +37,7 @@ part-put-join-text-start c = search rules
 
 part-put-join-text-end : tie.Need-slice-bounds-put-join-text-end
 part-put-join-text-end c =
-    (read-text Source c.before.before.before.before.before.before.before.before.before.before.before.args.text.now source-roomy (rw c.before.before.answer2.given.1 at c.before.before.before.before.before.before.read.ensures)).header-inside
+    (read-text Source c.before.before.before.before.before.before.before.before.before.before.before.args.text.now source-roomy (rw c.before.before.answer2.given.1 at c.before.before.before.before.before.before.read.ensures)).header_inside
 
 sub-put-join-text-2 : tie.Need-overflow-sub-put-join-text-2
 sub-put-join-text-2 c = search rules
@@ -56,19 +56,19 @@ same_length : tie.Need-same-length
 same_length c = search rules
 
 returns : tie.Need-returns
-unfolding secondOutput
+unfolding second_output
 returns c =
     let s = c.before.before.before.before.before.before.before.before.before.before.before.before.before.before in
-    Put-as (ap (afterCheck (refusalOf Source s.args.header.now s.args.rows.now)) (refused-text Source s.args.text.now source-roomy _ _ _ (rw c.before.before.before.before.before.answer.given.1 at c.before.before.before.before.before.before.before.before.before.read.ensures) (joinText s.args.header.now s.args.rows.now))) c.before.before.Put-refused.ensures
+    Put-as (ap (after_check (refusal_of Source s.args.header.now s.args.rows.now)) (refused-text Source s.args.text.now source-roomy _ _ _ (rw c.before.before.before.before.before.answer.given.1 at c.before.before.before.before.before.before.before.before.before.read.ensures) (join_text s.args.header.now s.args.rows.now))) c.before.before.Put-refused.ensures
 
 same-length-2 : tie.Need-same-length-2
 same-length-2 c = search rules
 
 returns-2 : tie.Need-returns-2
-unfolding secondOutput
+unfolding second_output
 returns-2 c =
     let s = c.before.before.before.before.before.before.before.before.before.before.before.before.before.before.before.before.before.before in
-    Put-as (after_check s.args.header.now s.args.rows.now _ _ ∙ ap (afterCheck (refusalOf Source s.args.header.now s.args.rows.now)) ((read-text Source s.args.text.now source-roomy (rw c.before.before.before.before.before.before.before.before.before.answer2.given.1 at c.before.before.before.before.before.before.before.before.before.before.before.before.before.read.ensures)).is (joinText s.args.header.now s.args.rows.now))) c.before.before.put-join-text.ensures
+    Put-as (after-check s.args.header.now s.args.rows.now _ _ ∙ ap (after_check (refusal_of Source s.args.header.now s.args.rows.now)) ((read-text Source s.args.text.now source-roomy (rw c.before.before.before.before.before.before.before.before.before.answer2.given.1 at c.before.before.before.before.before.before.before.before.before.before.before.before.before.read.ensures)).is (join_text s.args.header.now s.args.rows.now))) c.before.before.put-join-text.ensures
 
 pub join-second-spec : {M : Type 1} → statement M
 join-second-spec =

@@ -1,7 +1,7 @@
 -- `put_check`: the check, and its line.
 use mathlib.Core.Path.{ap}
 use Rattle.text_numbers.specs.PutLaws.{Put-as}
-use Rattle.command_lines.specs.Lines.{verdictLine}
+use Rattle.command_lines.specs.Lines.{verdict_line}
 use borrow.Author.Rules.{rules}
 use Rattle.command_questions.proofs.questions.put_check.Statement.{statement}
 use Rattle.command_questions.proofs.questions.put_check.Tie as tie
@@ -16,7 +16,7 @@ same_length : tie.Need-same-length
 same_length c = search rules
 
 returns : tie.Need-returns
-returns c = Put-as (ap verdictLine c.before.before.before.before.check-form.ensures) c.before.before.verdict-line.ensures
+returns c = Put-as (ap verdict_line c.before.before.before.before.check-form.ensures) c.before.before.verdict-line.ensures
 
 pub put-check-spec : {M : Type 1} → statement M
 put-check-spec = tie.close (tie.spec check-form-requires verdict-line-requires same_length returns)

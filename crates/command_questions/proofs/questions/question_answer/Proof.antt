@@ -1,6 +1,6 @@
 -- `question_answer`: the refusal of the reader, or the answer for what it read.
 use Rattle.text_numbers.specs.PutLaws.{Put-as}
-use Rattle.command_questions.specs.Questions.{questionLines, questionOutput}
+use Rattle.command_questions.specs.Questions.{question_lines, question_output}
 use borrow.Author.Rules.{rules}
 use Rattle.command_questions.proofs.questions.question_answer.Statement.{statement}
 use Rattle.command_questions.proofs.questions.question_answer.Tie as tie
@@ -24,7 +24,7 @@ part-put-question-start : tie.Need-slice-bounds-put-question-start
 part-put-question-start c = search rules
 
 part-put-question-end : tie.Need-slice-bounds-put-question-end
-part-put-question-end c = (rw c.before.before.answer2.given.1 at c.before.before.before.before.before.before.read-question.ensures).header-inside
+part-put-question-end c = (rw c.before.before.answer2.given.1 at c.before.before.before.before.before.before.read-question.ensures).header_inside
 
 sub-put-question-2 : tie.Need-overflow-sub-put-question-2
 sub-put-question-2 c = search rules
@@ -48,8 +48,8 @@ same-length-3 : tie.Need-same-length-3
 same-length-3 c = search rules
 
 returns : tie.Need-returns
-unfolding questionOutput
-returns c = Put-as ((rw c.before.before.before.before.before.answer.given.1 at c.before.before.before.before.before.before.before.before.before.read-question.ensures) (questionLines c.before.before.before.before.before.before.before.before.before.before.before.before.before.before.args.question)) c.before.before.refused-line.ensures
+unfolding question_output
+returns c = Put-as ((rw c.before.before.before.before.before.answer.given.1 at c.before.before.before.before.before.before.before.before.before.read-question.ensures) (question_lines c.before.before.before.before.before.before.before.before.before.before.before.before.before.before.args.question)) c.before.before.refused-line.ensures
 
 same-length-4 : tie.Need-same-length-4
 same-length-4 c = search rules
@@ -61,8 +61,8 @@ same-length-6 : tie.Need-same-length-6
 same-length-6 c = search rules
 
 returns-2 : tie.Need-returns-2
-unfolding questionOutput
-returns-2 c = Put-as ((rw c.before.before.before.before.before.before.before.before.before.answer2.given.1 at c.before.before.before.before.before.before.before.before.before.before.before.before.before.read-question.ensures).is (questionLines c.before.before.before.before.before.before.before.before.before.before.before.before.before.before.before.before.before.before.args.question)) c.before.before.put-question.ensures
+unfolding question_output
+returns-2 c = Put-as ((rw c.before.before.before.before.before.before.before.before.before.answer2.given.1 at c.before.before.before.before.before.before.before.before.before.before.before.before.before.read-question.ensures).is (question_lines c.before.before.before.before.before.before.before.before.before.before.before.before.before.before.before.before.before.before.args.question)) c.before.before.put-question.ensures
 
 pub question-answer-spec : {M : Type 1} → statement M
 question-answer-spec =

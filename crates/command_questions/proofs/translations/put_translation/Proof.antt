@@ -25,7 +25,7 @@ part-put-sheet-start : tie.Need-slice-bounds-put-sheet-start
 part-put-sheet-start c = search rules
 
 part-put-sheet-end : tie.Need-slice-bounds-put-sheet-end
-part-put-sheet-end c = (translated c.before.before.before.before.before.before.before.before.before.before.args.header.now c.before.before.before.before.before.before.before.before.before.before.args.rows.now c.before.before.before.before.before.before.before.before.before.before.requires.0 c.before.before.before.before.before.before.translate.ensures.1.0 (rw c.before.before.answer2.given.1 at c.before.before.before.before.before.before.translate.ensures.0) c.before.before.before.before.before.before.translate.auto.1.1.0 c.before.before.before.before.before.before.translate.auto.1.1.1.0).header-inside
+part-put-sheet-end c = (translated c.before.before.before.before.before.before.before.before.before.before.args.header.now c.before.before.before.before.before.before.before.before.before.before.args.rows.now c.before.before.before.before.before.before.before.before.before.before.requires.0 c.before.before.before.before.before.before.translate.ensures.1.0 (rw c.before.before.answer2.given.1 at c.before.before.before.before.before.before.translate.ensures.0) c.before.before.before.before.before.before.translate.auto.1.1.0 c.before.before.before.before.before.before.translate.auto.1.1.1.0).header_inside
 
 sub-put-sheet-2 : tie.Need-overflow-sub-put-sheet-2
 sub-put-sheet-2 c = search rules

@@ -1,7 +1,7 @@
 -- `translation_answer`: the refusal of the reader, or the translation of what it read.
 use Rattle.text_numbers.specs.PutLaws.{Put-as}
 use Rattle.command_text.proofs.Printing.{source-roomy}
-use Rattle.command_questions.specs.Translations.{translationSheet, translationOutput}
+use Rattle.command_questions.specs.Translations.{translation_sheet, translation_output}
 use borrow.Author.Rules.{rules}
 use Rattle.command_questions.proofs.translations.translation_answer.Statement.{statement}
 use Rattle.command_questions.proofs.translations.translation_answer.Tie as tie
@@ -31,7 +31,7 @@ part-put-translation-start : tie.Need-slice-bounds-put-translation-start
 part-put-translation-start c = search rules
 
 part-put-translation-end : tie.Need-slice-bounds-put-translation-end
-part-put-translation-end c = (rw c.before.before.answer2.given.1 at c.before.before.before.before.before.before.read-program.ensures).header-inside
+part-put-translation-end c = (rw c.before.before.answer2.given.1 at c.before.before.before.before.before.before.read-program.ensures).header_inside
 
 sub-put-translation-2 : tie.Need-overflow-sub-put-translation-2
 sub-put-translation-2 c = search rules
@@ -49,8 +49,8 @@ same_length : tie.Need-same-length
 same_length c = search rules
 
 returns : tie.Need-returns
-unfolding translationOutput
-returns c = Put-as ((rw c.before.before.before.before.before.answer.given.1 at c.before.before.before.before.before.before.before.before.before.read-program.ensures) (translationSheet c.before.before.before.before.before.before.before.before.before.before.before.before.before.before.args.sheet)) c.before.before.refused-line.ensures
+unfolding translation_output
+returns c = Put-as ((rw c.before.before.before.before.before.answer.given.1 at c.before.before.before.before.before.before.before.before.before.read-program.ensures) (translation_sheet c.before.before.before.before.before.before.before.before.before.before.before.before.before.before.args.sheet)) c.before.before.refused-line.ensures
 
 same-length-2 : tie.Need-same-length-2
 same-length-2 c = search rules
@@ -62,8 +62,8 @@ same-length-4 : tie.Need-same-length-4
 same-length-4 c = search rules
 
 returns-2 : tie.Need-returns-2
-unfolding translationOutput
-returns-2 c = Put-as ((rw c.before.before.before.before.before.before.before.before.before.before.before.before.before.answer2.given.1 at c.before.before.before.before.before.before.before.before.before.before.before.before.before.before.before.before.before.read-program.ensures).is (translationSheet c.before.before.before.before.before.before.before.before.before.before.before.before.before.before.before.before.before.before.before.before.before.before.args.sheet)) c.before.before.before.before.put-translation.ensures
+unfolding translation_output
+returns-2 c = Put-as ((rw c.before.before.before.before.before.before.before.before.before.before.before.before.before.answer2.given.1 at c.before.before.before.before.before.before.before.before.before.before.before.before.before.before.before.before.before.read-program.ensures).is (translation_sheet c.before.before.before.before.before.before.before.before.before.before.before.before.before.before.before.before.before.before.before.before.before.before.args.sheet)) c.before.before.before.before.put-translation.ensures
 
 pub translation-answer-spec : {M : Type 1} → statement M
 translation-answer-spec =

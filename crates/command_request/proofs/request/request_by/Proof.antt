@@ -1,5 +1,5 @@
 -- `request_by`: an arm for each verb.
-use Rattle.command_request.specs.Requests.{requestBy}
+use Rattle.command_request.specs.Requests.{request_by}
 use borrow.Author.Rules.{rules}
 use Rattle.command_request.proofs.request.request_by.Statement.{statement}
 use Rattle.command_request.proofs.request.request_by.Tie as tie
@@ -32,22 +32,22 @@ enum-told-2 : tie.Need-enum-told-2
 enum-told-2 c = search rules
 
 returns : tie.Need-returns
-unfolding requestBy
+unfolding request_by
 returns c = rw c.before.before.verb.given.1 c.alone.ensures
 
 returns-2 : tie.Need-returns-2
-unfolding requestBy
+unfolding request_by
 returns-2 c = rw c.before.before.verb2.given.1 c.alone2.ensures
 
 returns-3 : tie.Need-returns-3
 returns-3 c = rw c.before.before.verb3.given.1 c.start-arguments.ensures
 
 returns-4 : tie.Need-returns-4
-unfolding requestBy
+unfolding request_by
 returns-4 c = rw c.before.enum_told.given.1 c.with-file.ensures
 
 returns-5 : tie.Need-returns-5
-unfolding requestBy
+unfolding request_by
 returns-5 c = rw c.enum-told2.given.1
 
 pub request-by-spec : {M : Type 1} → statement M

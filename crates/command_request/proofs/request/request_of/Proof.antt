@@ -1,6 +1,6 @@
 -- `request_of`: the verb first.
 use borrow.Author.Rules.{rules}
-use Rattle.command_request.specs.Requests.{requestOf}
+use Rattle.command_request.specs.Requests.{request_of}
 use Rattle.command_request.proofs.request.request_of.Statement.{statement}
 use Rattle.command_request.proofs.request.request_of.Tie as tie
 
@@ -11,7 +11,7 @@ request-by-requires : tie.Need-request-by-requires
 request-by-requires c κs = search rules
 
 returns : tie.Need-returns
-unfolding requestOf
+unfolding request_of
 returns c = rw (← c.before.verb-of.ensures) c.request-by.ensures
 
 pub request-of-spec : {M : Type 1} → statement M

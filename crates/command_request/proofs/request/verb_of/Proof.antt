@@ -3,15 +3,15 @@ use mathlib.Core.Path.{◌≡◌, refl, ap, ◌∙◌}
 use mathlib.Core.List.{List}
 use Prim.Native.Nat.{ℕ}
 use Rattle.words.specs.Word.{pick}
-use Rattle.command_request.specs.Requests.{sameBytes, Tried, verbOf}
+use Rattle.command_request.specs.Requests.{same_bytes, Tried, verb_of}
 use Rattle.command_request.specs.declared.request.Verb.{Verb}
 use borrow.Author.Rules.{rules}
 use Rattle.command_request.proofs.request.verb_of.Statement.{statement}
 use Rattle.command_request.proofs.request.verb_of.Tie as tie
 
 -- a name before those behind it
-tried : {name known : List ℕ} {verb others behind found : Verb} → Tried name known verb others found → others ≡ behind → found ≡ pick (sameBytes name known) verb behind
-tried {name} {known} {verb} t e = t.is ∙ ap (pick (sameBytes name known) verb) e
+tried : {name known : List ℕ} {verb others behind found : Verb} → Tried name known verb others found → others ≡ behind → found ≡ pick (same_bytes name known) verb behind
+tried {name} {known} {verb} t e = t.is ∙ ap (pick (same_bytes name known) verb) e
 
 slice-aggregate-verb-or : tie.Need-slice-aggregate-verb-or
 slice-aggregate-verb-or c = search rules
@@ -98,7 +98,7 @@ verb-or-requires-14 : tie.Need-verb-or-requires-14
 verb-or-requires-14 c κs = search rules
 
 returns : tie.Need-returns
-unfolding verbOf
+unfolding verb_of
 returns c = tried c.verb-or14.ensures (tried c.before.before.verb-or13.ensures (tried c.before.before.before.before.verb-or12.ensures (tried c.before.before.before.before.before.before.verb-or11.ensures (tried c.before.before.before.before.before.before.before.before.verb-or10.ensures (tried c.before.before.before.before.before.before.before.before.before.before.verb-or9.ensures (tried c.before.before.before.before.before.before.before.before.before.before.before.before.verb-or8.ensures (tried c.before.before.before.before.before.before.before.before.before.before.before.before.before.before.verb-or7.ensures (tried c.before.before.before.before.before.before.before.before.before.before.before.before.before.before.before.before.verb-or6.ensures (tried c.before.before.before.before.before.before.before.before.before.before.before.before.before.before.before.before.before.before.verb-or5.ensures (tried c.before.before.before.before.before.before.before.before.before.before.before.before.before.before.before.before.before.before.before.before.verb-or4.ensures (tried c.before.before.before.before.before.before.before.before.before.before.before.before.before.before.before.before.before.before.before.before.before.before.verb-or3.ensures (tried c.before.before.before.before.before.before.before.before.before.before.before.before.before.before.before.before.before.before.before.before.before.before.before.before.verb-or2.ensures (tried c.before.before.before.before.before.before.before.before.before.before.before.before.before.before.before.before.before.before.before.before.before.before.before.before.before.before.verb-or.ensures refl)))))))))))))
 
 pub verb-of-spec : {M : Type 1} → statement M

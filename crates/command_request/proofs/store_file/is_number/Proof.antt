@@ -1,6 +1,6 @@
 -- `is_number`: one number, by the reader of lines.
 use mathlib.Core.Path.{sym, ap, ◌∙◌}
-use Rattle.text_lines.specs.Reader.{countSays}
+use Rattle.text_lines.specs.Reader.{count_says}
 use Rattle.text_lines.specs.CountLaws.{size_none, size-some}
 use Rattle.command_request.proofs.Pieces.{number-none, number-sized}
 use borrow.Author.Rules.{rules}
@@ -17,10 +17,10 @@ enum_told : tie.Need-enum-told
 enum_told c = search rules
 
 returns : tie.Need-returns
-returns c = number-none _ (size_none _ (ap countSays (sym c.enum_told.given.1) ∙ c.before.before.count-numbers.ensures))
+returns c = number-none _ (size_none _ (ap count_says (sym c.enum_told.given.1) ∙ c.before.before.count-numbers.ensures))
 
 returns-2 : tie.Need-returns-2
-returns-2 c = number-sized _ (size-some _ _ (ap countSays (sym c.before.counted.given.1) ∙ c.before.before.before.count-numbers.ensures))
+returns-2 c = number-sized _ (size-some _ _ (ap count_says (sym c.before.counted.given.1) ∙ c.before.before.before.count-numbers.ensures))
 
 pub is-number-spec : {M : Type 1} → statement M
 is-number-spec =

@@ -43,7 +43,7 @@ is-number-requires : tie.Need-is-number-requires invariant-loop decreases-loop
 is-number-requires c κs = search rules
 
 add-t12 : tie.Need-overflow-add-t12 invariant-loop decreases-loop
-add-t12 c = omega (arith, c.before.before.before.before.before.loop.invariant.most, c.before.before.before.before.before.before.before.before.well-formed)
+add-t12 c = omega (arith, c.before.before.before.before.before.loop.invariant.most, c.before.before.before.before.before.before.before.before.well_formed)
 
 same_length : tie.Need-same-length invariant-loop decreases-loop
 same_length c = walked-length c.before.before.before.before.before.loop.invariant
@@ -61,7 +61,7 @@ part-store-numbers-end : tie.Need-slice-bounds-store-numbers-end invariant-loop 
 part-store-numbers-end c = omega (arith, word-inside c.before.before.before.before.before.loop.invariant c.before.before.before.before.loop-test.true (ends c.before.before.before))
 
 mul-store-numbers : tie.Need-overflow-mul-store-numbers invariant-loop decreases-loop
-mul-store-numbers c = omega (arith, walked-count c.before.before.before.before.before.before.loop.invariant, c.before.before.before.before.before.before.before.before.before.well-formed)
+mul-store-numbers c = omega (arith, walked-count c.before.before.before.before.before.before.loop.invariant, c.before.before.before.before.before.before.before.before.before.well_formed)
 
 sub-store-numbers-2 : tie.Need-overflow-sub-store-numbers-2 invariant-loop decreases-loop
 sub-store-numbers-2 c = omega (arith, walked-count c.before.before.before.before.before.before.loop.invariant, walked-length c.before.before.before.before.before.before.loop.invariant)
@@ -78,7 +78,7 @@ store-numbers-requires c κs =
     word_holds c.before.before.before.before.before.before.before.loop.invariant c.before.before.before.before.before.before.loop-test.true (ends c.before.before.before.before.before) n.word n.is
 
 add-count : tie.Need-overflow-add-count invariant-loop decreases-loop
-add-count c = omega (arith, c.before.before.before.before.before.before.before.before.before.loop.invariant.most, c.before.before.before.before.before.before.before.before.before.before.before.before.well-formed)
+add-count c = omega (arith, c.before.before.before.before.before.before.before.before.before.loop.invariant.most, c.before.before.before.before.before.before.before.before.before.before.before.before.well_formed)
 
 passed-requires-3 : tie.Need-passed-requires-3 invariant-loop decreases-loop
 passed-requires-3 c κs = word-inside c.before.before.before.before.before.before.before.before.before.loop.invariant c.before.before.before.before.before.before.before.before.loop-test.true (ends c.before.before.before.before.before.before.before)

@@ -8,8 +8,8 @@ use lib.ListN.{length, length-replicate}
 use Rattle.words.specs.Layout.{zeros}
 use Rattle.words.specs.Laws.{zeros-part}
 use Rattle.text_numbers.specs.PutLaws.{Put-as}
-use Rattle.program_previews.specs.Previews.{previewResult}
-use Rattle.command_runs.specs.Tasks.{resultLines}
+use Rattle.program_previews.specs.Previews.{preview_result}
+use Rattle.command_runs.specs.Tasks.{result_lines}
 use borrow.Author.Rules.{rules}
 use Rattle.command_runs.proofs.previews.put_preview.Statement.{statement}
 use Rattle.command_runs.proofs.previews.put_preview.Tie as tie
@@ -41,7 +41,7 @@ returns c =
     let start = c.before.before.before.before.before.before.before.before in
     let words = c.before.before.before.before.before.before.store_words_lem in
     let inside : words.result ≤ 16448 = omega (arith, words.ensures, start.requires.1.0) in
-    Put-as (ap (λ (scratch : List ℤ). resultLines start.args.header.now (previewResult start.args.header.now start.args.rows.now start.args.budget start.args.store.now scratch)) (zeros-part words.result 16448 inside ∙ ap zeros words.ensures)) c.before.before.before.put-previewed.ensures
+    Put-as (ap (λ (scratch : List ℤ). result_lines start.args.header.now (preview_result start.args.header.now start.args.rows.now start.args.budget start.args.store.now scratch)) (zeros-part words.result 16448 inside ∙ ap zeros words.ensures)) c.before.before.before.put-previewed.ensures
 
 pub put-preview-spec : {M : Type 1} → statement M
 put-preview-spec =

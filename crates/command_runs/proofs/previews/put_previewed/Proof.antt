@@ -3,8 +3,8 @@ use mathlib.Core.Path.{ap, ◌∙◌}
 use Prim.Native.Nat.{ℕ}
 use native.Mathlib.Omega.{arith}
 use Rattle.text_numbers.specs.PutLaws.{Put-as}
-use Rattle.command_preview_lines.specs.Changes.{previewLines}
-use Rattle.command_runs.specs.Tasks.{resultLines}
+use Rattle.command_preview_lines.specs.Changes.{preview_lines}
+use Rattle.command_runs.specs.Tasks.{result_lines}
 use Rattle.command_runs.proofs.Shown.{showable}
 use borrow.Author.Rules.{rules}
 use Rattle.command_runs.proofs.previews.put_previewed.Statement.{statement}
@@ -34,7 +34,7 @@ returns c =
     let told = c.before.before.before.before.before.before.preview in
     let size = c.before.before.before.before.before.before.before.before.store-size in
     let start = c.before.before.before.before.before.before.before.before.before.before in
-    Put-as (ap (λ (n : ℕ). previewLines told.result n start.args.store.now told.new.1.1.1.1.0) size.ensures ∙ ap (resultLines start.args.header.now) told.ensures) c.before.before.preview-lines.ensures
+    Put-as (ap (λ (n : ℕ). preview_lines told.result n start.args.store.now told.new.1.1.1.1.0) size.ensures ∙ ap (result_lines start.args.header.now) told.ensures) c.before.before.preview-lines.ensures
 
 pub put-previewed-spec : {M : Type 1} → statement M
 put-previewed-spec =

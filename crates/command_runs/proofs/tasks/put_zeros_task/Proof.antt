@@ -8,7 +8,7 @@ use lib.ListN.{length-replicate}
 use Rattle.words.specs.Layout.{zeros}
 use Rattle.words.specs.Laws.{zeros-part}
 use Rattle.text_numbers.specs.PutLaws.{Put-as}
-use Rattle.command_runs.specs.Tasks.{taskLines}
+use Rattle.command_runs.specs.Tasks.{task_lines}
 use Rattle.command_runs.proofs.Starts.{start-most, part_room}
 use borrow.Author.Rules.{rules}
 use Rattle.command_runs.proofs.tasks.put_zeros_task.Statement.{statement}
@@ -42,7 +42,7 @@ returns : tie.Need-returns
 returns c =
     let start = c.before.before.before.before.before.before.before.before in
     let words = c.before.before.before.before.before.before in
-    Put-as (ap (λ (store : List ℤ). taskLines start.args.task start.args.budget store start.args.header.now start.args.rows.now) (zeros-part words.start-words.result 16448 (few words) ∙ ap zeros words.start-words.ensures)) c.before.before.before.put-task.ensures
+    Put-as (ap (λ (store : List ℤ). task_lines start.args.task start.args.budget store start.args.header.now start.args.rows.now) (zeros-part words.start-words.result 16448 (few words) ∙ ap zeros words.start-words.ensures)) c.before.before.before.put-task.ensures
 
 pub put-zeros-task-spec : {M : Type 1} → statement M
 put-zeros-task-spec =

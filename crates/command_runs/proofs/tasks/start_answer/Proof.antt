@@ -1,5 +1,5 @@
 -- `start_answer`: from a store file, or from zeros.
-use Rattle.command_runs.specs.Tasks.{startedOutput}
+use Rattle.command_runs.specs.Tasks.{started_output}
 use borrow.Author.Rules.{rules}
 use Rattle.command_runs.proofs.tasks.start_answer.Statement.{statement}
 use Rattle.command_runs.proofs.tasks.start_answer.Tie as tie
@@ -17,7 +17,7 @@ same-length-3 : tie.Need-same-length-3
 same-length-3 c = search rules
 
 returns : tie.Need-returns
-unfolding startedOutput
+unfolding started_output
 returns c = rw c.before.before.before.before.before.before.before.before.if1.true c.before.before.before.before.start-stored.ensures
 
 start-zeros-requires : tie.Need-start-zeros-requires
@@ -33,7 +33,7 @@ same-length-6 : tie.Need-same-length-6
 same-length-6 c = search rules
 
 returns-2 : tie.Need-returns-2
-unfolding startedOutput
+unfolding started_output
 returns-2 c = rw c.before.before.before.before.before.before.before.before.if1.false c.before.before.before.before.start-zeros.ensures
 
 pub start-answer-spec : {M : Type 1} → statement M

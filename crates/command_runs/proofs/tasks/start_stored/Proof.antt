@@ -4,7 +4,7 @@ use mathlib.Core.Path.{sym, ap, ◌∙◌}
 use lib.IntN.{pos}
 use lib.ListN.{length-replicate}
 use Rattle.text_numbers.specs.PutLaws.{Put-as}
-use Rattle.command_runs.specs.Tasks.{taskOutput, storedOutput}
+use Rattle.command_runs.specs.Tasks.{task_output, stored_output}
 use Rattle.command_runs.proofs.Starts.{part_room, stored-inside, stored-words}
 use borrow.Author.Rules.{rules}
 use Rattle.command_runs.proofs.tasks.start_stored.Statement.{statement}
@@ -41,8 +41,8 @@ same_length : tie.Need-same-length
 same_length c = search rules
 
 returns : tie.Need-returns
-unfolding storedOutput
-returns c = Put-as (sym (ap (storedOutput c.before.before.before.before.before.before.before.before.before.before.before.before.before.args.task c.before.before.before.before.before.before.before.before.before.before.before.before.before.args.budget c.before.before.before.before.before.before.before.before.before.before.before.before.before.args.text.now) (rw c.before.before.before.before.before.read.given.1 at c.before.before.before.before.before.before.before.before.read-words.ensures))) c.before.before.malformed-line.ensures
+unfolding stored_output
+returns c = Put-as (sym (ap (stored_output c.before.before.before.before.before.before.before.before.before.before.before.before.before.args.task c.before.before.before.before.before.before.before.before.before.before.before.before.before.args.budget c.before.before.before.before.before.before.before.before.before.before.before.before.before.args.text.now) (rw c.before.before.before.before.before.read.given.1 at c.before.before.before.before.before.before.before.before.read-words.ensures))) c.before.before.malformed-line.ensures
 
 same-length-2 : tie.Need-same-length-2
 same-length-2 c = search rules
@@ -54,8 +54,8 @@ same-length-4 : tie.Need-same-length-4
 same-length-4 c = search rules
 
 returns-2 : tie.Need-returns-2
-unfolding storedOutput
-returns-2 c = let s = rw c.before.before.before.before.before.before.before.before.before.before.before.read2.given.1 at c.before.before.before.before.before.before.before.before.before.before.before.before.before.before.read-words.ensures in Put-as (ap (taskOutput c.before.before.before.before.before.before.before.before.before.before.before.before.before.before.before.before.before.before.before.args.task c.before.before.before.before.before.before.before.before.before.before.before.before.before.before.before.before.before.before.before.args.budget c.before.before.before.before.before.before.before.before.before.before.before.before.before.before.before.before.before.before.before.args.text.now) (stored-words s) ∙ sym (ap (storedOutput c.before.before.before.before.before.before.before.before.before.before.before.before.before.before.before.before.before.before.before.args.task c.before.before.before.before.before.before.before.before.before.before.before.before.before.before.before.before.before.before.before.args.budget c.before.before.before.before.before.before.before.before.before.before.before.before.before.before.before.before.before.before.before.args.text.now) s.is)) c.before.before.before.before.before.start-text.ensures
+unfolding stored_output
+returns-2 c = let s = rw c.before.before.before.before.before.before.before.before.before.before.before.read2.given.1 at c.before.before.before.before.before.before.before.before.before.before.before.before.before.before.read-words.ensures in Put-as (ap (task_output c.before.before.before.before.before.before.before.before.before.before.before.before.before.before.before.before.before.before.before.args.task c.before.before.before.before.before.before.before.before.before.before.before.before.before.before.before.before.before.before.before.args.budget c.before.before.before.before.before.before.before.before.before.before.before.before.before.before.before.before.before.before.before.args.text.now) (stored-words s) ∙ sym (ap (stored_output c.before.before.before.before.before.before.before.before.before.before.before.before.before.before.before.before.before.before.before.args.task c.before.before.before.before.before.before.before.before.before.before.before.before.before.before.before.before.before.before.before.args.budget c.before.before.before.before.before.before.before.before.before.before.before.before.before.before.before.before.before.before.before.args.text.now) s.is)) c.before.before.before.before.before.start-text.ensures
 
 pub start-stored-spec : {M : Type 1} → statement M
 start-stored-spec =

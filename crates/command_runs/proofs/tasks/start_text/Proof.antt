@@ -1,7 +1,7 @@
 -- `start_text`: the refusal of the reader, or the run or preview of what it read.
 use native.Mathlib.Omega.{arith}
 use Rattle.text_numbers.specs.PutLaws.{Put-as}
-use Rattle.command_runs.specs.Tasks.{taskLines, taskOutput}
+use Rattle.command_runs.specs.Tasks.{task_lines, task_output}
 use borrow.Author.Rules.{rules}
 use Rattle.command_runs.proofs.tasks.start_text.Statement.{statement}
 use Rattle.command_runs.proofs.tasks.start_text.Tie as tie
@@ -25,7 +25,7 @@ part-put-task-start : tie.Need-slice-bounds-put-task-start
 part-put-task-start c = search rules
 
 part-put-task-end : tie.Need-slice-bounds-put-task-end
-part-put-task-end c = (rw c.before.before.answer2.given.1 at c.before.before.before.before.before.before.read-task.ensures).header-inside
+part-put-task-end c = (rw c.before.before.answer2.given.1 at c.before.before.before.before.before.before.read-task.ensures).header_inside
 
 sub-put-task-2 : tie.Need-overflow-sub-put-task-2
 sub-put-task-2 c = search rules
@@ -51,8 +51,8 @@ same-length-3 : tie.Need-same-length-3
 same-length-3 c = search rules
 
 returns : tie.Need-returns
-unfolding taskOutput
-returns c = Put-as ((rw c.before.before.before.before.before.answer.given.1 at c.before.before.before.before.before.before.before.before.before.read-task.ensures) (taskLines c.before.before.before.before.before.before.before.before.before.before.before.before.before.before.args.task c.before.before.before.before.before.before.before.before.before.before.before.before.before.before.args.budget c.before.before.before.before.before.before.before.before.before.before.before.before.before.before.args.store.now)) c.before.before.refused-line.ensures
+unfolding task_output
+returns c = Put-as ((rw c.before.before.before.before.before.answer.given.1 at c.before.before.before.before.before.before.before.before.before.read-task.ensures) (task_lines c.before.before.before.before.before.before.before.before.before.before.before.before.before.before.args.task c.before.before.before.before.before.before.before.before.before.before.before.before.before.before.args.budget c.before.before.before.before.before.before.before.before.before.before.before.before.before.before.args.store.now)) c.before.before.refused-line.ensures
 
 same-length-4 : tie.Need-same-length-4
 same-length-4 c = search rules
@@ -67,8 +67,8 @@ same-length-7 : tie.Need-same-length-7
 same-length-7 c = search rules
 
 returns-2 : tie.Need-returns-2
-unfolding taskOutput
-returns-2 c = Put-as ((rw c.before.before.before.before.before.before.before.before.before.before.before.answer2.given.1 at c.before.before.before.before.before.before.before.before.before.before.before.before.before.before.before.read-task.ensures).is (taskLines c.before.before.before.before.before.before.before.before.before.before.before.before.before.before.before.before.before.before.before.before.args.task c.before.before.before.before.before.before.before.before.before.before.before.before.before.before.before.before.before.before.before.before.args.budget c.before.before.before.before.before.before.before.before.before.before.before.before.before.before.before.before.before.before.before.before.args.store.now)) c.before.before.before.put-task.ensures
+unfolding task_output
+returns-2 c = Put-as ((rw c.before.before.before.before.before.before.before.before.before.before.before.answer2.given.1 at c.before.before.before.before.before.before.before.before.before.before.before.before.before.before.before.read-task.ensures).is (task_lines c.before.before.before.before.before.before.before.before.before.before.before.before.before.before.before.before.before.before.before.before.args.task c.before.before.before.before.before.before.before.before.before.before.before.before.before.before.before.before.before.before.before.before.args.budget c.before.before.before.before.before.before.before.before.before.before.before.before.before.before.before.before.before.before.before.before.args.store.now)) c.before.before.before.put-task.ensures
 
 pub start-text-spec : {M : Type 1} → statement M
 start-text-spec =

@@ -1,7 +1,7 @@
 -- `start_zeros`: the refusal of the reader, or the run or preview of what it read.
 use native.Mathlib.Omega.{arith}
 use Rattle.text_numbers.specs.PutLaws.{Put-as}
-use Rattle.command_runs.specs.Tasks.{zerosLines, zerosOutput}
+use Rattle.command_runs.specs.Tasks.{zeros_lines, zeros_output}
 use borrow.Author.Rules.{rules}
 use Rattle.command_runs.proofs.tasks.start_zeros.Statement.{statement}
 use Rattle.command_runs.proofs.tasks.start_zeros.Tie as tie
@@ -25,7 +25,7 @@ part-put-zeros-task-start : tie.Need-slice-bounds-put-zeros-task-start
 part-put-zeros-task-start c = search rules
 
 part-put-zeros-task-end : tie.Need-slice-bounds-put-zeros-task-end
-part-put-zeros-task-end c = (rw c.before.before.answer2.given.1 at c.before.before.before.before.before.before.read-task.ensures).header-inside
+part-put-zeros-task-end c = (rw c.before.before.answer2.given.1 at c.before.before.before.before.before.before.read-task.ensures).header_inside
 
 sub-put-zeros-task-2 : tie.Need-overflow-sub-put-zeros-task-2
 sub-put-zeros-task-2 c = search rules
@@ -51,8 +51,8 @@ same-length-3 : tie.Need-same-length-3
 same-length-3 c = search rules
 
 returns : tie.Need-returns
-unfolding zerosOutput
-returns c = Put-as ((rw c.before.before.before.before.before.answer.given.1 at c.before.before.before.before.before.before.before.before.before.read-task.ensures) (zerosLines c.before.before.before.before.before.before.before.before.before.before.before.before.before.before.args.task c.before.before.before.before.before.before.before.before.before.before.before.before.before.before.args.budget)) c.before.before.refused-line.ensures
+unfolding zeros_output
+returns c = Put-as ((rw c.before.before.before.before.before.answer.given.1 at c.before.before.before.before.before.before.before.before.before.read-task.ensures) (zeros_lines c.before.before.before.before.before.before.before.before.before.before.before.before.before.before.args.task c.before.before.before.before.before.before.before.before.before.before.before.before.before.before.args.budget)) c.before.before.refused-line.ensures
 
 same-length-4 : tie.Need-same-length-4
 same-length-4 c = search rules
@@ -64,8 +64,8 @@ same-length-6 : tie.Need-same-length-6
 same-length-6 c = search rules
 
 returns-2 : tie.Need-returns-2
-unfolding zerosOutput
-returns-2 c = Put-as ((rw c.before.before.before.before.before.before.before.before.before.answer2.given.1 at c.before.before.before.before.before.before.before.before.before.before.before.before.before.read-task.ensures).is (zerosLines c.before.before.before.before.before.before.before.before.before.before.before.before.before.before.before.before.before.before.args.task c.before.before.before.before.before.before.before.before.before.before.before.before.before.before.before.before.before.before.args.budget)) c.before.before.put-zeros-task.ensures
+unfolding zeros_output
+returns-2 c = Put-as ((rw c.before.before.before.before.before.before.before.before.before.answer2.given.1 at c.before.before.before.before.before.before.before.before.before.before.before.before.before.read-task.ensures).is (zeros_lines c.before.before.before.before.before.before.before.before.before.before.before.before.before.before.before.before.before.before.args.task c.before.before.before.before.before.before.before.before.before.before.before.before.before.before.before.before.before.before.args.budget)) c.before.before.put-zeros-task.ensures
 
 pub start-zeros-spec : {M : Type 1} → statement M
 start-zeros-spec =

@@ -40,7 +40,7 @@ part-put-plan-start c = search rules
 
 part-put-plan-end : tie.Need-slice-bounds-put-plan-end
 part-put-plan-end c =
-    let h = rw c.before.before.answer.given.1 at c.before.before.before.before.before.before.read-rule.ensures in omega (arith, c.before.before.before.before.before.before.read-rule.auto.1.0, h.header-inside)
+    let h = rw c.before.before.answer.given.1 at c.before.before.before.before.before.before.read-rule.ensures in omega (arith, c.before.before.before.before.before.before.read-rule.auto.1.0, h.header_inside)
 
 sub-put-plan-2 : tie.Need-overflow-sub-put-plan-2
 sub-put-plan-2 c = search rules

@@ -1,6 +1,6 @@
 -- `put_plan`: the plan's refusal is printed, or the lines of its values.
 use native.Mathlib.Omega.{arith}
-use Rattle.words.specs.Laws.{headerFits-facts}
+use Rattle.words.specs.Laws.{header_fits-facts}
 use Rattle.words.specs.declared.Form.TheVariants.{Source}
 use Rattle.words.proofs.Signed.{natural-again}
 use Rattle.text_numbers.specs.PutLaws.{Put-as}
@@ -12,7 +12,7 @@ use Rattle.day.proofs.output.put_plan.Tie as tie
 
 shared-slice-copy-out-natural : tie.Need-shared-slice-copy-out-natural
 shared-slice-copy-out-natural c =
-    omega (arith, (headerFits-facts Source _ c.before.before.requires.0.header-fits).least)
+    omega (arith, (header_fits-facts Source _ c.before.before.requires.0.header-fits).least)
 
 natural-requires : tie.Need-natural-requires
 natural-requires c κs = search rules

@@ -12,7 +12,7 @@ slice-aggregate-resolve-accepted c = search rules
 resolve-accepted-requires : tie.Need-resolve-accepted-requires
 resolve-accepted-requires c κs =
     let s = c.before.before.before in
-    (s.requires.0.checked, omega (arith, s.requires.0.few-rows))
+    (s.requires.0.checked, omega (arith, s.requires.0.few_rows))
 
 sub-put-values : tie.Need-overflow-sub-put-values
 sub-put-values c = search rules
@@ -23,7 +23,7 @@ part-put-values-start c = search rules
 part-put-values-end : tie.Need-slice-bounds-put-values-end
 part-put-values-end c =
     let s = c.before.before.before.before.before.before in
-    omega (arith, c.before.before.resolve-accepted.auto.1.1.0, s.requires.0.few-rows)
+    omega (arith, c.before.before.resolve-accepted.auto.1.1.0, s.requires.0.few_rows)
 
 put-values-requires : tie.Need-put-values-requires
 put-values-requires c κs =

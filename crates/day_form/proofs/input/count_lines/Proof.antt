@@ -25,7 +25,7 @@ piece-end-requires c κs =
 
 add_at : tie.Need-overflow-add-at invariant-loop decreases-loop
 add_at c =
-    let p = piece_of 10 _ _ _ (omega (arith, c.before.loop-test.true)) c.piece-end.ensures in omega (arith, p.inside, c.before.before.before.before.well-formed)
+    let p = piece_of 10 _ _ _ (omega (arith, c.before.loop-test.true)) c.piece-end.ensures in omega (arith, p.inside, c.before.before.before.before.well_formed)
 
 add-count : tie.Need-overflow-add-count invariant-loop decreases-loop
 add-count c =

@@ -25,11 +25,11 @@ loop-holds c =
 
 add-loop : tie.Need-overflow-add-loop invariant-loop decreases-loop
 add-loop c =
-    omega (arith, c.loop.invariant.inside, c.before.well-formed)
+    omega (arith, c.loop.invariant.inside, c.before.well_formed)
 
 mul-natural : tie.Need-overflow-mul-natural invariant-loop decreases-loop
 mul-natural c =
-    omega (arith, c.loop-test.true, c.before.before.well-formed)
+    omega (arith, c.loop-test.true, c.before.before.well_formed)
 
 shared-slice-copy-out-natural : tie.Need-shared-slice-copy-out-natural invariant-loop decreases-loop
 shared-slice-copy-out-natural c =

@@ -1,7 +1,7 @@
 -- `read_numbers`: the numbers are counted, and stored where they are few.
 use mathlib.Core.Path.{sym, ap, ◌∙◌}
 use native.Mathlib.Omega.{arith}
-use Rattle.text_lines.specs.Reader.{countSays}
+use Rattle.text_lines.specs.Reader.{count_says}
 use Rattle.text_lines.specs.CountLaws.{counted-fits}
 use Rattle.text_lines.specs.CountLaws.{size_none, size-some}
 use Rattle.day_form.proofs.Numbers.{malformed-read, many_read, few-read}
@@ -20,11 +20,11 @@ enum_told c = search rules
 
 returns : tie.Need-returns
 returns c =
-    malformed-read _ _ (size_none _ (ap countSays (sym c.enum_told.given.1) ∙ c.before.before.count-numbers.ensures))
+    malformed-read _ _ (size_none _ (ap count_says (sym c.enum_told.given.1) ∙ c.before.before.count-numbers.ensures))
 
 returns-2 : tie.Need-returns-2
 returns-2 c =
-    many_read _ (size-some _ _ (ap countSays (sym c.before.before.counted.given.1) ∙ c.before.before.before.before.count-numbers.ensures)) _ c.if1.true
+    many_read _ (size-some _ _ (ap count_says (sym c.before.before.counted.given.1) ∙ c.before.before.before.before.count-numbers.ensures)) _ c.if1.true
 
 store-numbers-requires : tie.Need-store-numbers-requires
 store-numbers-requires c κs =
@@ -35,7 +35,7 @@ same_length c = search rules
 
 returns-3 : tie.Need-returns-3
 returns-3 c =
-    few-read _ (size-some _ _ (ap countSays (sym c.before.before.before.before.before.counted.given.1) ∙ c.before.before.before.before.before.before.before.count-numbers.ensures)) _ _ c.before.before.before.if1.false c.before.store-numbers.ensures
+    few-read _ (size-some _ _ (ap count_says (sym c.before.before.before.before.before.counted.given.1) ∙ c.before.before.before.before.before.before.before.count-numbers.ensures)) _ _ c.before.before.before.if1.false c.before.store-numbers.ensures
 
 pub read-numbers-spec : {M : Type 1} → statement M
 read-numbers-spec =

@@ -1,7 +1,7 @@
 -- `plan_lines`: the first line is the setting's, the others are the day's.
 use mathlib.Core.Path.{sym, ap, ◌∙◌}
 use Rattle.text_lines.specs.LineLaws.{lines_none}
-use Rattle.day_form.specs.Settings.{settingSays}
+use Rattle.day_form.specs.Settings.{setting_says}
 use Rattle.day_form.proofs.Tests.{lent-numbers}
 use Rattle.day_form.proofs.Plans.{setting-missing, setting-malformed, days-planned, days-refused}
 use borrow.Author.Rules.{rules}
@@ -38,7 +38,7 @@ enum_told c = search rules
 
 returns-2 : tie.Need-returns-2
 returns-2 c =
-    setting-malformed _ _ c.before.before.before.before.before.before.next-line.ensures _ (lent-numbers c.before.before.before.before.before.before.next-line.ensures.read) (ap settingSays (sym c.enum_told.given.1) ∙ c.before.before.setting-of.ensures)
+    setting-malformed _ _ c.before.before.before.before.before.before.next-line.ensures _ (lent-numbers c.before.before.before.before.before.before.next-line.ensures.read) (ap setting_says (sym c.enum_told.given.1) ∙ c.before.before.setting-of.ensures)
 
 sub-check-days : tie.Need-overflow-sub-check-days
 sub-check-days c = search rules
@@ -60,11 +60,11 @@ enum-known-verdict c = search rules
 
 returns-3 : tie.Need-returns-3
 returns-3 c =
-    days-planned _ _ c.before.before.before.before.before.before.before.before.before.before.before.next-line.ensures _ (lent-numbers c.before.before.before.before.before.before.before.before.before.before.before.next-line.ensures.read) _ (ap settingSays (sym c.before.before.before.before.before.read.given.1) ∙ c.before.before.before.before.before.before.before.setting-of.ensures) (sym c.enum-told2.given.1 ∙ c.before.before.check-days.ensures)
+    days-planned _ _ c.before.before.before.before.before.before.before.before.before.before.before.next-line.ensures _ (lent-numbers c.before.before.before.before.before.before.before.before.before.before.before.next-line.ensures.read) _ (ap setting_says (sym c.before.before.before.before.before.read.given.1) ∙ c.before.before.before.before.before.before.before.setting-of.ensures) (sym c.enum-told2.given.1 ∙ c.before.before.check-days.ensures)
 
 returns-4 : tie.Need-returns-4
 returns-4 c =
-    days-refused _ _ c.before.before.before.before.before.before.before.before.before.before.before.before.next-line.ensures _ (lent-numbers c.before.before.before.before.before.before.before.before.before.before.before.before.next-line.ensures.read) _ (ap settingSays (sym c.before.before.before.before.before.before.read.given.1) ∙ c.before.before.before.before.before.before.before.before.setting-of.ensures) _ (sym c.before.verdict.given.1 ∙ c.before.before.before.check-days.ensures)
+    days-refused _ _ c.before.before.before.before.before.before.before.before.before.before.before.before.next-line.ensures _ (lent-numbers c.before.before.before.before.before.before.before.before.before.before.before.before.next-line.ensures.read) _ (ap setting_says (sym c.before.before.before.before.before.before.read.given.1) ∙ c.before.before.before.before.before.before.before.before.setting-of.ensures) _ (sym c.before.verdict.given.1 ∙ c.before.before.before.check-days.ensures)
 
 pub plan-lines-spec : {M : Type 1} → statement M
 plan-lines-spec =

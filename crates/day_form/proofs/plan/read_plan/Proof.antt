@@ -24,7 +24,7 @@ count-lines-requires c κs = search rules
 
 add-first : tie.Need-overflow-add-first
 add-first c =
-    omega (arith, lines-within c.before.before.before.before.args.input.now c.before.before.before.before.requires c.before.before.lines_start.ensures _ c.count-lines.ensures, c.before.before.before.before.well-formed.1.0.1)
+    omega (arith, lines-within c.before.before.before.before.args.input.now c.before.before.before.before.requires c.before.before.lines_start.ensures _ c.count-lines.ensures, c.before.before.before.before.well_formed.1.0.1)
 
 sub-plan-lines : tie.Need-overflow-sub-plan-lines
 sub-plan-lines c = search rules
@@ -37,14 +37,14 @@ part-plan-lines-end c = search rules
 
 plan-lines-requires : tie.Need-plan-lines-requires
 plan-lines-requires c κs =
-    omega (arith, lines-within c.before.before.before.before.before.args.input.now c.before.before.before.before.before.requires c.before.before.before.lines_start.ensures _ c.before.count-lines.ensures, c.before.before.before.before.before.well-formed.1.0.1)
+    omega (arith, lines-within c.before.before.before.before.before.args.input.now c.before.before.before.before.before.requires c.before.before.before.lines_start.ensures _ c.before.count-lines.ensures, c.before.before.before.before.before.well_formed.1.0.1)
 
 enum-known-answer : tie.Need-enum-known-answer
 enum-known-answer c = search rules
 
 add-t19 : tie.Need-overflow-add-t19
 add-t19 c =
-    let p = plan-planned c.before.before.before.before.before.before.before.before.before.args.input.now c.before.before.before.before.before.before.before.before.before.requires c.before.before.before.before.before.before.before.lines_start.ensures _ c.before.before.before.before.before.count-lines.ensures _ _ _ (rw c.before.answer.given.1 at c.before.before.before.plan-lines.ensures) in omega (arith, p.inside, c.before.before.before.before.before.before.before.before.before.well-formed.1.0.0)
+    let p = plan-planned c.before.before.before.before.before.before.before.before.before.args.input.now c.before.before.before.before.before.before.before.before.before.requires c.before.before.before.before.before.before.before.lines_start.ensures _ c.before.before.before.before.before.count-lines.ensures _ _ _ (rw c.before.answer.given.1 at c.before.before.before.plan-lines.ensures) in omega (arith, p.inside, c.before.before.before.before.before.before.before.before.before.well_formed.1.0.0)
 
 enum-known-answer-2 : tie.Need-enum-known-answer-2
 enum-known-answer-2 c = search rules

@@ -8,7 +8,7 @@ use Rattle.words.specs.Word.{natural}
 use Rattle.arithmetic.specs.Arithmetic.{Outcome, apply}
 use Rattle.words.specs.declared.Operator.TheVariants.{Subtract}
 use Rattle.words.proofs.Signed.{again, natural-again}
-use Rattle.day_form.proofs.Differences.{Gap, overflows, gap_of, too_many, is-setting}
+use Rattle.day_form.proofs.Differences.{Gap, overflows, gap_of, too-many, is-setting}
 use borrow.Author.Rules.{rules}
 use Rattle.day_form.proofs.setting.setting_by.Statement.{statement}
 use Rattle.day_form.proofs.setting.setting_by.Tie as tie
@@ -37,7 +37,7 @@ returns-2 : tie.Need-returns-2
 returns-2 c =
     let g = gap_of _ _ _ _ (ap computed (sym c.before.before.before.difference.given.1) ∙ said c.before.before.before.before.before.before _ c.before.before.before.before.before.subtract.ensures) in
     let n : c.before.natural.result ≡ natural c.before.before.before.difference.given.0.0 = natural-again _ _ g.word c.before.natural.ensures in
-    too_many _ _ _ g (omega (arith, c.if1.true))
+    too-many _ _ _ g (omega (arith, c.if1.true))
 
 natural-requires-2 : tie.Need-natural-requires-2
 natural-requires-2 c κs = search rules

@@ -2,7 +2,7 @@
 use mathlib.Core.Path.{◌≡◌, sym, ap, ◌∙◌}
 use native.Mathlib.Omega.{arith}
 use Rattle.words_copying.specs.OverLaws.{over-whole}
-use Rattle.day_run.specs.Days.{storePairs}
+use Rattle.day_run.specs.Days.{store_pairs}
 use Rattle.day_run.proofs.Doing.{runnable-on, Ran, ran_on, plain_done, spent-done, fault-done}
 use borrow.Author.Rules.{rules}
 use Rattle.day_run.proofs.line.do_on_copy.Statement.{statement}
@@ -40,7 +40,7 @@ same-length-2 c = search rules
 returns : tie.Need-returns
 returns c =
     let s = c.before.before.before.before.before.before.before.before.before.before.before.before.before.before.before.before in
-    let start = c.before.before.before.before.before.before.before.before.before.before.store-pairs.ensures ∙ ap (storePairs s.args.pairs.now) (c.before.before.before.before.before.before.before.before.before.before.before.before.before.put.ensures ∙ over-whole _ _ (sym s.requires.1)) in
+    let start = c.before.before.before.before.before.before.before.before.before.before.store-pairs.ensures ∙ ap (store_pairs s.args.pairs.now) (c.before.before.before.before.before.before.before.before.before.before.before.before.before.put.ensures ∙ over-whole _ _ (sym s.requires.1)) in
     let run = ran_on _ _ _ _ _ _ _ start c.before.before.before.before.before.before.before.run-source-table.ensures in
     let long = c.before.before.before.before.before.before.before.run-source-table.auto.1.1.0 ∙ c.before.before.before.before.before.before.before.before.before.before.store-pairs.auto.1.0 ∙ c.before.before.before.before.before.before.before.before.before.before.before.before.before.put.auto.1.0 ∙ s.requires.1 in
     plain_done _ _ _ _ _ _ (rw c.before.before.before.before.enum_told.given.1 at run) (c.before.put2.ensures ∙ over-whole _ _ long)
@@ -54,7 +54,7 @@ same-length-4 c = search rules
 returns-2 : tie.Need-returns-2
 returns-2 c =
     let s = c.before.before.before.before.before.before.before.before.before.before.before.before in
-    let start = c.before.before.before.before.before.before.store-pairs.ensures ∙ ap (storePairs s.args.pairs.now) (c.before.before.before.before.before.before.before.before.before.put.ensures ∙ over-whole _ _ (sym s.requires.1)) in
+    let start = c.before.before.before.before.before.before.store-pairs.ensures ∙ ap (store_pairs s.args.pairs.now) (c.before.before.before.before.before.before.before.before.before.put.ensures ∙ over-whole _ _ (sym s.requires.1)) in
     let run = ran_on _ _ _ _ _ _ _ start c.before.before.before.run-source-table.ensures in
     spent-done _ _ _ _ _ (rw c.enum-told2.given.1 at run)
 
@@ -67,7 +67,7 @@ same-length-6 c = search rules
 returns-3 : tie.Need-returns-3
 returns-3 c =
     let s = c.before.before.before.before.before.before.before.before.before.before.before.before in
-    let start = c.before.before.before.before.before.before.store-pairs.ensures ∙ ap (storePairs s.args.pairs.now) (c.before.before.before.before.before.before.before.before.before.put.ensures ∙ over-whole _ _ (sym s.requires.1)) in
+    let start = c.before.before.before.before.before.before.store-pairs.ensures ∙ ap (store_pairs s.args.pairs.now) (c.before.before.before.before.before.before.before.before.before.put.ensures ∙ over-whole _ _ (sym s.requires.1)) in
     let run = ran_on _ _ _ _ _ _ _ start c.before.before.before.run-source-table.ensures in
     fault-done _ _ _ _ _ _ (rw c.enum-told3.given.1 at run)
 

@@ -26,11 +26,11 @@ loop-holds c =
 
 add-loop : tie.Need-overflow-add-loop invariant-loop decreases-loop
 add-loop c =
-    omega (arith, c.loop.invariant.inside, c.before.well-formed)
+    omega (arith, c.loop.invariant.inside, c.before.well_formed)
 
 mul-natural : tie.Need-overflow-mul-natural invariant-loop decreases-loop
 mul-natural c =
-    omega (arith, c.loop-test.true, c.before.before.well-formed)
+    omega (arith, c.loop-test.true, c.before.before.well_formed)
 
 shared-slice-copy-out-natural : tie.Need-shared-slice-copy-out-natural invariant-loop decreases-loop
 shared-slice-copy-out-natural c =
@@ -46,7 +46,7 @@ add-store-at c =
 
 mul-store-at : tie.Need-overflow-mul-store-at invariant-loop decreases-loop
 mul-store-at c =
-    omega (arith, c.before.before.loop-test.true, c.before.before.before.before.well-formed)
+    omega (arith, c.before.before.loop-test.true, c.before.before.before.before.well_formed)
 
 shared-slice-copy-out-store-at : tie.Need-shared-slice-copy-out-store-at invariant-loop decreases-loop
 shared-slice-copy-out-store-at c =

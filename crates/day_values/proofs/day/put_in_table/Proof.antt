@@ -1,6 +1,6 @@
 -- `put_in_table`: three numbers and the variables, one behind the other.
 use mathlib.Core.Path.{◌∙◌, refl, ap}
-use Rattle.text_lines.specs.Line.{lineBytes}
+use Rattle.text_lines.specs.Line.{line_bytes}
 use Rattle.text_numbers.specs.PutLaws.{Put-as}
 use Rattle.day_values.proofs.Printing.{as-words, table-line}
 use borrow.Author.Rules.{rules}
@@ -55,7 +55,7 @@ same-length-2 c = search rules
 returns : tie.Need-returns
 returns c =
     let s = c.before.before.before.before.before.before.before.before.before.before.before.before.before.before.args in
-    (Put-as (ap lineBytes (table-line _ _ _ _ _ _ _ c.before.before.before.before.before.before.before.before.before.before.put.ensures c.before.before.before.before.before.before.before.put2.ensures _ refl ∙ as-words s.value s.plain s.other s.variables.now c.before.before.before.before.before.before.before.before.before.before.before.before.before.before.ranges.value.sfits c.before.before.before.before.before.before.before.before.before.before.before.before.before.before.requires.0)) c.before.before.put-sized.ensures.0, c.before.before.put-sized.ensures.1)
+    (Put-as (ap line_bytes (table-line _ _ _ _ _ _ _ c.before.before.before.before.before.before.before.before.before.before.put.ensures c.before.before.before.before.before.before.before.put2.ensures _ refl ∙ as-words s.value s.plain s.other s.variables.now c.before.before.before.before.before.before.before.before.before.before.before.before.before.before.ranges.value.sfits c.before.before.before.before.before.before.before.before.before.before.before.before.before.before.requires.0)) c.before.before.put-sized.ensures.0, c.before.before.put-sized.ensures.1)
 
 pub put-in-table-spec : {M : Type 1} → statement M
 put-in-table-spec =

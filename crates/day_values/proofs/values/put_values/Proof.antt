@@ -5,16 +5,16 @@ use mir.Syntax.{w32}
 use mir.Val.{to_z}
 use Rattle.text_numbers.specs.PutLaws.{Put-as}
 use Rattle.text_lines.specs.Line.{lines_of}
-use Rattle.day_values.proofs.Walk.{made-space, made_inside, made-length, value-word, value-is, setting-lines, Made, made-start, made-end, made-next}
-use Rattle.day_run.specs.Days.{pairsOf}
-use Rattle.day_values.specs.Values.{dayLine}
+use Rattle.day_values.proofs.Walk.{made-space, made_inside, made-length, value-word, value_is, setting-lines, Made, made-start, made-end, made-next}
+use Rattle.day_run.specs.Days.{pairs_of}
+use Rattle.day_values.specs.Values.{day_line}
 use borrow.Author.Rules.{rules}
 use Rattle.day_values.proofs.values.put_values.Statement.{statement}
 use Rattle.day_values.proofs.values.put_values.Tie as tie
 
 abbrev invariant-loop : tie.invariant-loop
 invariant-loop header rows text output₀ variable lowest values done₀ end₀ output done end =
-    Made (dayLine header rows variable (pairsOf (lines_of text))) (to_z w32 lowest) values output₀ done end output
+    Made (day_line header rows variable (pairs_of (lines_of text))) (to_z w32 lowest) values output₀ done end output
 
 abbrev decreases-loop : tie.decreases-loop
 decreases-loop header rows text output₀ variable lowest values done₀ end₀ output done end =
@@ -62,7 +62,7 @@ loop-less c =
 
 loop-again : tie.Need-loop-preserved invariant-loop decreases-loop
 loop-again c =
-    made-next _ c.before.before.before.before.before.loop.invariant c.before.before.before.before.loop-test.true _ (value-is c.before.before.before.before.before.before.before.before.before.requires.1.0 c.before.before.before.before.loop-test.true) _ _ c.before.before.put-day.ensures.0 c.before.before.put-day.ensures.1
+    made-next _ c.before.before.before.before.before.loop.invariant c.before.before.before.before.loop-test.true _ (value_is c.before.before.before.before.before.before.before.before.before.requires.1.0 c.before.before.before.before.loop-test.true) _ _ c.before.before.put-day.ensures.0 c.before.before.put-day.ensures.1
 
 same_length : tie.Need-same-length invariant-loop decreases-loop
 same_length c =

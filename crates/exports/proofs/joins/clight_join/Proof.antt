@@ -20,8 +20,8 @@ returns : tie.Need-returns
 returns c =
     let joined = c.before.before.join in
     let result = joined.ensures.0 in (
-      c.of-join.ensures ∙ ap (λ (r : JoinResult). answer_of r.numbers) result,
-      (ap (λ (r : JoinResult). r.rows) result, joins-if-done _ _ _ _ _ _ joined.result _ c.of-join.ensures result joined.ensures.1),
+      c.of_join.ensures ∙ ap (λ (r : JoinResult). answer_of r.numbers) result,
+      (ap (λ (r : JoinResult). r.rows) result, joins-if-done _ _ _ _ _ _ joined.result _ c.of_join.ensures result joined.ensures.1),
     )
 
 pub clight-join-spec : {M : Type 1} → statement M

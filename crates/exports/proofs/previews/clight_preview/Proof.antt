@@ -1,7 +1,7 @@
 -- `clight_preview` hands on the entry's answer, as numbers, and the words that it leaves.
 use mathlib.Core.Path.{ap, ◌∙◌}
 use Rattle.program_previews.specs.Previews.{PreviewResult}
-use Rattle.exports.specs.Numbers.{previewAnswer}
+use Rattle.exports.specs.Numbers.{preview_answer}
 use borrow.Author.Rules.{rules}
 use Rattle.exports.proofs.previews.clight_preview.Statement.{statement}
 use Rattle.exports.proofs.previews.clight_preview.Tie as tie
@@ -18,7 +18,7 @@ same_length c = search rules
 returns : tie.Need-returns
 returns c =
     let result = c.before.before.preview.ensures in (
-      c.of-preview.ensures ∙ ap (λ (r : PreviewResult). previewAnswer r.numbers r.tally) result,
+      c.of-preview.ensures ∙ ap (λ (r : PreviewResult). preview_answer r.numbers r.tally) result,
       (ap (λ (r : PreviewResult). r.store) result, ap (λ (r : PreviewResult). r.scratch) result),
     )
 

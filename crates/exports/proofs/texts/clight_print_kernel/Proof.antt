@@ -1,6 +1,6 @@
 -- `clight_print_kernel` hands on the entry's answer, as numbers, and the page that it leaves.
 use mathlib.Core.Path.{ap, ◌∙◌}
-use Rattle.exports.specs.Numbers.{outcomeAnswer}
+use Rattle.exports.specs.Numbers.{outcome_answer}
 use borrow.Author.Rules.{rules}
 use Rattle.exports.proofs.texts.clight_print_kernel.Statement.{statement}
 use Rattle.exports.proofs.texts.clight_print_kernel.Tie as tie
@@ -17,7 +17,7 @@ same_length c = search rules
 returns : tie.Need-returns
 returns c =
     let result = c.before.before.before.print-kernel.ensures.0 in
-    (c.of-write.ensures ∙ ap outcomeAnswer result.outcome, result.text-left)
+    (c.of-write.ensures ∙ ap outcome_answer result.outcome, result.text_left)
 
 pub clight-print-kernel-spec : {M : Type 1} → statement M
 clight-print-kernel-spec =

@@ -1,6 +1,6 @@
 -- `clight_read_kernel` hands on the entry's answer, as numbers, and the tables that it leaves.
 use mathlib.Core.Path.{ap, ◌∙◌}
-use Rattle.exports.specs.Numbers.{outcomeAnswer}
+use Rattle.exports.specs.Numbers.{outcome_answer}
 use borrow.Author.Rules.{rules}
 use Rattle.exports.proofs.texts.clight_read_kernel.Statement.{statement}
 use Rattle.exports.proofs.texts.clight_read_kernel.Tie as tie
@@ -20,7 +20,7 @@ same-length-2 c = search rules
 returns : tie.Need-returns
 returns c =
     let result = c.before.before.before.read-kernel.ensures in
-    (c.of-read.ensures ∙ ap outcomeAnswer result.outcome, (result.header-left, result.rows_left))
+    (c.of_read.ensures ∙ ap outcome_answer result.outcome, (result.header_left, result.rows-left))
 
 pub clight-read-kernel-spec : {M : Type 1} → statement M
 clight-read-kernel-spec =

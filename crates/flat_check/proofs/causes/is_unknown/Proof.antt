@@ -1,7 +1,7 @@
 -- `is_unknown` tests the line's operation.
 use mathlib.Core.Path.{ap, ◌∙◌}
 use mathlib.Core.Bool.{not}
-use Rattle.flat.specs.Refusal.{knownOperation, unknownOperation}
+use Rattle.flat.specs.Refusal.{known_operation, unknown_operation}
 use borrow.Author.Rules.{rules}
 use Rattle.flat_check.proofs.causes.is_unknown.Statement.{statement}
 use Rattle.flat_check.proofs.causes.is_unknown.Tie as tie
@@ -13,9 +13,9 @@ known-operation-requires : tie.Need-known-operation-requires
 known-operation-requires c κs = search rules
 
 returns : tie.Need-returns
-unfolding unknownOperation
+unfolding unknown_operation
 returns c =
-    ap not (c.known-operation.ensures ∙ ap knownOperation c.before.operation-at.ensures)
+    ap not (c.known-operation.ensures ∙ ap known_operation c.before.operation-at.ensures)
 
 pub is-unknown-spec : {M : Type 1} → statement M
 is-unknown-spec = tie.close (tie.spec operation-at-requires known-operation-requires returns)

@@ -1,13 +1,13 @@
 -- `known_operation` makes the tests of its definition in order.
 use borrow.Author.Tests.{le-ltb, lt-ltb, not-true, not-false}
-use Rattle.flat.specs.Refusal.{knownOperation}
+use Rattle.flat.specs.Refusal.{known_operation}
 use Rattle.flat_check.proofs.Tests.{known_is}
 use borrow.Author.Rules.{rules}
 use Rattle.flat_check.proofs.causes.known_operation.Statement.{statement}
 use Rattle.flat_check.proofs.causes.known_operation.Tie as tie
 
 returns : tie.Need-returns
-unfolding knownOperation
+unfolding known_operation
 returns c =
     rw (le-ltb _ _ c.if1.true)
 

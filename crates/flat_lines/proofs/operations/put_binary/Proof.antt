@@ -27,25 +27,25 @@ atom-sort-requires : tie.Need-atom-sort-requires
 atom-sort-requires c κs =
     let a = c.before.before.before.requires.0 in
     let b = binary-parts a.table _ a.inside c.before.before.before.requires.1 c.before.before.before.requires.2 in
-    (a.table, rw c.before.number-at2.ensures b.left-inside, rw c.before.number-at2.ensures c.before.before.before.requires.3)
+    (a.table, rw c.before.number-at2.ensures b.left_inside, rw c.before.number-at2.ensures c.before.before.before.requires.3)
 
 atom-sort-requires-2 : tie.Need-atom-sort-requires-2
 atom-sort-requires-2 c κs =
     let a = c.before.before.before.before.requires.0 in
     let b = binary-parts a.table _ a.inside c.before.before.before.before.requires.1 c.before.before.before.before.requires.2 in
-    (a.table, rw c.before.number-at3.ensures b.right-inside, rw c.before.number-at3.ensures c.before.before.before.before.requires.4)
+    (a.table, rw c.before.number-at3.ensures b.right_inside, rw c.before.number-at3.ensures c.before.before.before.before.requires.4)
 
 word-at-requires : tie.Need-word-at-requires
 word-at-requires c κs =
     let a = c.before.before.before.before.before.requires.0 in
     let b = binary-parts a.table _ a.inside c.before.before.before.before.before.requires.1 c.before.before.before.before.before.requires.2 in
-    omega (arith, c.before.before.before.number-at2.ensures, b.left-inside)
+    omega (arith, c.before.before.before.number-at2.ensures, b.left_inside)
 
 word-at-requires-2 : tie.Need-word-at-requires-2
 word-at-requires-2 c κs =
     let a = c.before.before.before.before.before.before.requires.0 in
     let b = binary-parts a.table _ a.inside c.before.before.before.before.before.before.requires.1 c.before.before.before.before.before.before.requires.2 in
-    omega (arith, c.before.before.before.number-at3.ensures, b.right-inside)
+    omega (arith, c.before.before.before.number-at3.ensures, b.right_inside)
 
 mul-put-line : tie.Need-overflow-mul-put-line
 mul-put-line c = search rules

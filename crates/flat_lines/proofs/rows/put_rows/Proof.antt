@@ -2,7 +2,7 @@
 use mathlib.Core.Path.{◌≡◌, refl, sym, ◌∙◌}
 use Prim.Native.Nat.{◌≤◌, ◌-◌}
 use native.Mathlib.Omega.{arith}
-use Rattle.words.specs.Table.{rowCount}
+use Rattle.words.specs.Table.{row_count}
 use Rattle.flat_lines.specs.Lent.{Wrote}
 use Rattle.flat_lines.specs.Whole.{wrote_none, wrote-row, wrote-whole}
 use Rattle.flat_lines.proofs.rows.put_rows.Statement.{statement}
@@ -13,7 +13,7 @@ use Rattle.flat_lines.proofs.rows.put_row.Reads as put-row-reads
 
 abbrev invariant-loop : tie.invariant-loop
 invariant-loop out₀ rows sizes lines labels count row₀ out row =
-    (row ≤ count) × (count ≡ rowCount rows) × Wrote rows row out
+    (row ≤ count) × (count ≡ row_count rows) × Wrote rows row out
 
 abbrev decreases-loop : tie.decreases-loop
 decreases-loop out₀ rows sizes lines labels count row₀ out row =
@@ -45,7 +45,7 @@ same_length c =
 
 returns : tie.Need-returns invariant-loop decreases-loop
 returns c =
-    let e : c.before.loop.row ≡ rowCount c.before.before.before.before.before.args.rows.now = omega (arith, c.before.loop.invariant.1) in
+    let e : c.before.loop.row ≡ row_count c.before.before.before.before.before.args.rows.now = omega (arith, c.before.loop.invariant.1) in
     wrote-whole c.before.before.before.before.before.requires.0.table _ _ e c.before.loop.invariant.2
 
 pub put-rows-spec : {M : Type 1} → statement M

@@ -2,8 +2,8 @@
 use Prim.Native.Nat.{◌+◌, ◌*◌, ◌≤◌}
 use native.Mathlib.Omega.{arith}
 use lib.ListN.{length}
-use Rattle.language.specs.Decode.{expressionAt}
-use Rattle.flat_fate.specs.Code.{operandOf}
+use Rattle.language.specs.Decode.{expression_at}
+use Rattle.flat_fate.specs.Code.{operand_of}
 use Rattle.flat_sizes.specs.Numbers.{lines-second, lines-first, lines-both}
 use Rattle.flat_lines.specs.Puts.{if-neither, if-second, if-first, if-both}
 use borrow.Author.Rules.{rules}
@@ -17,7 +17,7 @@ use Rattle.flat_lines.proofs.lines.put_test.Reads as put-test-reads
 returns : tie.Need-returns
 returns c =
     let s = c.before.before.args in
-    if-neither (operandOf (expressionAt s.rows.now s.test)) s.out.now s.yes s.no s.line c.before.if1.true c.if2.true
+    if-neither (operand_of (expression_at s.rows.now s.test)) s.out.now s.yes s.no s.line c.before.if1.true c.if2.true
 
 add-put-test : tie.Need-overflow-add-put-test
 add-put-test c =
@@ -40,7 +40,7 @@ same_length c = search rules
 returns-2 : tie.Need-returns-2
 returns-2 c =
     let s = c.before.before.before.before.before.args in
-    if-second (operandOf (expressionAt s.rows.now s.test)) s.out.now _ s.yes s.no s.line c.before.before.before.before.if1.true c.before.before.before.if2.false c.before.put-test.ensures
+    if-second (operand_of (expression_at s.rows.now s.test)) s.out.now _ s.yes s.no s.line c.before.before.before.before.if1.true c.before.before.before.if2.false c.before.put-test.ensures
 
 add-put-test-3 : tie.Need-overflow-add-put-test-3
 add-put-test-3 c =
@@ -63,7 +63,7 @@ same-length-2 c = search rules
 returns-3 : tie.Need-returns-3
 returns-3 c =
     let s = c.before.before.before.before.before.args in
-    if-first (operandOf (expressionAt s.rows.now s.test)) s.out.now _ s.yes s.no s.line c.before.before.before.before.if1.false c.before.before.before.if3.true c.before.put-test2.ensures
+    if-first (operand_of (expression_at s.rows.now s.test)) s.out.now _ s.yes s.no s.line c.before.before.before.before.if1.false c.before.before.before.if3.true c.before.put-test2.ensures
 
 add-put-test-5 : tie.Need-overflow-add-put-test-5
 add-put-test-5 c =
@@ -112,7 +112,7 @@ same-length-3 c = search rules
 returns-4 : tie.Need-returns-4
 returns-4 c =
     let s = c.before.before.before.before.before.before.before.before.args in
-    if-both (operandOf (expressionAt s.rows.now s.test)) s.out.now _ _ s.yes s.no s.line c.before.before.before.before.before.before.before.if1.false c.before.before.before.before.before.before.if3.false c.before.before.before.before.put-test3.ensures c.before.put-jump.ensures
+    if-both (operand_of (expression_at s.rows.now s.test)) s.out.now _ _ s.yes s.no s.line c.before.before.before.before.before.before.before.if1.false c.before.before.before.before.before.before.if3.false c.before.before.before.before.put-test3.ensures c.before.put-jump.ensures
 
 pub put-if-spec : {M : Type 1} → statement M
 put-if-spec =

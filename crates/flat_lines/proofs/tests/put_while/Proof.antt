@@ -4,8 +4,8 @@ use mathlib.Core.Bool.{true, false}
 use Prim.Native.Nat.{◌+◌, ◌*◌, ◌≤◌}
 use native.Mathlib.Omega.{arith}
 use lib.ListN.{length}
-use Rattle.language.specs.Decode.{expressionAt}
-use Rattle.flat_fate.specs.Code.{operandOf, always}
+use Rattle.language.specs.Decode.{expression_at}
+use Rattle.flat_fate.specs.Code.{operand_of, always}
 use Rattle.flat_sizes.specs.Numbers.{lines-endless, lines-tested}
 use Rattle.flat_lines.specs.Puts.{while-endless, while-tested}
 use borrow.Author.Rules.{rules}
@@ -37,7 +37,7 @@ same_length c = search rules
 returns : tie.Need-returns
 returns c =
     let s = c.before.before.before.before.before.args in
-    while-endless (operandOf (expressionAt s.rows.now s.test)) s.out.now _ _ s.body s.line (sym c.before.before.before.before.is-always.ensures ∙ c.before.before.before.if1.true) c.before.put-jump.ensures
+    while-endless (operand_of (expression_at s.rows.now s.test)) s.out.now _ _ s.body s.line (sym c.before.before.before.before.is-always.ensures ∙ c.before.before.before.if1.true) c.before.put-jump.ensures
 
 add-put-test : tie.Need-overflow-add-put-test
 add-put-test c =
@@ -74,7 +74,7 @@ same-length-2 c = search rules
 returns-2 : tie.Need-returns-2
 returns-2 c =
     let s = c.before.before.before.before.before.before.before.before.args in
-    while-tested (operandOf (expressionAt s.rows.now s.test)) s.out.now _ _ _ s.body s.line (sym c.before.before.before.before.before.before.before.is-always.ensures ∙ c.before.before.before.before.before.before.if1.false) c.before.before.before.before.put-test.ensures c.before.put-jump2.ensures
+    while-tested (operand_of (expression_at s.rows.now s.test)) s.out.now _ _ _ s.body s.line (sym c.before.before.before.before.before.before.before.is-always.ensures ∙ c.before.before.before.before.before.before.if1.false) c.before.before.before.before.put-test.ensures c.before.put-jump2.ensures
 
 pub put-while-spec : {M : Type 1} → statement M
 put-while-spec =

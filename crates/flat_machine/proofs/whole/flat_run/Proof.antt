@@ -1,5 +1,5 @@
 -- `flat_run` hands the check's refusal on, or the answer for an accepted list.
-use Rattle.flat.specs.Results.{flatResult}
+use Rattle.flat.specs.Results.{flat_result}
 use borrow.Author.Rules.{rules}
 use mathlib.Core.Path.{sym, ◌∙◌}
 use Rattle.flat_machine.proofs.whole.flat_run.Statement.{statement}
@@ -21,11 +21,11 @@ same_length : tie.Need-same-length
 same_length c = search rules
 
 returns : tie.Need-returns
-unfolding flatResult
+unfolding flat_result
 returns c = rw (← c.before.before.before.before.before.check.ensures, c.before.before.before.enum_told.given.1) c.before.run-on-store.ensures
 
 returns-2 : tie.Need-returns-2
-unfolding flatResult
+unfolding flat_result
 returns-2 c = rw (← c.before.before.before.check.ensures, c.before.verdict.given.1)
 
 pub flat-run-spec : {M : Type 1} → statement M

@@ -1,8 +1,8 @@
 -- `run_accepted` lends room for the bounds.
-use Rattle.flat.specs.Accepts.{accepted-legal}
+use Rattle.flat.proofs.Accepts.{accepted-legal}
 use Rattle.flat_machine.proofs.Start.{startable, whole_run}
 use Rattle.words.proofs.Signed.{natural-again}
-use Rattle.words.specs.Laws.{headerFits-facts}
+use Rattle.words.specs.Laws.{header_fits-facts}
 use Rattle.words.specs.declared.Form.TheVariants.{Kernel}
 use borrow.Author.Rules.{rules}
 use lib.ListN.{length}
@@ -16,10 +16,10 @@ leading-requires : tie.Need-leading-requires
 leading-requires c κs = tt
 
 sub-n : tie.Need-overflow-sub-n
-sub-n c = omega (arith, c.leading.ensures, (headerFits-facts Kernel c.before.args.header.now (accepted-legal _ _ c.before.requires.0).header-fits).least)
+sub-n c = omega (arith, c.leading.ensures, (header_fits-facts Kernel c.before.args.header.now (accepted-legal _ _ c.before.requires.0).header-fits).least)
 
 add-n : tie.Need-overflow-add-n
-add-n c = omega (arith, (headerFits-facts Kernel c.before.args.header.now (accepted-legal _ _ c.before.requires.0).header-fits).most)
+add-n c = omega (arith, (header_fits-facts Kernel c.before.args.header.now (accepted-legal _ _ c.before.requires.0).header-fits).most)
 
 mul-start : tie.Need-overflow-mul-start
 mul-start c = omega (arith, c.leading.ensures)
@@ -34,13 +34,13 @@ part-start-end : tie.Need-slice-bounds-start-end
 part-start-end c = search rules
 
 shared-slice-copy-out-natural : tie.Need-shared-slice-copy-out-natural
-shared-slice-copy-out-natural c = omega (arith, (headerFits-facts Kernel c.before.before.args.header.now (accepted-legal _ _ c.before.before.requires.0).header-fits).least)
+shared-slice-copy-out-natural c = omega (arith, (header_fits-facts Kernel c.before.before.args.header.now (accepted-legal _ _ c.before.before.requires.0).header-fits).least)
 
 natural-requires : tie.Need-natural-requires
 natural-requires c κs = tt
 
 array-borrow-prefix-bounds : tie.Need-array-borrow-prefix-bounds
-array-borrow-prefix-bounds c = omega (arith, c.before.before.before.leading.ensures, (headerFits-facts Kernel c.before.before.before.before.args.header.now (accepted-legal _ _ c.before.before.before.before.requires.0).header-fits).most)
+array-borrow-prefix-bounds c = omega (arith, c.before.before.before.leading.ensures, (header_fits-facts Kernel c.before.before.before.before.args.header.now (accepted-legal _ _ c.before.before.before.before.requires.0).header-fits).most)
 
 slice-aggregate-start : tie.Need-slice-aggregate-start
 slice-aggregate-start c = sym (length-take-le _ _ (array-borrow-prefix-bounds c.before))

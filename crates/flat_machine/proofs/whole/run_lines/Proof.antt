@@ -1,8 +1,8 @@
 -- `run_lines` makes a line a turn. The invariant: from the line and the store at hand the run is the whole run. The measure is the unspent
 -- budget, and a line not yet made.
-use Rattle.machine_operations.specs.Bounds.{layoutFrom}
+use Rattle.machine_operations.specs.Bounds.{layout_from}
 use Rattle.flat.specs.Lines.{run_from}
-use Rattle.flat.specs.Words.{lineCount, lines_of}
+use Rattle.flat.specs.Words.{line_count, lines_of}
 use Rattle.flat_machine.proofs.Running.{Runs, runs-start, runs_on, runs-spent, runs-fault, runs-end}
 use borrow.Author.Rules.{rules}
 use lib.ListN.{length}
@@ -13,7 +13,7 @@ use Rattle.flat_machine.proofs.whole.run_lines.Tie as tie
 
 abbrev invariant-loop : tie.invariant-loop
 invariant-loop list bounds store₀ budget lines left₀ line₀ store left line =
-    (length store ≡ length store₀) × (lines ≡ lineCount list) × Runs (layoutFrom bounds) list budget left line store (run_from (layoutFrom bounds) (lines_of list) budget 0 0 store₀)
+    (length store ≡ length store₀) × (lines ≡ line_count list) × Runs (layout_from bounds) list budget left line store (run_from (layout_from bounds) (lines_of list) budget 0 0 store₀)
 
 abbrev decreases-loop : tie.decreases-loop
 decreases-loop list bounds store₀ budget lines left₀ line₀ store left line = left

@@ -1,7 +1,7 @@
 use native.Mathlib.Omega.{arith}
 use mathlib.Core.Path.{◌∙◌, sym, ap, ◌≡◌, refl}
 use Rattle.words.specs.Table.{number_at}
-use Rattle.flat_kernel_rows.specs.Rows.{number-statement}
+use Rattle.flat_kernel_rows.proofs.Rows.{number-statement}
 use Rattle.flat_sizes.specs.Places.{placed-here, placed-other, placed-both, labelled-other}
 use borrow.Author.Rules.{rules}
 use Rattle.flat_sizes.proofs.places.place_row.Statement.{statement}

@@ -2,7 +2,7 @@ use mathlib.Core.Path.{◌≡◌, refl, sym, ◌∙◌, subst}
 use Prim.Native.Nat.{ℕ, ◌≤◌, ◌-◌, ◌+◌}
 use native.Mathlib.Omega.{arith}
 use lib.ListN.{length}
-use Rattle.words.specs.Table.{rowCount}
+use Rattle.words.specs.Table.{row_count}
 use Rattle.flat_sizes.specs.Tables.{LinesPlaced, Labelled}
 use Rattle.flat_sizes.specs.Places.{placed-start, labelled-start, placed_at, labelled-at}
 use Rattle.flat_sizes.proofs.places.place_rows.Statement.{statement}
@@ -13,7 +13,7 @@ use Rattle.flat_sizes.proofs.places.place_row.Reads as place-row-reads
 
 abbrev invariant-loop : tie.invariant-loop
 invariant-loop rows sizes lines₀ labels₀ count row₀ lines labels row =
-    (row ≤ count) × (count ≡ rowCount rows) × LinesPlaced rows row lines × Labelled rows row labels × (length lines ≡ length lines₀) × (length labels ≡ length labels₀)
+    (row ≤ count) × (count ≡ row_count rows) × LinesPlaced rows row lines × Labelled rows row labels × (length lines ≡ length lines₀) × (length labels ≡ length labels₀)
 
 abbrev decreases-loop : tie.decreases-loop
 decreases-loop rows sizes lines₀ labels₀ count row₀ lines labels row =
@@ -49,7 +49,7 @@ same-length-2 c =
 
 returns : tie.Need-returns invariant-loop decreases-loop
 returns c =
-    let e : c.before.loop.row ≡ rowCount c.before.before.before.before.before.args.rows.now = omega (arith, c.before.loop.invariant.1) in
+    let e : c.before.loop.row ≡ row_count c.before.before.before.before.before.args.rows.now = omega (arith, c.before.loop.invariant.1) in
     (placed_at c.before.before.before.before.before.requires.0 e c.before.loop.invariant.2, labelled-at c.before.before.before.before.before.requires.0 e c.before.loop.invariant.3)
 
 pub place-rows-spec : {M : Type 1} → statement M

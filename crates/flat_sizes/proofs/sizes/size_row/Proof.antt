@@ -1,6 +1,6 @@
 use native.Mathlib.Omega.{arith}
 use mathlib.Core.Path.{◌∙◌, sym, ap, ◌≡◌, refl}
-use Rattle.flat_kernel_rows.specs.Rows.{number-statement}
+use Rattle.flat_kernel_rows.proofs.Rows.{number-statement}
 use Rattle.flat_sizes.specs.Sizes.{next-room, row-sum, size_few, sized_row, sized-other}
 use borrow.Author.Rules.{rules}
 use Rattle.flat_sizes.proofs.sizes.size_row.Statement.{statement}

@@ -2,7 +2,7 @@ use mathlib.Core.Path.{◌≡◌, refl, ◌∙◌, subst}
 use Prim.Native.Nat.{ℕ, ◌≤◌, ◌-◌, ◌+◌}
 use native.Mathlib.Omega.{arith}
 use lib.ListN.{length}
-use Rattle.words.specs.Table.{rowCount}
+use Rattle.words.specs.Table.{row_count}
 use Rattle.flat_sizes.specs.Tables.{Sized}
 use Rattle.flat_sizes.specs.Sizes.{sized-none, sized-at}
 use Rattle.flat_sizes.proofs.sizes.size_rows.Statement.{statement}
@@ -13,7 +13,7 @@ use Rattle.flat_sizes.proofs.sizes.size_row.Reads as size-row-reads
 
 abbrev invariant-loop : tie.invariant-loop
 invariant-loop rows sizes₀ row₀ sizes row =
-    (row ≤ rowCount rows) × Sized rows row sizes × (length sizes ≡ length sizes₀)
+    (row ≤ row_count rows) × Sized rows row sizes × (length sizes ≡ length sizes₀)
 
 abbrev decreases-loop : tie.decreases-loop
 decreases-loop rows sizes₀ row₀ sizes row =

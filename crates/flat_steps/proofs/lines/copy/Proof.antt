@@ -1,5 +1,5 @@
 -- `copy` reads the operand and stores it.
-use Rattle.flat.specs.Words.{leftConstant}
+use Rattle.flat.specs.Words.{left_constant}
 use Rattle.flat_steps.proofs.Handed.{made_so}
 use Rattle.flat_steps.proofs.Made.{within-is, field-inside, variable-inside, operand-ready, copy-next}
 use borrow.Author.Rules.{rules}
@@ -11,7 +11,7 @@ left-constant-requires : tie.Need-left-constant-requires
 left-constant-requires c κs = search rules
 
 operand-requires : tie.Need-operand-requires
-operand-requires c κs = operand-ready c.before.before.before.requires 2 (omega arith) (leftConstant c.before.before.before.args.operation) c.before.left-constant.result c.before.left-constant.ensures (within-is c.before.before.before.requires).1
+operand-requires c κs = operand-ready c.before.before.before.requires 2 (omega arith) (left_constant c.before.before.before.args.operation) c.before.left-constant.result c.before.left-constant.ensures (within-is c.before.before.before.requires).1
 
 number-at-requires : tie.Need-number-at-requires
 number-at-requires c κs = (field-inside c.before.before.before.before.requires 1 (omega arith), omega (arith, variable-inside c.before.before.before.before.requires _ (within-is c.before.before.before.before.requires).0, c.before.before.before.before.requires.ready.setting.few_words))

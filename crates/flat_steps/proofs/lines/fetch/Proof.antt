@@ -1,6 +1,6 @@
 -- `fetch` reads the index, makes the bounds test and stores the element.
-use Rattle.flat.specs.Accepts.{array-below}
-use Rattle.flat.specs.Words.{rightConstant}
+use Rattle.flat.proofs.Accepts.{array-below}
+use Rattle.flat.specs.Words.{right_constant}
 use Rattle.flat_steps.proofs.Handed.{made_so}
 use Rattle.flat_steps.proofs.Made.{fetch-within, small, field-inside, variable-inside, operand-ready, lies, fetch-fails, fetch-next, fetch-inside}
 use borrow.Author.Rules.{rules}
@@ -13,10 +13,10 @@ right-constant-requires : tie.Need-right-constant-requires
 right-constant-requires c κs = search rules
 
 operand-requires : tie.Need-operand-requires
-operand-requires c κs = operand-ready c.before.before.before.requires 3 (omega arith) (rightConstant c.before.before.before.args.operation) c.before.right-constant.result c.before.right-constant.ensures (fetch-within c.before.before.before.args.store.now c.before.before.before.requires).2
+operand-requires c κs = operand-ready c.before.before.before.requires 3 (omega arith) (right_constant c.before.before.before.args.operation) c.before.right-constant.result c.before.right-constant.ensures (fetch-within c.before.before.before.args.store.now c.before.before.before.requires).2
 
 number-at-requires : tie.Need-number-at-requires
-number-at-requires c κs = (field-inside c.before.before.before.before.requires 2 (omega arith), omega (arith, array-below _ (small c.before.before.before.before.requires) _ (fetch-within c.before.before.before.before.args.store.now c.before.before.before.before.requires).1, (small c.before.before.before.before.requires).few-arrays))
+number-at-requires c κs = (field-inside c.before.before.before.before.requires 2 (omega arith), omega (arith, array-below _ (small c.before.before.before.before.requires) _ (fetch-within c.before.before.before.before.args.store.now c.before.before.before.before.requires).1, (small c.before.before.before.before.requires).few_arrays))
 
 locate-requires : tie.Need-locate-requires
 locate-requires c κs = rw c.number_at.ensures (lies c.before.before.before.before.before.requires _ (fetch-within c.before.before.before.before.before.args.store.now c.before.before.before.before.before.requires).1).bounded

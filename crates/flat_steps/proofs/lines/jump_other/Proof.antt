@@ -1,5 +1,5 @@
 -- `jump_other` tests the operand.
-use Rattle.flat.specs.Words.{leftConstant}
+use Rattle.flat.specs.Words.{left_constant}
 use Rattle.flat_steps.proofs.Made.{within-is, operand-ready, jump-ready, other-stays, other-jumps}
 use borrow.Author.Rules.{rules}
 use native.Mathlib.Omega.{arith}
@@ -10,7 +10,7 @@ left-constant-requires : tie.Need-left-constant-requires
 left-constant-requires c κs = search rules
 
 operand-requires : tie.Need-operand-requires
-operand-requires c κs = operand-ready c.before.before.requires 2 (omega arith) (leftConstant c.before.before.args.operation) c.left-constant.result c.left-constant.ensures (within-is c.before.before.requires).0
+operand-requires c κs = operand-ready c.before.before.requires 2 (omega arith) (left_constant c.before.before.args.operation) c.left-constant.result c.left-constant.ensures (within-is c.before.before.requires).0
 
 is-true-requires : tie.Need-is-true-requires
 is-true-requires c κs = search rules

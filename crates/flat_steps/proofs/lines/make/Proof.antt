@@ -1,5 +1,5 @@
 -- `make` hands a line to the function of its kind; what no test takes is kind 4.
-use Rattle.flat_steps.proofs.Made.{small-operation, of-kind, kind-known, jump-ready, jump-next, abort-fails, last-kind}
+use Rattle.flat_steps.proofs.Made.{small-operation, of-kind, kind-known, jump-ready, jump-next, abort_fails, last-kind}
 use borrow.Author.Rules.{rules}
 use mathlib.Core.Path.{sym, ◌∙◌}
 use native.Mathlib.Omega.{arith}
@@ -76,7 +76,7 @@ returns-7 : tie.Need-returns-7
 returns-7 c = c.jump-other.ensures
 
 returns-8 : tie.Need-returns-8
-returns-8 c = abort-fails c.before.before.before.before.before.before.before.before.before.before.before.before.args.store.now (of-kind c.before.before.before.before.before.before.before.before.before.before.before.before.requires c.before.before.before.before.before.before.before.before.before.before.number_at.ensures (sym c.before.before.before.before.before.before.before.before.before.operation-kind.ensures ∙ c.if8.true))
+returns-8 c = abort_fails c.before.before.before.before.before.before.before.before.before.before.before.before.args.store.now (of-kind c.before.before.before.before.before.before.before.before.before.before.before.before.requires c.before.before.before.before.before.before.before.before.before.before.number_at.ensures (sym c.before.before.before.before.before.before.before.before.before.operation-kind.ensures ∙ c.if8.true))
 
 negate-requires : tie.Need-negate-requires
 negate-requires c κs = of-kind c.before.before.before.before.before.before.before.before.before.before.before.before.before.requires c.before.before.before.before.before.before.before.before.before.before.before.number_at.ensures (sym c.before.before.before.before.before.before.before.before.before.before.operation-kind.ensures ∙ last-kind (kind-known c.before.before.before.before.before.before.before.before.before.before.before.before.before.requires c.before.before.before.before.before.before.before.before.before.before.before.number_at.ensures c.before.before.before.before.before.before.before.before.before.before.operation-kind.ensures) (sym c.before.before.before.before.before.before.before.before.is-binary.ensures ∙ c.before.before.before.before.before.before.before.if2.false) c.before.before.before.before.before.before.if3.false c.before.before.before.before.before.before.before.before.before.if1.false c.before.before.before.before.before.if4.false c.before.before.before.before.if5.false c.before.before.before.if6.false c.before.before.if7.false c.before.if8.false)

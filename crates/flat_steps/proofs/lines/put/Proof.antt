@@ -1,6 +1,6 @@
 -- `put` reads the value and the index, makes the bounds test and stores the value.
-use Rattle.flat.specs.Accepts.{array-below}
-use Rattle.flat.specs.Words.{leftConstant, rightConstant}
+use Rattle.flat.proofs.Accepts.{array-below}
+use Rattle.flat.specs.Words.{left_constant, right_constant}
 use Rattle.flat_steps.proofs.Handed.{made_so}
 use Rattle.flat_steps.proofs.Made.{within-is, small, field-inside, operand-ready, lies, put-fails, put_next, put-inside}
 use borrow.Author.Rules.{rules}
@@ -12,16 +12,16 @@ right-constant-requires : tie.Need-right-constant-requires
 right-constant-requires c κs = search rules
 
 operand-requires : tie.Need-operand-requires
-operand-requires c κs = operand-ready c.before.before.before.requires 3 (omega arith) (rightConstant c.before.before.before.args.operation) c.before.right-constant.result c.before.right-constant.ensures (within-is c.before.before.before.requires).2
+operand-requires c κs = operand-ready c.before.before.before.requires 3 (omega arith) (right_constant c.before.before.before.args.operation) c.before.right-constant.result c.before.right-constant.ensures (within-is c.before.before.before.requires).2
 
 left-constant-requires : tie.Need-left-constant-requires
 left-constant-requires c κs = search rules
 
 operand-requires-2 : tie.Need-operand-requires-2
-operand-requires-2 c κs = operand-ready c.before.before.before.before.before.before.requires 2 (omega arith) (leftConstant c.before.before.before.before.before.before.args.operation) c.before.left-constant.result c.before.left-constant.ensures (within-is c.before.before.before.before.before.before.requires).1
+operand-requires-2 c κs = operand-ready c.before.before.before.before.before.before.requires 2 (omega arith) (left_constant c.before.before.before.before.before.before.args.operation) c.before.left-constant.result c.before.left-constant.ensures (within-is c.before.before.before.before.before.before.requires).1
 
 number-at-requires : tie.Need-number-at-requires
-number-at-requires c κs = (field-inside c.before.before.before.before.before.before.before.requires 1 (omega arith), omega (arith, array-below _ (small c.before.before.before.before.before.before.before.requires) _ (within-is c.before.before.before.before.before.before.before.requires).0, (small c.before.before.before.before.before.before.before.requires).few-arrays))
+number-at-requires c κs = (field-inside c.before.before.before.before.before.before.before.requires 1 (omega arith), omega (arith, array-below _ (small c.before.before.before.before.before.before.before.requires) _ (within-is c.before.before.before.before.before.before.before.requires).0, (small c.before.before.before.before.before.before.before.requires).few_arrays))
 
 locate-requires : tie.Need-locate-requires
 locate-requires c κs = rw c.number_at.ensures (lies c.before.before.before.before.before.before.before.before.requires _ (within-is c.before.before.before.before.before.before.before.before.requires).0).bounded

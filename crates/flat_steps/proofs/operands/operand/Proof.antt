@@ -9,7 +9,7 @@ word-at-requires : tie.Need-word-at-requires
 word-at-requires c κs = c.before.requires.inside
 
 returns : tie.Need-returns
-returns c = rw c.before.if1.true (back c.word_at.result c.word_at.type-inv ∙ c.word_at.ensures)
+returns c = rw c.before.if1.true (back c.word-at.result c.word-at.type-inv ∙ c.word-at.ensures)
 
 number-at-requires : tie.Need-number-at-requires
 number-at-requires c κs = (c.before.requires.inside, omega (arith, c.before.requires.named c.if1.false, c.before.requires.few_words))

@@ -15,16 +15,16 @@ word-at-requires : tie.Need-word-at-requires
 word-at-requires c κs = omega (arith, c.requires.inside)
 
 cast-result : tie.Need-overflow-cast-result
-cast-result c = let s = c.before in distance-fits s.args.line (omega (arith, s.requires.inside)) _ _ c.word_at.result c.word_at.type-inv c.word_at.ensures s.requires.lands
+cast-result c = let s = c.before in distance-fits s.args.line (omega (arith, s.requires.inside)) _ _ c.word-at.result c.word-at.type-inv c.word-at.ensures s.requires.lands
 
 add-result : tie.Need-overflow-add-result
-add-result c = let s = c.before in total-fits s.args.line (omega (arith, s.requires.inside)) _ _ c.word_at.result c.word_at.type-inv c.word_at.ensures s.requires.lands
+add-result c = let s = c.before in total-fits s.args.line (omega (arith, s.requires.inside)) _ _ c.word-at.result c.word-at.type-inv c.word-at.ensures s.requires.lands
 
 cast-result-2 : tie.Need-overflow-cast-result-2
-cast-result-2 c = let s = c.before in total-casts s.args.line (omega (arith, s.requires.inside)) _ _ c.word_at.result c.word_at.type-inv c.word_at.ensures s.requires.lands
+cast-result-2 c = let s = c.before in total-casts s.args.line (omega (arith, s.requires.inside)) _ _ c.word-at.result c.word-at.type-inv c.word-at.ensures s.requires.lands
 
 returns : tie.Need-returns
-returns c = let s = c.before in target_is s.args.line (omega (arith, s.requires.inside)) _ _ c.word_at.result c.word_at.type-inv c.word_at.ensures s.requires.lands
+returns c = let s = c.before in target_is s.args.line (omega (arith, s.requires.inside)) _ _ c.word-at.result c.word-at.type-inv c.word-at.ensures s.requires.lands
 
 pub target-of-spec : {M : Type 1} → statement M
 target-of-spec =

@@ -3,9 +3,9 @@ use mathlib.Core.Path.{refl, ap, ◌∙◌}
 use mathlib.Core.List.{List}
 use native.Mathlib.Omega.{arith}
 use lib.IntN.{ℤ}
-use Rattle.words.specs.Layout.{headerFits}
+use Rattle.words.specs.Layout.{header_fits}
 use Rattle.words.specs.declared.Form.TheVariants.{Kernel}
-use Rattle.text_form.specs.ReaderLaws.{scratch-holds, scratch-part}
+use Rattle.text_form.proofs.ReaderLaws.{scratch-holds, scratch-part}
 use borrow.Author.Rules.{rules}
 use Rattle.flat_text.proofs.reader.first_fits.Statement.{statement}
 use Rattle.flat_text.proofs.reader.first_fits.Tie as tie
@@ -29,7 +29,7 @@ header-fits-requires : tie.Need-header-fits-requires
 header-fits-requires c κs = search rules
 
 returns : tie.Need-returns
-returns c = c.header-fits.ensures ∙ ap (λ (l : List ℤ). headerFits Kernel l) (scratch-part c.before.before.before.before.before.before.before.requires _ _ c.before.before.before.before.store-numbers.ensures)
+returns c = c.header-fits.ensures ∙ ap (λ (l : List ℤ). header_fits Kernel l) (scratch-part c.before.before.before.before.before.before.before.requires _ _ c.before.before.before.before.store-numbers.ensures)
 
 pub first-fits-spec : {M : Type 1} → statement M
 first-fits-spec =

@@ -1,6 +1,6 @@
 -- `read_lines`: cause 1, and then what `store_text` does.
 use native.Mathlib.Omega.{arith}
-use Rattle.text_form.specs.ReaderLaws.{line-exactly}
+use Rattle.text_form.proofs.ReaderLaws.{line-exactly}
 use Rattle.flat_text.specs.ReaderLaws.{line-cause, reads-by}
 use borrow.Author.Rules.{rules}
 use Rattle.flat_text.proofs.reader.read_lines.Statement.{statement}

@@ -20,7 +20,7 @@ loop-holds : tie.Need-loop-init invariant-loop decreases-loop
 loop-holds c = behind-start _ _
 
 mul-number-size : tie.Need-overflow-mul-number-size invariant-loop decreases-loop
-mul-number-size c = omega (arith, c.loop-test.true, c.before.before.well-formed)
+mul-number-size c = omega (arith, c.loop-test.true, c.before.before.well_formed)
 
 shared-slice-copy-out-number-size : tie.Need-shared-slice-copy-out-number-size invariant-loop decreases-loop
 shared-slice-copy-out-number-size c = c.loop-test.true
@@ -39,7 +39,7 @@ returns : tie.Need-returns invariant-loop decreases-loop
 returns c = behind-short c.before.before.before.before.loop.invariant c.before.before.before.loop-test.true c.before.before.number-size-arg.given _ (length-again _ _ (record { sfits = c.before.before.number-size-arg.given }) c.before.number_size.ensures) c.if1.true
 
 add-i : tie.Need-overflow-add-i invariant-loop decreases-loop
-add-i c = omega (arith, c.before.before.before.loop-test.true, c.before.before.before.before.before.well-formed)
+add-i c = omega (arith, c.before.before.before.loop-test.true, c.before.before.before.before.before.well_formed)
 
 loop-less : tie.Need-loop-smaller invariant-loop decreases-loop
 loop-less c = omega (arith, c.before.before.before.loop-test.true)

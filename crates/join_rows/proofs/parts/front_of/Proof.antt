@@ -2,7 +2,7 @@
 use mathlib.Core.Path.{sym, ◌∙◌}
 use Prim.Native.Nat.{◌-◌}
 use native.Mathlib.Omega.{arith}
-use Rattle.words.specs.Table.{rowCount}
+use Rattle.words.specs.Table.{row_count}
 use Rattle.join_rows.specs.StandingLaws.{Going, going-begun, going-number, going_on, going-ended}
 use Rattle.join_rows.proofs.parts.front_of.Statement.{statement}
 use Rattle.join_rows.proofs.parts.front_of.Tie as tie
@@ -13,11 +13,11 @@ invariant-loop kinds rows row₀ number₀ row number =
 
 abbrev decreases-loop : tie.decreases-loop
 decreases-loop kinds rows row₀ number₀ row number =
-    rowCount rows - number
+    row_count rows - number
 
 link-requires : tie.Need-link-requires invariant-loop decreases-loop
 link-requires c κs =
-    let whole = c.requires.0.whole in let some = c.requires.0.some-rows in (omega arith, omega arith, c.requires.2)
+    let whole = c.requires.0.whole in let some = c.requires.0.some_rows in (omega arith, omega arith, c.requires.2)
 
 loop-holds : tie.Need-loop-init invariant-loop decreases-loop
 loop-holds c =

@@ -2,14 +2,14 @@
 use mathlib.Core.Path.{◌≡◌, refl}
 use Prim.Native.Nat.{◌-◌}
 use native.Mathlib.Omega.{arith}
-use Rattle.words.specs.Table.{rowCount}
+use Rattle.words.specs.Table.{row_count}
 use Rattle.join_rows.specs.StandingLaws.{Ranking, ranking-begun, ranking-below, ranking-on, ranking-ended}
 use Rattle.join_rows.proofs.parts.write_ranks.Statement.{statement}
 use Rattle.join_rows.proofs.parts.write_ranks.Tie as tie
 
 abbrev invariant-loop : tie.invariant-loop
 invariant-loop rows around ranks₀ count definitions₀ row₀ ranks definitions row =
-    Ranking rows ranks₀ ranks definitions row × (count ≡ rowCount rows)
+    Ranking rows ranks₀ ranks definitions row × (count ≡ row_count rows)
 
 abbrev decreases-loop : tie.decreases-loop
 decreases-loop rows around ranks₀ count definitions₀ row₀ ranks definitions row =

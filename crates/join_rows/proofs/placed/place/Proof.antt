@@ -2,7 +2,7 @@
 use mathlib.Core.Path.{sym, ◌∙◌}
 use native.Mathlib.Omega.{arith}
 use Rattle.join_rows.specs.RowLaws.{rank_most, place-definition, place_other}
-use Rattle.join_rows.specs.Standings.{placementOf}
+use Rattle.join_rows.specs.Standings.{placement_of}
 use borrow.Author.Rules.{rules}
 use Rattle.join_rows.proofs.placed.place.Statement.{statement}
 use Rattle.join_rows.proofs.placed.place.Tie as tie
@@ -26,7 +26,7 @@ add-result c =
 returns : tie.Need-returns
 returns c =
     let s = c.before.before.before.before.before.before.before in (
-      place-definition (placementOf s.args.standing) s.args.rows.now s.args.row _ (c.before.before.before.wide.ensures ∙ s.requires.0.ranked.is _ s.requires.1) (sym c.before.before.is-of-definition.ensures ∙ c.before.if1.true),
+      place-definition (placement_of s.args.standing) s.args.rows.now s.args.row _ (c.before.before.before.wide.ensures ∙ s.requires.0.ranked.is _ s.requires.1) (sym c.before.before.is-of-definition.ensures ∙ c.before.if1.true),
       omega (arith, c.before.before.before.wide.ensures ∙ s.requires.0.ranked.is _ s.requires.1, rank_most s.args.rows.now s.args.row, s.requires.0.few, s.requires.1, s.requires.0.small.0),
     )
 
@@ -37,7 +37,7 @@ add-result-2 c =
 returns-2 : tie.Need-returns-2
 returns-2 c =
     let s = c.before.before.before.before.before.before.before in (
-      place_other (placementOf s.args.standing) s.args.rows.now s.args.row _ (c.before.before.before.wide.ensures ∙ s.requires.0.ranked.is _ s.requires.1) (sym c.before.before.is-of-definition.ensures ∙ c.before.if1.false),
+      place_other (placement_of s.args.standing) s.args.rows.now s.args.row _ (c.before.before.before.wide.ensures ∙ s.requires.0.ranked.is _ s.requires.1) (sym c.before.before.is-of-definition.ensures ∙ c.before.if1.false),
       omega (arith, c.before.before.before.wide.ensures ∙ s.requires.0.ranked.is _ s.requires.1, rank_most s.args.rows.now s.args.row, s.requires.0.few, s.requires.1, s.requires.0.small.1),
     )
 

@@ -7,7 +7,7 @@ use Rattle.join_rows.proofs.rows.note_rows.Tie as tie
 write-notes-requires : tie.Need-write-notes-requires
 write-notes-requires c κs =
     let s = c.before.before.before in
-    (s.requires.0, s.requires.1.room, s.requires.1.is 0 s.requires.0.some-rows, s.requires.3)
+    (s.requires.0, s.requires.1.room, s.requires.1.is 0 s.requires.0.some_rows, s.requires.3)
 
 write-ranks-requires : tie.Need-write-ranks-requires
 write-ranks-requires c κs =
@@ -23,7 +23,7 @@ same-length-2 c = search rules
 returns : tie.Need-returns
 returns c =
     let ranks = c.before.before.write-ranks.ensures in
-    record { stands = around-notes c.before.before.before.before.before.before.before.write-notes.ensures; ranked = ranks.1; definitions-are = ranks.0 }
+    record { stands = around-notes c.before.before.before.before.before.before.before.write-notes.ensures; ranked = ranks.1; definitions_are = ranks.0 }
 
 pub note-rows-spec : {M : Type 1} → statement M
 note-rows-spec =

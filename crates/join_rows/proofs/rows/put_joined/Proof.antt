@@ -13,7 +13,7 @@ slice-aggregate-note-rows-2 c = search rules
 note-rows-requires : tie.Need-note-rows-requires
 note-rows-requires c κs =
     let s = c.before.before in
-    (s.requires.0.tree-first, blank-zeros _ 2048 s.requires.0.few-first, blank-zeros _ 2048 s.requires.0.few-first, s.requires.2)
+    (s.requires.0.tree_first, blank-zeros _ 2048 s.requires.0.few_first, blank-zeros _ 2048 s.requires.0.few_first, s.requires.2)
 
 slice-aggregate-note-rows-3 : tie.Need-slice-aggregate-note-rows-3
 slice-aggregate-note-rows-3 c = search rules
@@ -24,7 +24,7 @@ slice-aggregate-note-rows-4 c = search rules
 note-rows-requires-2 : tie.Need-note-rows-requires-2
 note-rows-requires-2 c κs =
     let s = c.before.before.before.before.before.before.before in
-    (s.requires.0.tree-second, blank-zeros _ 2048 s.requires.0.few-second, blank-zeros _ 2048 s.requires.0.few-second, s.requires.2)
+    (s.requires.0.tree_second, blank-zeros _ 2048 s.requires.0.few_second, blank-zeros _ 2048 s.requires.0.few_second, s.requires.2)
 
 slice-aggregate-put-noted : tie.Need-slice-aggregate-put-noted
 slice-aggregate-put-noted c = search rules

@@ -6,7 +6,7 @@ use lib.IntN.{ℤ, pos}
 use mir.Syntax.{w32}
 use mir.Facts.{to_z_pos}
 use Rattle.words.specs.Over.{over}
-use Rattle.join.specs.Join.{outerBlock}
+use Rattle.join.specs.Join.{outer_block}
 use borrow.Author.Rules.{rules}
 use Rattle.join_rows.proofs.rows.put_outer.Statement.{statement}
 use Rattle.join_rows.proofs.rows.put_outer.Tie as tie
@@ -24,7 +24,7 @@ same_length : tie.Need-same-length
 same_length c = search rules
 
 returns : tie.Need-returns
-unfolding outerBlock
+unfolding outer_block
 returns c =
     c.before.put.ensures ∙ ap (λ (w : ℤ). over (pos 42 ∷ w ∷ pos 0 ∷ pos 0 ∷ pos 0 ∷ pos 0 ∷ []) c.before.before.before.before.args.out.now) (to_z_pos w32 {n = c.before.before.before.before.args.item} (omega (arith, c.before.before.before.before.requires.0)))
 

@@ -3,8 +3,8 @@ use mathlib.Core.Path.{ap}
 use Prim.Native.Nat.{ℕ, ◌+◌, ◌*◌}
 use native.Mathlib.Omega.{arith}
 use Rattle.words.specs.OverLaws.{back_in}
-use Rattle.words.specs.Table.{rowCount}
-use Rattle.join.specs.Counting.{before-parts}
+use Rattle.words.specs.Table.{row_count}
+use Rattle.join.proofs.Counting.{before-parts}
 use Rattle.join.specs.Join.{before}
 use Rattle.join_rows.specs.PartLaws.{rest-room}
 use Rattle.join_rows.specs.Standings.{part}
@@ -27,12 +27,12 @@ part-put-rows-end c = search rules
 put-rows-requires : tie.Need-put-rows-requires
 put-rows-requires c κs =
     let s = c.before.before.before in
-    (s.requires.0, rest-room s.args.at (6 * before (part s.args.definitions s.args.rows.now) (rowCount s.args.rows.now)) s.args.out.now s.requires.2, s.requires.3)
+    (s.requires.0, rest-room s.args.at (6 * before (part s.args.definitions s.args.rows.now) (row_count s.args.rows.now)) s.args.out.now s.requires.2, s.requires.3)
 
 add-result : tie.Need-overflow-add-result
 add-result c =
     let s = c.before.before.before.before.before in
-    let parts = before-parts (part s.args.definitions s.args.rows.now) (rowCount s.args.rows.now) in
+    let parts = before-parts (part s.args.definitions s.args.rows.now) (row_count s.args.rows.now) in
     omega (arith, parts, c.before.put-rows.ensures.1, s.requires.0.few, s.requires.1)
 
 same_length : tie.Need-same-length

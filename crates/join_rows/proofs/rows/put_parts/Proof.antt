@@ -3,25 +3,25 @@ use mathlib.Core.Path.{sym, ap, ◌∙◌}
 use native.Mathlib.Omega.{arith}
 use Rattle.words.specs.Links.{link}
 use Rattle.check_structure.specs.LinkLaws.{part-inside}
-use Rattle.join.specs.Join.{frontOf}
+use Rattle.join.specs.Join.{front_of}
 use Rattle.join_rows.specs.PartLaws.{Joining, fits1, fits2, fits3, fits4, all-written}
-use Rattle.join_rows.specs.Standings.{placementOf}
+use Rattle.join_rows.specs.Standings.{placement_of}
 use borrow.Author.Rules.{rules}
 use Rattle.join_rows.proofs.rows.put_parts.Statement.{statement}
 use Rattle.join_rows.proofs.rows.put_parts.Tie as tie
 
 -- where both stand, and the first item of the new block
-joining : (c : tie.After-front) → Joining c.before.before.before.before.before.before.args.first.now c.before.before.before.before.before.before.args.second.now (placementOf c.before.before.before.before.before.before.args.of-first) (placementOf c.before.before.before.before.before.before.args.of-second) c.front.result c.before.before.before.before.before.before.args.out.now
+joining : (c : tie.After-front) → Joining c.before.before.before.before.before.before.args.first.now c.before.before.before.before.before.before.args.second.now (placement_of c.before.before.before.before.before.before.args.of-first) (placement_of c.before.before.before.before.before.before.args.of-second) c.front.result c.before.before.before.before.before.before.args.out.now
 joining c =
     let s = c.before.before.before.before.before.before in
     record {
-      whole-first = sym s.requires.0.tree.whole;
-      whole-second = sym s.requires.1.tree.whole;
-      few-first = s.requires.0.few;
-      few-second = s.requires.1.few;
-      of-first = s.requires.2.first-is;
+      whole_first = sym s.requires.0.tree.whole;
+      whole_second = sym s.requires.1.tree.whole;
+      few_first = s.requires.0.few;
+      few_second = s.requires.1.few;
+      of-first = s.requires.2.first_is;
       of-second = s.requires.2.second_is;
-      begins = c.front.ensures.0 ∙ ap (frontOf (placementOf s.args.of-first) s.args.first.now) c.before.link.ensures;
+      begins = c.front.ensures.0 ∙ ap (front_of (placement_of s.args.of-first) s.args.first.now) c.before.link.ensures;
       room = s.requires.3;
     }
 
@@ -31,7 +31,7 @@ link-requires c κs = search rules
 front-requires : tie.Need-front-requires
 front-requires c κs =
     let s = c.before.before.before.before.before in
-    (s.requires.0, part-inside s.args.first.now s.requires.0.tree 0 1 c.link.result s.requires.0.tree.some-rows (omega arith) c.link.ensures)
+    (s.requires.0, part-inside s.args.first.now s.requires.0.tree 0 1 c.link.result s.requires.0.tree.some_rows (omega arith) c.link.ensures)
 
 put-outer-requires : tie.Need-put-outer-requires
 put-outer-requires c κs =

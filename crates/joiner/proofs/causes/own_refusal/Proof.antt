@@ -2,9 +2,9 @@
 use mathlib.Core.Path.{sym, ◌∙◌}
 use native.Mathlib.Omega.{arith}
 use borrow.Author.Tests.{not-true, not-false, le-leb, lt-leb}
-use Rattle.words.specs.Table.{rowCount}
-use Rattle.join.specs.Join.{joinedRows}
-use Rattle.join.specs.JoinLaws.{unequal-headers, too_many_rows}
+use Rattle.words.specs.Table.{row_count}
+use Rattle.join.specs.Join.{joined_rows}
+use Rattle.join.proofs.JoinLaws.{unequal-headers, too_many_rows}
 use Rattle.joiner.specs.JoinerLaws.{parts-count, accepted-parts, accepted-joinable, own-rows}
 use borrow.Author.Rules.{rules}
 use Rattle.joiner.proofs.causes.own_refusal.Statement.{statement}
@@ -28,7 +28,7 @@ returns-2 c =
     let s = c.before.before.before in
     let same = sym c.before.before.same-header.ensures ∙ not-false _ c.before.if1.false in
     let many = parts-count s.args.first.now s.args.second.now (accepted-parts s.args.header.now s.args.first.now s.args.second-header.now s.args.second.now s.requires.0 s.requires.1) in
-    sym (too_many_rows s.args.header.now s.args.first.now s.args.second-header.now s.args.second.now same (lt-leb (rowCount (joinedRows s.args.first.now s.args.second.now)) 2048 (omega (arith, many, c.if2.true))))
+    sym (too_many_rows s.args.header.now s.args.first.now s.args.second-header.now s.args.second.now same (lt-leb (row_count (joined_rows s.args.first.now s.args.second.now)) 2048 (omega (arith, many, c.if2.true))))
 
 joined-refusal-requires : tie.Need-joined-refusal-requires
 joined-refusal-requires c κs =
@@ -41,7 +41,7 @@ returns-3 c =
     let s = c.before.before.before.before in
     let same = sym c.before.before.before.same-header.ensures ∙ not-false _ c.before.before.if1.false in
     let many = parts-count s.args.first.now s.args.second.now (accepted-parts s.args.header.now s.args.first.now s.args.second-header.now s.args.second.now s.requires.0 s.requires.1) in
-    c.joined-refusal.ensures ∙ sym (own-rows s.args.header.now s.args.first.now s.args.second-header.now s.args.second.now same (le-leb (rowCount (joinedRows s.args.first.now s.args.second.now)) 2048 (omega (arith, many, c.before.if2.false))))
+    c.joined-refusal.ensures ∙ sym (own-rows s.args.header.now s.args.first.now s.args.second-header.now s.args.second.now same (le-leb (row_count (joined_rows s.args.first.now s.args.second.now)) 2048 (omega (arith, many, c.before.if2.false))))
 
 pub own-refusal-spec : {M : Type 1} → statement M
 own-refusal-spec =

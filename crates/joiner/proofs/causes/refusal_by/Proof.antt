@@ -28,7 +28,7 @@ part-table-end c = search rules
 room : (c : tie.Start) → 6 + length c.args.first.now + length c.args.second.now ≤ 12288
 room c =
     let few = c.requires.0.few in
-    omega (arith, c.requires.0.parts.tree-first.whole, c.requires.0.parts.tree-second.whole)
+    omega (arith, c.requires.0.parts.tree_first.whole, c.requires.0.parts.tree_second.whole)
 
 refusal-in-table-requires : tie.Need-refusal-in-table-requires
 refusal-in-table-requires c κs =

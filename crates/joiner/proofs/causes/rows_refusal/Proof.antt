@@ -1,7 +1,7 @@
 -- `rows_refusal` takes 9 and 20 in order.
 use mathlib.Core.Path.{sym, ◌∙◌}
 use Rattle.check_structure.specs.RefusalLaws.{ends, goes_on, last}
-use Rattle.join.specs.Join.{rowsRefusal}
+use Rattle.join.specs.Join.{rows_refusal}
 use borrow.Author.Rules.{rules}
 use Rattle.joiner.proofs.causes.rows_refusal.Statement.{statement}
 use Rattle.joiner.proofs.causes.rows_refusal.Tie as tie
@@ -13,7 +13,7 @@ enum-known-deep : tie.Need-enum-known-deep
 enum-known-deep c = search rules
 
 returns : tie.Need-returns
-unfolding rowsRefusal
+unfolding rows_refusal
 returns c =
     ends _ _ _ _ _ c.before.deep.given.1 c.before.before.before.lowest-deep-by.ensures
 
@@ -27,7 +27,7 @@ at-requires : tie.Need-at-requires
 at-requires c κs = search rules
 
 returns-2 : tie.Need-returns-2
-unfolding rowsRefusal
+unfolding rows_refusal
 returns-2 c =
     last _ _ _ _ c.at.ensures c.before.lowest-too-many.ensures
     ∙ sym (goes_on _ _ _ _ c.before.before.enum_told.given.1 c.before.before.before.before.lowest-deep-by.ensures)

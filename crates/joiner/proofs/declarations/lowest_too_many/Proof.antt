@@ -3,25 +3,25 @@ use mathlib.Core.Path.{◌≡◌, refl, ◌∙◌}
 use Prim.Native.Nat.{◌≤◌, ◌-◌}
 use native.Mathlib.Omega.{arith}
 use native.Mathlib.Numerals.{add-one}
-use Rattle.words.specs.Table.{rowCount}
-use Rattle.words.specs.Declarations.{declarationsBefore}
+use Rattle.words.specs.Table.{row_count}
+use Rattle.words.specs.Declarations.{declarations_before}
 use Rattle.words.specs.StoreLaws.{before-few}
-use Rattle.words.specs.Search.{lowestRow}
+use Rattle.words.specs.Search.{lowest_row}
 use Rattle.words.specs.SearchLaws.{Looked, looked-start, looked-on, looked-hit, looked-end}
-use Rattle.check_declaration_causes.specs.Causes.{oneTooMany}
+use Rattle.check_declaration_causes.specs.Causes.{one_too_many}
 use Rattle.joiner.proofs.declarations.lowest_too_many.Statement.{statement}
 use Rattle.joiner.proofs.declarations.lowest_too_many.Tie as tie
 
 abbrev invariant-loop : tie.invariant-loop
 invariant-loop rows count before₀ row₀ before row =
-    (row ≤ count) × (count ≡ rowCount rows) × Looked (oneTooMany rows) count row × (before ≡ declarationsBefore rows row)
+    (row ≤ count) × (count ≡ row_count rows) × Looked (one_too_many rows) count row × (before ≡ declarations_before rows row)
 
 abbrev decreases-loop : tie.decreases-loop
 decreases-loop rows count before₀ row₀ before row =
     count - row
 
 loop-holds : tie.Need-loop-init invariant-loop decreases-loop
-unfolding declarationsBefore
+unfolding declarations_before
 loop-holds c =
     (omega arith, refl, looked-start _ _, refl)
 
@@ -30,7 +30,7 @@ is-too-many-requires c κs =
     (omega arith, c.before.loop.invariant.3)
 
 returns : tie.Need-returns invariant-loop decreases-loop
-unfolding lowestRow
+unfolding lowest_row
 returns c =
     looked-hit _ _ _ _ (omega arith) c.before.before.before.loop.invariant.2 c.before.is-too-many.ensures c.if1.true
 
@@ -48,7 +48,7 @@ loop-less c =
     omega arith
 
 loop-again : tie.Need-loop-preserved invariant-loop decreases-loop
-unfolding declarationsBefore
+unfolding declarations_before
 loop-again c =
     let loop = c.before.before.before.before.loop in (
       omega arith,
@@ -58,7 +58,7 @@ loop-again c =
     )
 
 returns-2 : tie.Need-returns-2 invariant-loop decreases-loop
-unfolding lowestRow
+unfolding lowest_row
 returns-2 c =
     looked-end _ _ _ (omega arith) c.before.loop.invariant.2
 

@@ -10,22 +10,22 @@ use lib.ListN.{length, get_or, drop}
 use lib.Signed.{mag}
 use mir.Syntax.{w32}
 use mir.Val.{to_z, of_z}
-use Rattle.words.specs.Word.{sameWord}
+use Rattle.words.specs.Word.{same_word}
 use Rattle.words.specs.Laws.{back}
-use Rattle.join.specs.Join.{sameHeader}
+use Rattle.join.specs.Join.{same_header}
 use Rattle.joiner.specs.JoinerLaws.{headers-unlike, headers-differ, headers-agree, headers-end}
 use Rattle.joiner.proofs.headers.same_header.Statement.{statement}
 use Rattle.joiner.proofs.headers.same_header.Tie as tie
 
 abbrev invariant-loop : tie.invariant-loop
-invariant-loop header other i₀ i = (i ≤ length header) × (sameHeader (drop i header) (drop i other) ≡ sameHeader header other)
+invariant-loop header other i₀ i = (i ≤ length header) × (same_header (drop i header) (drop i other) ≡ same_header header other)
 
 abbrev decreases-loop : tie.decreases-loop
 decreases-loop header other i₀ i = length header - i
 
 -- two words, as the code reads them
-words-read : (c : tie.After-same-word invariant-loop decreases-loop) → sameWord (get_or c.before.before.before.before.before.before.args.header.now c.before.before.before.before.loop.i (pos 0)) (get_or c.before.before.before.before.before.before.args.other.now c.before.before.before.before.loop.i (pos 0)) ≡ c.same_word.result
-words-read c = sym (c.same_word.ensures ∙ ap₂ sameWord (back _ c.before.before.same-word-arg.given) (back _ c.before.same-word-arg2.given))
+words-read : (c : tie.After-same-word invariant-loop decreases-loop) → same_word (get_or c.before.before.before.before.before.before.args.header.now c.before.before.before.before.loop.i (pos 0)) (get_or c.before.before.before.before.before.before.args.other.now c.before.before.before.before.loop.i (pos 0)) ≡ c.same-word.result
+words-read c = sym (c.same-word.ensures ∙ ap₂ same_word (back _ c.before.before.same-word-arg.given) (back _ c.before.same-word-arg2.given))
 
 returns : tie.Need-returns invariant-loop decreases-loop
 returns c = sym (headers-unlike c.before.args.header.now c.before.args.other.now (λ e. omega (arith, c.if1.true, e)))

@@ -1,5 +1,5 @@
 -- The shape of a definition.
-use Rattle.language_shapes.specs.Shapes.{definitionAs}
+use Rattle.language_shapes.specs.Shapes.{definition_as}
 use borrow.Author.Rules.{rules}
 use Rattle.language_shapes.proofs.kinds.definition_shape.Statement.{statement}
 use Rattle.language_shapes.proofs.kinds.definition_shape.Tie as tie
@@ -14,7 +14,7 @@ number-at-requires-3 : tie.Need-number-at-requires-3
 number-at-requires-3 c κs = search rules
 
 returns : tie.Need-returns
-unfolding definitionAs
+unfolding definition_as
 returns c = search rules
 
 pub definition-shape-spec : {M : Type 1} → statement M

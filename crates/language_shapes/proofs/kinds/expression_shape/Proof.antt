@@ -65,7 +65,7 @@ enum-told-11 : tie.Need-enum-told-11
 enum-told-11 c = search rules
 
 returns : tie.Need-returns
-returns c = expression-arm _ _ _ _ _ _ c.before.enum_told.given.1 (to_z-of_z (sfits_of c.word_at.type-inv) ∙ c.word_at.ensures) c.before.before.before.before.before.number_at.ensures c.before.before.before.before.number-at2.ensures c.before.before.before.number-at3.ensures
+returns c = expression-arm _ _ _ _ _ _ c.before.enum_told.given.1 (to_z-of_z (sfits_of c.word-at.type-inv) ∙ c.word-at.ensures) c.before.before.before.before.before.number_at.ensures c.before.before.before.before.number-at2.ensures c.before.before.before.number-at3.ensures
 
 returns-2 : tie.Need-returns-2
 returns-2 c = expression-arm _ _ _ _ _ _ c.enum-told2.given.1 refl c.before.before.before.before.number_at.ensures c.before.before.before.number-at2.ensures c.before.before.number-at3.ensures

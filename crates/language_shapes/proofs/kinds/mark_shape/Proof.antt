@@ -23,7 +23,7 @@ enum-told-3 : tie.Need-enum-told-3
 enum-told-3 c = search rules
 
 returns : tie.Need-returns
-returns c = mark-arm _ _ _ _ c.before.enum_told.given.1 (to_z-of_z (sfits_of c.word_at.type-inv) ∙ c.word_at.ensures) c.before.before.before.number_at.ensures
+returns c = mark-arm _ _ _ _ c.before.enum_told.given.1 (to_z-of_z (sfits_of c.word-at.type-inv) ∙ c.word-at.ensures) c.before.before.before.number_at.ensures
 
 returns-2 : tie.Need-returns-2
 returns-2 c = mark-arm _ _ _ _ c.enum-told2.given.1 refl c.before.before.number_at.ensures

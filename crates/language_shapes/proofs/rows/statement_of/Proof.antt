@@ -1,6 +1,6 @@
 -- What a shape is as a statement.
 use mathlib.Core.Path.{sym, ap}
-use Rattle.language_shapes.specs.Shapes.{statementIn}
+use Rattle.language_shapes.specs.Shapes.{statement_in}
 use borrow.Author.Rules.{rules}
 use Rattle.language_shapes.proofs.rows.statement_of.Statement.{statement}
 use Rattle.language_shapes.proofs.rows.statement_of.Tie as tie
@@ -30,7 +30,7 @@ returns : tie.Need-returns
 returns c = search rules
 
 returns-2 : tie.Need-returns-2
-returns-2 c = sym (ap statementIn c.before.shape.given.1)
+returns-2 c = sym (ap statement_in c.before.shape.given.1)
 
 returns-3 : tie.Need-returns-3
 returns-3 c = search rules

@@ -1,6 +1,6 @@
 -- `ending_of` makes the tests of its definition in order.
 use mathlib.Core.Path.{ap, ◌∙◌}
-use Rattle.words.specs.Answers.{faultNumbered}
+use Rattle.words.specs.Answers.{fault_numbered}
 use Rattle.words.specs.declared.Ending.TheVariants.{Fault}
 use Rattle.machine_operations.specs.Answers.{beyond}
 use Rattle.machine_operations.proofs.Decoding.{handed-is}
@@ -40,7 +40,7 @@ returns-3 : tie.Need-returns-3
 returns-3 c =
     let start = c.before.before.before.before.before.before in
     let past-operand = c.before.before.before.before.before.operand in
-    ap Fault (c.fault-numbered.ensures ∙ ap faultNumbered (c.before.beyond.ensures ∙ ap beyond (handed-is start.args.answer start.ranges.answer.sfits)))
+    ap Fault (c.fault-numbered.ensures ∙ ap fault_numbered (c.before.beyond.ensures ∙ ap beyond (handed-is start.args.answer start.ranges.answer.sfits)))
     ∙ ending_fault start.args.answer start.ranges.answer.sfits past-operand.result past-operand.ensures c.before.before.before.enum_told.given.1 c.before.before.if1.false
 
 pub ending-of-spec : {M : Type 1} → statement M

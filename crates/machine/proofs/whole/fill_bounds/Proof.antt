@@ -42,7 +42,7 @@ natural-requires c κs = tt
 
 add_total : tie.Need-overflow-add-total invariant-loop decreases-loop
 add_total c =
-    omega (arith, sum-rest (read c), c.before.before.before.loop.invariant.total-is, c.before.before.before.before.before.requires.1)
+    omega (arith, sum-rest (read c), c.before.before.before.loop.invariant.total_is, c.before.before.before.before.before.requires.1)
 
 add-i : tie.Need-overflow-add-i invariant-loop decreases-loop
 add-i c = search rules

@@ -5,12 +5,12 @@ use borrow.Author.Rules.{rules}
 use Prim.Native.Nat.{ℕ, ◌+◌, ◌-◌}
 use lib.ListN.{length}
 use lib.Seq.{length-take-le}
-use Rattle.words.specs.Laws.{leading-limits, headerFits-facts}
+use Rattle.words.specs.Laws.{leading-limits, header_fits-facts}
 use Rattle.words.specs.declared.Ending.{Ending}
 use Rattle.words.proofs.Signed.{natural-again}
-use Rattle.language.specs.Program.{tableProgram, runTableUnder, runTable}
+use Rattle.language.specs.Program.{table_program, run_table_under, run_table}
 use Rattle.machine_operations.proofs.Decoding.{handed-is}
-use Rattle.machine.specs.Whole.{endingOfAnswer}
+use Rattle.machine.specs.Whole.{ending_of_answer}
 use Rattle.machine_flows.proofs.Answers.{ran-least}
 use Rattle.machine.proofs.Bounds.{startable, whole-program}
 use Rattle.machine.proofs.Endings.{run-finished}
@@ -23,7 +23,7 @@ leading-requires c κs = tt
 sub-n : tie.Need-overflow-sub-n
 sub-n c =
     let begin = c.before.before in
-    omega (arith, c.leading.ensures, (headerFits-facts begin.args.form begin.args.header.now begin.requires.runs.fits).least)
+    omega (arith, c.leading.ensures, (header_fits-facts begin.args.form begin.args.header.now begin.requires.runs.fits).least)
 
 add-n : tie.Need-overflow-add-n
 add-n c = search rules
@@ -48,7 +48,7 @@ part-start-end c = search rules
 shared-slice-copy-out-natural : tie.Need-shared-slice-copy-out-natural
 shared-slice-copy-out-natural c =
     let begin = c.before.before.before in
-    omega (arith, (headerFits-facts begin.args.form begin.args.header.now begin.requires.runs.fits).least, leading-limits begin.args.form)
+    omega (arith, (header_fits-facts begin.args.form begin.args.header.now begin.requires.runs.fits).least, leading-limits begin.args.form)
 
 natural-requires : tie.Need-natural-requires
 natural-requires c κs = tt
@@ -56,7 +56,7 @@ natural-requires c κs = tt
 slice-relend-prefix-start : tie.Need-slice-relend-prefix-start
 slice-relend-prefix-start c =
     let begin = c.before.before.before.before.before in
-    omega (arith, c.before.before.before.leading.ensures, (headerFits-facts begin.args.form begin.args.header.now begin.requires.runs.fits).most, begin.requires.enough)
+    omega (arith, c.before.before.before.leading.ensures, (header_fits-facts begin.args.form begin.args.header.now begin.requires.runs.fits).most, begin.requires.enough)
 
 slice-aggregate-start : tie.Need-slice-aggregate-start
 slice-aggregate-start c = sym (length-take-le _ _ (slice-relend-prefix-start c.before))
@@ -86,7 +86,7 @@ same-length-2 : tie.Need-same-length-2
 same-length-2 c = search rules
 
 returns : tie.Need-returns
-unfolding runTable runTableUnder
+unfolding run_table run_table_under
 returns c =
     let begin = c.before.before.before.before.before.before.before.before.before.before.before.before.before in
     let past-leading = c.before.before.before.before.before.before.before.before.before.before.before.leading in
@@ -96,8 +96,8 @@ returns c =
     let given = past-start.ensures ∙ whole-program begin.requires.runs past-leading.result past-leading.ensures past-natural.result (natural-again _ _ past-natural-arg.given past-natural.ensures) begin.args.budget begin.args.store.now in
     let left = past-start.new.1.1.1.1.1.0 in
     let store = past-start.new.1.1.1.1.0 in
-    ap (λ (e : Ending). record { ending = e; count = begin.args.budget - left; store = store }) (c.Ending-of.ensures ∙ ap endingOfAnswer (handed-is past-start.result past-start.type-inv))
-    ∙ run-finished begin.args.budget (tableProgram begin.args.form begin.args.header.now begin.args.rows.now) begin.args.store.now past-start.result left store given
+    ap (λ (e : Ending). record { ending = e; count = begin.args.budget - left; store = store }) (c.Ending-of.ensures ∙ ap ending_of_answer (handed-is past-start.result past-start.type-inv))
+    ∙ run-finished begin.args.budget (table_program begin.args.form begin.args.header.now begin.args.rows.now) begin.args.store.now past-start.result left store given
 
 pub run-in-spec : {M : Type 1} → statement M
 run-in-spec =

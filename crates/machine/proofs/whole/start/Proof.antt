@@ -7,14 +7,14 @@ use Prim.Native.Nat.{ℕ, ◌+◌}
 use lib.ListN.{length, drop}
 use lib.Seq.{length-take-le}
 use Rattle.words.specs.Layout.{Layout}
-use Rattle.computation.specs.Remaining.{spend}
-use Rattle.language.specs.Decode.{statementAt}
+use Rattle.computation.proofs.Remaining.{spend}
+use Rattle.language.specs.Decode.{statement_at}
 use Rattle.language.specs.Meaning.{exec}
-use Rattle.language.specs.Functions.{functionCount}
+use Rattle.language.specs.Functions.{function_count}
 use Rattle.language.specs.Program.{contents}
 use Rattle.machine_operations.specs.Ready.{Setting}
-use Rattle.machine_operations.specs.Rows.{contextIn}
-use Rattle.machine_executor.specs.Rows.{execAt}
+use Rattle.machine_operations.specs.Rows.{context_in}
+use Rattle.machine_executor.specs.Rows.{exec_at}
 use Rattle.machine_flows.proofs.Answers.{ran-handed}
 use Rattle.machine.proofs.Bounds.{list_written, functions-room, bounds-words}
 use Rattle.machine.proofs.whole.start.Statement.{statement}
@@ -27,12 +27,12 @@ slice-relend-prefix-fill-bounds : tie.Need-slice-relend-prefix-fill-bounds
 slice-relend-prefix-fill-bounds c = search rules
 
 slice-aggregate-fill-bounds : tie.Need-slice-aggregate-fill-bounds
-slice-aggregate-fill-bounds c = sym (length-take-le _ _ (let start = c.before.before in omega (arith, start.requires.room-is)))
+slice-aggregate-fill-bounds c = sym (length-take-le _ _ (let start = c.before.before in omega (arith, start.requires.room_is)))
 
 fill-bounds-requires : tie.Need-fill-bounds-requires
 fill-bounds-requires c κs =
     let start = c.before.before in
-    (length-take-le _ _ (omega (arith, start.requires.room-is)), start.requires.small)
+    (length-take-le _ _ (omega (arith, start.requires.room_is)), start.requires.small)
 
 mul-fill-functions : tie.Need-overflow-mul-fill-functions
 mul-fill-functions c = search rules
@@ -58,7 +58,7 @@ exec-requires c κs =
     let functions = past-fill-functions.new.1.0 in
     let n = length start.args.lengths.now + 1 in
     let words : n ≡ length bounds = sym (ap length past-fill-bounds.ensures ∙ bounds-words start.args.variables start.args.lengths.now) in
-    let all : length functions ≡ functionCount (contents start.args.rows.now) = past-fill-functions.auto.1.0 ∙ functions-room bounds start.args.bounds.now n _ words start.requires.room-is in
+    let all : length functions ≡ function_count (contents start.args.rows.now) = past-fill-functions.auto.1.0 ∙ functions-room bounds start.args.bounds.now n _ words start.requires.room_is in
     let written = list_written bounds functions (drop n start.args.bounds.now) n words ∙ ap (λ (b : List ℕ). b ++ functions) past-fill-bounds.ensures in
     record { setting = subst (λ (b : List ℕ). Setting start.args.rows.now b (length start.args.store.now)) (sym written) (start.requires.setting functions all past-fill-functions.ensures); below = start.requires.order.table.below }
 
@@ -78,11 +78,11 @@ returns c =
     let functions = past-fill-functions.new.1.0 in
     let n = length start.args.lengths.now + 1 in
     let words : n ≡ length bounds = sym (ap length past-fill-bounds.ensures ∙ bounds-words start.args.variables start.args.lengths.now) in
-    let all : length functions ≡ functionCount (contents start.args.rows.now) = past-fill-functions.auto.1.0 ∙ functions-room bounds start.args.bounds.now n _ words start.requires.room-is in
+    let all : length functions ≡ function_count (contents start.args.rows.now) = past-fill-functions.auto.1.0 ∙ functions-room bounds start.args.bounds.now n _ words start.requires.room_is in
     let written = list_written bounds functions (drop n start.args.bounds.now) n words ∙ ap (λ (b : List ℕ). b ++ functions) past-fill-bounds.ensures in
     ran-handed past-exec.result _ _ past-exec.type-inv ∙ past-exec.ensures
-    ∙ ap (λ (b : List ℕ). spend (execAt start.args.rows.now b 0) start.args.left.now start.args.store.now) written
-    ∙ ap (λ (L : Layout). spend (exec (contextIn L start.args.rows.now) (statementAt start.args.rows.now 0)) start.args.left.now start.args.store.now) (start.requires.layout_is functions all)
+    ∙ ap (λ (b : List ℕ). spend (exec_at start.args.rows.now b 0) start.args.left.now start.args.store.now) written
+    ∙ ap (λ (L : Layout). spend (exec (context_in L start.args.rows.now) (statement_at start.args.rows.now 0)) start.args.left.now start.args.store.now) (start.requires.layout_is functions all)
 
 pub start_spec : {M : Type 1} → statement M
 start_spec =

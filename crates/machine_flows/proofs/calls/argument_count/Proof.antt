@@ -1,6 +1,6 @@
 -- `argument_count` walks the arguments. The invariant: those behind the row are still to count. The measure is the rows ahead.
 use native.Mathlib.Omega.{arith}
-use Rattle.words.specs.Table.{rowCount}
+use Rattle.words.specs.Table.{row_count}
 use Rattle.machine_flows.proofs.Items.{ahead, next-asks}
 use Rattle.machine_flows.proofs.Walks.{Counted, counted-first, count-falls, counted_next, count_small, counted-all}
 use Rattle.machine_flows.proofs.calls.argument_count.Statement.{statement}
@@ -10,7 +10,7 @@ abbrev invariant-loop : tie.invariant-loop
 invariant-loop rows first at₀ count₀ at count = Counted rows first at count
 
 abbrev decreases-loop : tie.decreases-loop
-decreases-loop rows first at₀ count₀ at count = ahead (rowCount rows) at
+decreases-loop rows first at₀ count₀ at count = ahead (row_count rows) at
 
 loop-holds : tie.Need-loop-init invariant-loop decreases-loop
 loop-holds c = counted-first c.requires

@@ -5,7 +5,7 @@ use lib.IntN.{negsuc}
 use Rattle.words.specs.Word.{natural}
 use Rattle.words.specs.Laws.{back}
 use Rattle.machine_flows.specs.declared.Flow.TheVariants.{Goto}
-use Rattle.machine_flows.proofs.Answers.{is_word, is-no-word, passing-next, passing-break, passing-continue, passing-goto}
+use Rattle.machine_flows.proofs.Answers.{is-word, is-no-word, passing-next, passing-break, passing-continue, passing-goto}
 use borrow.Author.Rules.{rules}
 use Rattle.machine_flows.proofs.flows.passing.Statement.{statement}
 use Rattle.machine_flows.proofs.flows.passing.Tie as tie
@@ -15,21 +15,21 @@ returns c =
     let start = c.before in
     let z = start.args.number in
     let h = start.ranges.number.sfits in
-    sym (passing-next z (is_word z (negsuc 0) h (omega arith) c.if1.true))
+    sym (passing-next z (is-word z (negsuc 0) h (omega arith) c.if1.true))
 
 returns-2 : tie.Need-returns-2
 returns-2 c =
     let start = c.before.before in
     let z = start.args.number in
     let h = start.ranges.number.sfits in
-    sym (passing-break z (is-no-word z (negsuc 0) h (omega arith) c.before.if1.false) (is_word z (negsuc 1) h (omega arith) c.if2.true))
+    sym (passing-break z (is-no-word z (negsuc 0) h (omega arith) c.before.if1.false) (is-word z (negsuc 1) h (omega arith) c.if2.true))
 
 returns-3 : tie.Need-returns-3
 returns-3 c =
     let start = c.before.before.before in
     let z = start.args.number in
     let h = start.ranges.number.sfits in
-    sym (passing-continue z (is-no-word z (negsuc 0) h (omega arith) c.before.before.if1.false) (is-no-word z (negsuc 1) h (omega arith) c.before.if2.false) (is_word z (negsuc 2) h (omega arith) c.if3.true))
+    sym (passing-continue z (is-no-word z (negsuc 0) h (omega arith) c.before.before.if1.false) (is-no-word z (negsuc 1) h (omega arith) c.before.if2.false) (is-word z (negsuc 2) h (omega arith) c.if3.true))
 
 natural-requires : tie.Need-natural-requires
 natural-requires c κs = search rules

@@ -2,7 +2,7 @@
 use borrow.Author.Rules.{rules}
 use mathlib.Core.Path.{sym, ◌∙◌}
 use native.Mathlib.Omega.{arith}
-use Rattle.words.specs.Table.{rowCount}
+use Rattle.words.specs.Table.{row_count}
 use Rattle.machine_flows.proofs.Items.{ahead, next-asks}
 use Rattle.machine_flows.proofs.Definitions.{first-asks, defined-later, Counting, counting-first, here, counting-next, counting-small, counting-last}
 use Rattle.machine_flows.proofs.functions.function_count.Statement.{statement}
@@ -12,7 +12,7 @@ abbrev invariant-loop : tie.invariant-loop
 invariant-loop rows at₀ count₀ at count = Counting rows at count
 
 abbrev decreases-loop : tie.decreases-loop
-decreases-loop rows at₀ count₀ at count = ahead (rowCount rows) at
+decreases-loop rows at₀ count₀ at count = ahead (row_count rows) at
 
 link-at-requires : tie.Need-link-at-requires invariant-loop decreases-loop
 link-at-requires c κs = first-asks c.requires.table

@@ -1,7 +1,7 @@
 -- `function_row` reads the place from the end.
 use borrow.Author.Rules.{rules}
 use mathlib.Core.Path.{refl, sym}
-use Rattle.machine_operations.specs.Bounds.{functionRowIn}
+use Rattle.machine_operations.specs.Bounds.{function_row_in}
 use Rattle.machine_flows.proofs.functions.function_row.Statement.{statement}
 use Rattle.machine_flows.proofs.functions.function_row.Tie as tie
 
@@ -18,7 +18,7 @@ shared-slice-read-result : tie.Need-shared-slice-read-result
 shared-slice-read-result c = search rules
 
 returns : tie.Need-returns
-unfolding functionRowIn
+unfolding function_row_in
 returns c = refl
 
 pub function-row-spec : {M : Type 1} → statement M

@@ -1,9 +1,9 @@
 -- `find_mark` walks the items. The invariant: the row is in the table, and the search from it on is the whole search. The measure
 -- is the rows ahead.
 use mathlib.Core.Path.{sym, ◌∙◌}
-use Rattle.words.specs.Table.{rowCount}
+use Rattle.words.specs.Table.{row_count}
 use Rattle.machine_flows.specs.Lists.{mark_of}
-use Rattle.machine_flows.proofs.Items.{ahead, ahead-falls, at_row, next-asks, next-is, Sought, sought-first, sought-next, finds-here, finds-none}
+use Rattle.machine_flows.proofs.Items.{ahead, ahead-falls, at_row, next-asks, next_is, Sought, sought-first, sought-next, finds-here, finds-none}
 use Rattle.machine_flows.proofs.lists.find_mark.Statement.{statement}
 use Rattle.machine_flows.proofs.lists.find_mark.Tie as tie
 
@@ -11,7 +11,7 @@ abbrev invariant-loop : tie.invariant-loop
 invariant-loop rows first mark at₀ at = Sought rows first (mark_of mark) at
 
 abbrev decreases-loop : tie.decreases-loop
-decreases-loop rows first mark at₀ at = ahead (rowCount rows) at
+decreases-loop rows first mark at₀ at = ahead (row_count rows) at
 
 loop-holds : tie.Need-loop-init invariant-loop decreases-loop
 loop-holds c = sought-first c.requires
@@ -27,7 +27,7 @@ loop-less : tie.Need-loop-smaller invariant-loop decreases-loop
 loop-less c =
     let start = c.before.before.before.before.before in
     let past-loop = c.before.before.before.before.loop in
-    ahead-falls (rowCount start.args.rows.now) past-loop.at c.link_at.result c.before.before.before.if1.false past-loop.invariant.below (next-is (at_row start.requires past-loop.invariant.below) c.link_at.ensures).1
+    ahead-falls (row_count start.args.rows.now) past-loop.at c.link_at.result c.before.before.before.if1.false past-loop.invariant.below (next_is (at_row start.requires past-loop.invariant.below) c.link_at.ensures).1
 
 loop-again : tie.Need-loop-preserved invariant-loop decreases-loop
 loop-again c =

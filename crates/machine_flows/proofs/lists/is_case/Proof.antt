@@ -1,8 +1,8 @@
 -- `is_case` tests the kind by its number, and then the value by its bits.
 use mathlib.Core.Path.{sym, ap, ◌∙◌}
-use Rattle.words.specs.Word.{sameWord}
-use Rattle.words.specs.Laws.{sameWord-bits}
-use Rattle.language.specs.Trees.{sameMark}
+use Rattle.words.specs.Word.{same_word}
+use Rattle.words.specs.Laws.{same_word-bits}
+use Rattle.language.specs.Trees.{same_mark}
 use Rattle.words.specs.declared.MarkKind.TheVariants.{Case}
 use Rattle.machine_flows.proofs.Items.{case-is, case-not, number-case, other-mark}
 use borrow.Author.Rules.{rules}
@@ -16,11 +16,11 @@ word-at-requires : tie.Need-word-at-requires
 word-at-requires c κs = search rules
 
 returns : tie.Need-returns
-unfolding sameMark
+unfolding same_mark
 returns c =
     let start = c.before.before.before in
     let past-number-at = c.before.before.number_at in
-    sameWord-bits start.args.value c.word_at.result start.ranges.value.sfits c.word_at.type-inv ∙ ap (sameWord start.args.value) c.word_at.ensures
+    same_word-bits start.args.value c.word-at.result start.ranges.value.sfits c.word-at.type-inv ∙ ap (same_word start.args.value) c.word-at.ensures
     ∙ sym (case-is start.requires start.args.value (number-case _ _ past-number-at.ensures c.before.if1.true))
 
 returns-2 : tie.Need-returns-2

@@ -1,7 +1,7 @@
 -- `is_label` tests the kind by its number, and then the label's number.
 use mathlib.Core.Path.{sym, ap, ◌∙◌}
 use lib.Dec.{eqb}
-use Rattle.language.specs.Trees.{sameMark}
+use Rattle.language.specs.Trees.{same_mark}
 use Rattle.words.specs.declared.MarkKind.TheVariants.{Label}
 use Rattle.machine_flows.proofs.Items.{label_is, label-not, number-label, other-mark}
 use borrow.Author.Rules.{rules}
@@ -15,7 +15,7 @@ number-at-requires-2 : tie.Need-number-at-requires-2
 number-at-requires-2 c κs = search rules
 
 returns : tie.Need-returns
-unfolding sameMark
+unfolding same_mark
 returns c =
     let start = c.before.before.before in
     let past-number-at = c.before.before.number_at in

@@ -3,7 +3,7 @@ use mathlib.Core.Path.{sym, ap, ◌∙◌}
 use lib.IntN.{ℤ}
 use Rattle.words.specs.Laws.{back}
 use Rattle.language.specs.Trees.{case}
-use Rattle.language.specs.Decode.{itemsAt}
+use Rattle.language.specs.Decode.{items_at}
 use Rattle.machine_flows.specs.Lists.{mark_of, marks}
 use Rattle.machine_flows.specs.declared.SoughtMark.{SoughtMark}
 use borrow.Author.Rules.{rules}
@@ -32,18 +32,18 @@ returns : tie.Need-returns
 returns c =
     let start = c.before.before.before.before in
     let past-mark = c.before.before.mark in
-    c.is-case.ensures ∙ ap (λ (z : ℤ). marks (case z) (itemsAt start.args.rows.now start.args.row)) (back past-mark.given.0.0 c.before.known-told.given.0.1) ∙ ap (λ (m : SoughtMark). marks (mark_of m) (itemsAt start.args.rows.now start.args.row)) (sym past-mark.given.1)
+    c.is-case.ensures ∙ ap (λ (z : ℤ). marks (case z) (items_at start.args.rows.now start.args.row)) (back past-mark.given.0.0 c.before.known-told.given.0.1) ∙ ap (λ (m : SoughtMark). marks (mark_of m) (items_at start.args.rows.now start.args.row)) (sym past-mark.given.1)
 
 returns-2 : tie.Need-returns-2
 returns-2 c =
     let start = c.before.before.before in
-    c.is-default.ensures ∙ ap (λ (m : SoughtMark). marks (mark_of m) (itemsAt start.args.rows.now start.args.row)) (sym c.before.enum_told.given.1)
+    c.is-default.ensures ∙ ap (λ (m : SoughtMark). marks (mark_of m) (items_at start.args.rows.now start.args.row)) (sym c.before.enum_told.given.1)
 
 returns-3 : tie.Need-returns-3
 returns-3 c =
     let start = c.before.before.before.before in
     let past-mark = c.before.before.mark2 in
-    c.is-label.ensures ∙ ap (λ (m : SoughtMark). marks (mark_of m) (itemsAt start.args.rows.now start.args.row)) (sym past-mark.given.1)
+    c.is-label.ensures ∙ ap (λ (m : SoughtMark). marks (mark_of m) (items_at start.args.rows.now start.args.row)) (sym past-mark.given.1)
 
 pub is-mark-spec : {M : Type 1} → statement M
 is-mark-spec =

@@ -1,7 +1,7 @@
 -- `resume` goes by the flow of the answer.
 use mathlib.Core.Path.{◌∙◌}
 use Rattle.machine_flows.proofs.Answers.{flow-is}
-use Rattle.machine_flows.proofs.Items.{at_row, next-asks, next-is, resumes-next, resumes-goto, resumes-break, resumes-continue, resumes-return, resumes-halted}
+use Rattle.machine_flows.proofs.Items.{at_row, next-asks, next_is, resumes-next, resumes-goto, resumes-break, resumes-continue, resumes-return, resumes-halted}
 use borrow.Author.Rules.{rules}
 use Rattle.machine_flows.proofs.lists.resume.Statement.{statement}
 use Rattle.machine_flows.proofs.lists.resume.Tie as tie
@@ -24,7 +24,7 @@ link-at-requires-2 c κs = next-asks c.before.before.before.before.requires
 find-mark-requires : tie.Need-find-mark-requires
 find-mark-requires c κs =
     let start = c.before.before.before.before.before in
-    at_row start.requires (next-is start.requires c.link-at2.ensures).0
+    at_row start.requires (next_is start.requires c.link-at2.ensures).0
 
 enum-told-2 : tie.Need-enum-told-2
 enum-told-2 c = search rules

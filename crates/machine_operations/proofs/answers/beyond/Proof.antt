@@ -4,7 +4,7 @@ use lib.IntN.{ℤ}
 use Prim.Native.Nat.{◌<◌, ◌^◌}
 use lib.Signed.{mag}
 use Rattle.machine_operations.specs.Answers.{beyond}
-use Rattle.machine_operations.proofs.Decoding.{handed, handed-is, before-words-end, behind-casts, behind-least, behind-is}
+use Rattle.machine_operations.proofs.Decoding.{handed, handed-is, before-words-end, behind-casts, behind-least, behind_is}
 use borrow.Author.Rules.{rules}
 use Rattle.machine_operations.proofs.answers.beyond.Statement.{statement}
 use Rattle.machine_operations.proofs.answers.beyond.Tie as tie
@@ -25,7 +25,7 @@ sub-result : tie.Need-overflow-sub-result
 sub-result c = behind-least (handed c.before.args.answer) c.if1.false
 
 returns-2 : tie.Need-returns-2
-returns-2 c = behind-is (handed c.before.args.answer) c.if1.false ∙ same c.before.args.answer c.before.ranges.answer.sfits
+returns-2 c = behind_is (handed c.before.args.answer) c.if1.false ∙ same c.before.args.answer c.before.ranges.answer.sfits
 
 pub beyond-spec : {M : Type 1} → statement M
 beyond-spec = tie.close (tie.spec returns cast-result cast-result-2 sub-result returns-2)

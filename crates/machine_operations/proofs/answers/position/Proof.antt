@@ -2,7 +2,7 @@
 use mathlib.Core.Path.{sym, ap, ◌∙◌}
 use Rattle.words.specs.Word.{natural}
 use Rattle.words.specs.Laws.{back}
-use Rattle.machine_operations.specs.Answers.{operandOf, position_of}
+use Rattle.machine_operations.specs.Answers.{operand_of, position_of}
 use Rattle.machine_operations.specs.declared.Position.TheVariants.{At}
 use lib.IntN.{ℤ}
 use Rattle.machine_operations.proofs.Decoding.{handed-is}
@@ -22,7 +22,7 @@ enum_told c = search rules
 returns : tie.Need-returns
 returns c =
     let start = c.before.before.before in
-    sym (ap position_of (sym c.before.before.operand.ensures ∙ c.enum_told.given.1)) ∙ ap (λ (z : ℤ). position_of (operandOf z)) (handed-is start.args.answer start.ranges.answer.sfits)
+    sym (ap position_of (sym c.before.before.operand.ensures ∙ c.enum_told.given.1)) ∙ ap (λ (z : ℤ). position_of (operand_of z)) (handed-is start.args.answer start.ranges.answer.sfits)
 
 natural-requires : tie.Need-natural-requires
 natural-requires c κs = search rules
@@ -30,7 +30,7 @@ natural-requires c κs = search rules
 returns-2 : tie.Need-returns-2
 returns-2 c =
     let start = c.before.before.before.before.before in
-    ap At (c.natural.ensures ∙ ap natural (back c.before.before.found.given.0.0 c.before.known-told.given.0.1)) ∙ sym (ap position_of (sym c.before.before.before.before.operand.ensures ∙ c.before.before.found.given.1)) ∙ ap (λ (z : ℤ). position_of (operandOf z)) (handed-is start.args.answer start.ranges.answer.sfits)
+    ap At (c.natural.ensures ∙ ap natural (back c.before.before.found.given.0.0 c.before.known-told.given.0.1)) ∙ sym (ap position_of (sym c.before.before.before.before.operand.ensures ∙ c.before.before.found.given.1)) ∙ ap (λ (z : ℤ). position_of (operand_of z)) (handed-is start.args.answer start.ranges.answer.sfits)
 
 pub position-spec : {M : Type 1} → statement M
 position-spec =

@@ -3,7 +3,7 @@ use mathlib.Core.Path.{refl, sym, ap, ◌∙◌}
 use native.Mathlib.Omega.{arith}
 use lib.IntN.{ℤ, pos}
 use lib.ListN.{get_or}
-use Rattle.machine_operations.specs.Answers.{operandOf, position_of}
+use Rattle.machine_operations.specs.Answers.{operand_of, position_of}
 use Rattle.machine_operations.proofs.Decoding.{handed-is, wide_fits, answered-wide}
 use Rattle.machine_operations.proofs.Operands.{found, lost}
 use borrow.Author.Rules.{rules}
@@ -30,14 +30,14 @@ mul-result c =
     let start = c.before.before.before.before in
     let past-position = c.before.before.before.position in
     let past-place = c.before.place in
-    omega (arith, start.requires.0, start.requires.1 past-place.given.0.0 (ap (λ (z : ℤ). position_of (operandOf z)) (sym (handed-is start.args.answer start.ranges.answer.sfits)) ∙ sym past-position.ensures ∙ past-place.given.1))
+    omega (arith, start.requires.0, start.requires.1 past-place.given.0.0 (ap (λ (z : ℤ). position_of (operand_of z)) (sym (handed-is start.args.answer start.ranges.answer.sfits)) ∙ sym past-position.ensures ∙ past-place.given.1))
 
 shared-slice-copy-out-result : tie.Need-shared-slice-copy-out-result
 shared-slice-copy-out-result c =
     let start = c.before.before.before.before in
     let past-position = c.before.before.before.position in
     let past-place = c.before.place in
-    start.requires.1 past-place.given.0.0 (ap (λ (z : ℤ). position_of (operandOf z)) (sym (handed-is start.args.answer start.ranges.answer.sfits)) ∙ sym past-position.ensures ∙ past-place.given.1)
+    start.requires.1 past-place.given.0.0 (ap (λ (z : ℤ). position_of (operand_of z)) (sym (handed-is start.args.answer start.ranges.answer.sfits)) ∙ sym past-position.ensures ∙ past-place.given.1)
 
 cast-result : tie.Need-overflow-cast-result
 cast-result c =

@@ -2,8 +2,8 @@
 use mathlib.Core.Path.{refl, sym, ap, ◌∙◌}
 use lib.IntN.{ℤ}
 use Rattle.words.specs.Laws.{back}
-use Rattle.arithmetic.specs.Arithmetic.{logicalNot, minus as minusWord}
-use Rattle.computation.specs.Remaining.{gives}
+use Rattle.arithmetic.specs.Arithmetic.{logical_not, minus as minus_word}
+use Rattle.computation.proofs.Remaining.{gives}
 use Rattle.machine_operations.proofs.Decoding.{wide_fits, answered-wide}
 use Rattle.machine_operations.proofs.Operands.{goes, hands-up, settled_is, chosen-true, chosen-false}
 use borrow.Author.Rules.{rules}
@@ -38,7 +38,7 @@ returns-2 c n s =
     let past_first = c.before.before.before.first in
     let past-known-told = c.before.before.known-told in
     let past-logical-not = c.logical-not in
-    answered-wide past-logical-not.result past-logical-not.type-inv n s ∙ ap (λ (z : ℤ). gives z n s) (past-logical-not.ensures ∙ ap logicalNot (back past_first.given.0.0 past-known-told.given.0.1))
+    answered-wide past-logical-not.result past-logical-not.type-inv n s ∙ ap (λ (z : ℤ). gives z n s) (past-logical-not.ensures ∙ ap logical_not (back past_first.given.0.0 past-known-told.given.0.1))
     ∙ sym (goes _ start.args.answer n s start.ranges.answer.sfits refl past-operand.result past-operand.ensures past_first.given.0.0 past_first.given.1 ∙ chosen-true _ _ _ c.before.if1.true)
 
 minus-requires : tie.Need-minus-requires
@@ -55,7 +55,7 @@ returns-3 c n s =
     let past-known-told = c.before.before.before.known-told in
     let past-minus = c.before.minus in
     let past-settled = c.settled in
-    settled_is past-settled.result past-minus.result (minusWord past_first.given.0.0) past-settled.type-inv past-settled.ensures (past-minus.ensures ∙ ap minusWord (back past_first.given.0.0 past-known-told.given.0.1)) n s
+    settled_is past-settled.result past-minus.result (minus_word past_first.given.0.0) past-settled.type-inv past-settled.ensures (past-minus.ensures ∙ ap minus_word (back past_first.given.0.0 past-known-told.given.0.1)) n s
     ∙ sym (goes _ start.args.answer n s start.ranges.answer.sfits refl past-operand.result past-operand.ensures past_first.given.0.0 past_first.given.1 ∙ chosen-false _ _ _ c.before.before.if1.false)
 
 pub negate-spec : {M : Type 1} → statement M

@@ -4,7 +4,7 @@ use Rattle.machine_operations.proofs.Decoding.{handed, wide_fits, update-fails, 
 use lib.IntN.{pos}
 use lib.ListN.{get_or}
 use Rattle.words.specs.Word.{pick}
-use Rattle.language.specs.Meaning.{oldValue, newValue}
+use Rattle.language.specs.Meaning.{old_value, new_value}
 use borrow.Author.Rules.{rules}
 use Rattle.machine_operations.proofs.operations.update.Statement.{statement}
 use Rattle.machine_operations.proofs.operations.update.Tie as tie
@@ -33,7 +33,7 @@ returns c n =
     let done = c.before.before.before in
     let told = c.before.enum_told.given in
     let is = settled-settles c.settled.result (computed done.apply.result) c.settled.type-inv c.settled.ensures in
-    update-fails start.args.operator start.args.at start.args.right start.args.store.now done.apply.result done.apply.ensures done.before.before2.given start.ranges.right.sfits (pick start.args.old oldValue newValue) n told.0.0 (handed c.settled.result) told.1 is
+    update-fails start.args.operator start.args.at start.args.right start.args.store.now done.apply.result done.apply.ensures done.before.before2.given start.ranges.right.sfits (pick start.args.old old_value new_value) n told.0.0 (handed c.settled.result) told.1 is
 
 mul-after : tie.Need-overflow-mul-after
 mul-after c = search rules

@@ -2,7 +2,7 @@
 use mathlib.Core.Path.{ap, ◌∙◌}
 use Prim.Native.Nat.{ℕ, ◌+◌, max}
 use native.Mathlib.Omega.{arith}
-use Rattle.measures_table.specs.Measures.{limited, pastLabels}
+use Rattle.measures_table.specs.Measures.{limited, past_labels}
 use Rattle.measures.proofs.StatementLaws.{same-measures}
 use borrow.Author.Rules.{rules}
 use Rattle.measures.proofs.lists.behind_statement.Statement.{statement}
@@ -42,7 +42,7 @@ past-labels-requires : tie.Need-past-labels-requires
 past-labels-requires c κs = (c.before.before.before.before.before.before.before.before.before.before.before.requires.2, c.measure-at5.ensures.small)
 
 returns : tie.Need-returns
-returns c = same-measures (c.before.before.before.before.before.before.before.before.limited.ensures ∙ ap (λ (n : ℕ). limited (c.before.before.before.before.before.before.before.before.before.before.before.before.args.s.rows + n)) c.before.before.before.before.before.before.before.before.before.before.measure-at.ensures.is) (c.before.before.before.before.before.before.larger.ensures ∙ ap (max c.before.before.before.before.before.before.before.before.before.before.before.before.args.s.levels) c.before.before.before.before.before.before.before.measure-at2.ensures.is) (c.before.before.before.limited2.ensures ∙ ap (λ (n : ℕ). limited (c.before.before.before.before.before.before.before.before.before.before.before.before.args.s.labels + n)) c.before.before.before.before.before.measure-at3.ensures.is) c.before.before.measure-at4.ensures.is (c.past-labels.ensures ∙ ap (λ (n : ℕ). limited (pastLabels c.before.before.before.before.before.before.before.before.before.before.before.before.args.s.labels n)) c.before.measure-at5.ensures.is)
+returns c = same-measures (c.before.before.before.before.before.before.before.before.limited.ensures ∙ ap (λ (n : ℕ). limited (c.before.before.before.before.before.before.before.before.before.before.before.before.args.s.rows + n)) c.before.before.before.before.before.before.before.before.before.before.measure-at.ensures.is) (c.before.before.before.before.before.before.larger.ensures ∙ ap (max c.before.before.before.before.before.before.before.before.before.before.before.before.args.s.levels) c.before.before.before.before.before.before.before.measure-at2.ensures.is) (c.before.before.before.limited2.ensures ∙ ap (λ (n : ℕ). limited (c.before.before.before.before.before.before.before.before.before.before.before.before.args.s.labels + n)) c.before.before.before.before.before.measure-at3.ensures.is) c.before.before.measure-at4.ensures.is (c.past-labels.ensures ∙ ap (λ (n : ℕ). limited (past_labels c.before.before.before.before.before.before.before.before.before.before.before.before.args.s.labels n)) c.before.measure-at5.ensures.is)
 
 pub behind-statement-spec : {M : Type 1} → statement M
 behind-statement-spec =

@@ -21,7 +21,7 @@ enum_told : tie.Need-enum-told
 enum_told c = search rules
 
 behind-statement-requires : tie.Need-behind-statement-requires
-behind-statement-requires c κs = let s = c.before.before.before.before.before.requires.2 in (slot-asks c.before.before.before.before.before.requires.0 (at_next c.before.before.before.number_at.ensures c.before.before.item-at.ensures).onward, limited-as _ s.rows_are, limited-as _ s.labels-are)
+behind-statement-requires c κs = let s = c.before.before.before.before.before.requires.2 in (slot-asks c.before.before.before.before.before.requires.0 (at_next c.before.before.before.number_at.ensures c.before.before.item-at.ensures).onward, limited-as _ s.rows_are, limited-as _ s.labels_are)
 
 enum-known-item : tie.Need-enum-known-item
 enum-known-item c = search rules

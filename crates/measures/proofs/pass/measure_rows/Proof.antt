@@ -3,14 +3,14 @@ use mathlib.Core.Path.{◌≡◌, refl, ◌∙◌}
 use Prim.Native.Nat.{◌≤◌, ◌-◌}
 use native.Mathlib.Omega.{arith}
 use lib.ListN.{length}
-use Rattle.words.specs.Table.{rowCount}
+use Rattle.words.specs.Table.{row_count}
 use Rattle.measures_table.specs.Measures.{MeasuredFrom}
 use Rattle.measures_table.specs.MeasureLaws.{measured-none, measured-back, measured-zero}
 use Rattle.measures.proofs.pass.measure_rows.Statement.{statement}
 use Rattle.measures.proofs.pass.measure_rows.Tie as tie
 
 abbrev invariant-loop : tie.invariant-loop
-invariant-loop store rows sets table₀ row₀ table row = (row ≤ rowCount rows) × MeasuredFrom rows table row × (length table ≡ length table₀)
+invariant-loop store rows sets table₀ row₀ table row = (row ≤ row_count rows) × MeasuredFrom rows table row × (length table ≡ length table₀)
 
 abbrev decreases-loop : tie.decreases-loop
 decreases-loop store rows sets table₀ row₀ table row = row

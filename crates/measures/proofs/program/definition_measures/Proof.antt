@@ -1,6 +1,6 @@
 -- The measures of a definition: its parameters, and its block.
 use native.Mathlib.Omega.{arith}
-use Rattle.write_sets_functions.proofs.DefinitionLaws.{defined-kind, parameters-inside}
+use Rattle.write_sets_functions.proofs.DefinitionLaws.{defined-kind, parameters_inside}
 use Rattle.measures.proofs.ProgramLaws.{read_count, body-measured, definition-measured}
 use borrow.Author.Rules.{rules}
 use Rattle.measures.proofs.program.definition_measures.Statement.{statement}
@@ -10,7 +10,7 @@ number-at-requires : tie.Need-number-at-requires
 number-at-requires c κs = omega (arith, c.before.requires.0.source.sound.whole, c.before.requires.1)
 
 parameter-count-requires : tie.Need-parameter-count-requires
-parameter-count-requires c κs = let p = c.before.before.requires in (p.0.source, parameters-inside p.0.source p.1 (defined-kind c.before.before.args.rows.now c.before.before.args.row p.2) c.number_at.ensures)
+parameter-count-requires c κs = let p = c.before.before.requires in (p.0.source, parameters_inside p.0.source p.1 (defined-kind c.before.before.args.rows.now c.before.before.args.row p.2) c.number_at.ensures)
 
 number-at-requires-2 : tie.Need-number-at-requires-2
 number-at-requires-2 c κs = omega (arith, c.before.before.before.requires.0.source.sound.whole, c.before.before.before.requires.1)

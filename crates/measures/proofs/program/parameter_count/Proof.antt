@@ -1,8 +1,8 @@
 -- The parameters so far.
 use mathlib.Core.Path.{sym, ◌∙◌}
 use native.Mathlib.Omega.{arith}
-use Rattle.words.specs.Table.{rowCount}
-use Rattle.write_sets_rows.proofs.ArgumentLaws.{rowsLeft}
+use Rattle.words.specs.Table.{row_count}
+use Rattle.write_sets_rows.proofs.ArgumentLaws.{rows_left}
 use Rattle.write_sets_functions.proofs.DefinitionLaws.{next-falls, parameter-first}
 use Rattle.measures.proofs.ProgramLaws.{Counting, counting-none, counting-low, counting-next, counting-all}
 use Rattle.measures.proofs.program.parameter_count.Statement.{statement}
@@ -12,7 +12,7 @@ abbrev invariant-loop : tie.invariant-loop
 invariant-loop rows first count₀ row₀ count row = Counting rows first count row
 
 abbrev decreases-loop : tie.decreases-loop
-decreases-loop rows first count₀ row₀ count row = rowsLeft (rowCount rows) row
+decreases-loop rows first count₀ row₀ count row = rows_left (row_count rows) row
 
 loop-holds : tie.Need-loop-init invariant-loop decreases-loop
 loop-holds c = counting-none c.requires.1

@@ -1,9 +1,9 @@
 -- The definitions so far.
 use mathlib.Core.Path.{sym, ◌∙◌}
 use native.Mathlib.Omega.{arith}
-use Rattle.words.specs.Table.{rowCount}
+use Rattle.words.specs.Table.{row_count}
 use Rattle.measures_table.specs.MeasureLaws.{whole-slot}
-use Rattle.write_sets_rows.proofs.ArgumentLaws.{rowsLeft}
+use Rattle.write_sets_rows.proofs.ArgumentLaws.{rows_left}
 use Rattle.write_sets_functions.proofs.DefinitionLaws.{there, next-falls}
 use Rattle.measures.proofs.ProgramLaws.{Summing, summing-none, summing-small, summing-next, list-small, summing-all}
 use borrow.Author.Rules.{rules}
@@ -14,7 +14,7 @@ abbrev invariant-loop : tie.invariant-loop
 invariant-loop rows table first found₀ row₀ found row = Summing rows first found row
 
 abbrev decreases-loop : tie.decreases-loop
-decreases-loop rows table first found₀ row₀ found row = rowsLeft (rowCount rows) row
+decreases-loop rows table first found₀ row₀ found row = rows_left (row_count rows) row
 
 loop-holds : tie.Need-loop-init invariant-loop decreases-loop
 loop-holds c = summing-none c.before.requires.1

@@ -2,7 +2,7 @@
 use mathlib.Core.Path.{ap, ◌∙◌}
 use Prim.Native.Nat.{ℕ, ◌+◌}
 use native.Mathlib.Omega.{arith}
-use Rattle.measures_table.specs.Measures.{limited, armsRowsSlot, armsLevelsSlot, armsLabelsSlot}
+use Rattle.measures_table.specs.Measures.{limited, arms_rows_slot, arms_levels_slot, arms_labels_slot}
 use Rattle.measures.proofs.StatementLaws.{same-three}
 use borrow.Author.Rules.{rules}
 use Rattle.measures.proofs.statements.guarded_measures.Statement.{statement}
@@ -11,7 +11,7 @@ use Rattle.measures_table.proofs.table.limited.Reads as limited-reads
 use Rattle.measures_table.proofs.table.measure_at.Reads as measure-at-reads
 
 measure-at-requires : tie.Need-measure-at-requires
-measure-at-requires c κs = c.before.requires.0 armsRowsSlot (omega arith)
+measure-at-requires c κs = c.before.requires.0 arms_rows_slot (omega arith)
 
 add-limited : tie.Need-overflow-add-limited
 add-limited c = search rules
@@ -20,10 +20,10 @@ limited-requires : tie.Need-limited-requires
 limited-requires c κs = search rules
 
 measure-at-requires-2 : tie.Need-measure-at-requires-2
-measure-at-requires-2 c κs = c.before.before.before.requires.0 armsLevelsSlot (omega arith)
+measure-at-requires-2 c κs = c.before.before.before.requires.0 arms_levels_slot (omega arith)
 
 measure-at-requires-3 : tie.Need-measure-at-requires-3
-measure-at-requires-3 c κs = c.before.before.before.before.requires.0 armsLabelsSlot (omega arith)
+measure-at-requires-3 c κs = c.before.before.before.before.requires.0 arms_labels_slot (omega arith)
 
 add-limited-2 : tie.Need-overflow-add-limited-2
 add-limited-2 c = search rules

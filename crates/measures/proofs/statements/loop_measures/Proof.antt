@@ -2,7 +2,7 @@
 use mathlib.Core.Path.{ap₂, ◌∙◌}
 use Prim.Native.Nat.{max}
 use native.Mathlib.Omega.{arith}
-use Rattle.measures_table.specs.Measures.{droppedRowsSlot, droppedLevelsSlot}
+use Rattle.measures_table.specs.Measures.{dropped_rows_slot, dropped_levels_slot}
 use Rattle.measures.proofs.StatementLaws.{same-three, loop-words}
 use borrow.Author.Rules.{rules}
 use Rattle.measures.proofs.statements.loop_measures.Statement.{statement}
@@ -13,7 +13,7 @@ use Rattle.measures_table.proofs.table.limited.Reads as limited-reads
 use Rattle.measures_table.proofs.table.measure_at.Reads as measure-at-reads
 
 measure-at-requires : tie.Need-measure-at-requires
-measure-at-requires c κs = c.before.requires.0 droppedRowsSlot (omega arith)
+measure-at-requires c κs = c.before.requires.0 dropped_rows_slot (omega arith)
 
 test-rows-requires : tie.Need-test-rows-requires
 test-rows-requires c κs = c.before.before.requires.1
@@ -22,7 +22,7 @@ add-before : tie.Need-overflow-add-before
 add-before c = omega (arith, c.before.measure-at.ensures.small, c.test-rows.ensures.small)
 
 measure-at-requires-2 : tie.Need-measure-at-requires-2
-measure-at-requires-2 c κs = c.before.before.before.requires.2 droppedRowsSlot (omega arith)
+measure-at-requires-2 c κs = c.before.before.before.requires.2 dropped_rows_slot (omega arith)
 
 measure-at-requires-3 : tie.Need-measure-at-requires-3
 measure-at-requires-3 c κs = c.before.before.before.before.requires.3 3 (omega arith)
@@ -31,7 +31,7 @@ add-round : tie.Need-overflow-add-round
 add-round c = omega (arith, c.before.measure-at2.ensures.small, c.measure-at3.ensures.small)
 
 measure-at-requires-4 : tie.Need-measure-at-requires-4
-measure-at-requires-4 c κs = c.before.before.before.before.before.requires.0 droppedLevelsSlot (omega arith)
+measure-at-requires-4 c κs = c.before.before.before.before.before.requires.0 dropped_levels_slot (omega arith)
 
 measure-at-requires-5 : tie.Need-measure-at-requires-5
 measure-at-requires-5 c κs = c.before.before.before.before.before.before.requires.1 1 (omega arith)
@@ -40,7 +40,7 @@ larger-requires : tie.Need-larger-requires
 larger-requires c κs = search rules
 
 measure-at-requires-6 : tie.Need-measure-at-requires-6
-measure-at-requires-6 c κs = c.before.before.before.before.before.before.before.before.requires.2 droppedLevelsSlot (omega arith)
+measure-at-requires-6 c κs = c.before.before.before.before.before.before.before.before.requires.2 dropped_levels_slot (omega arith)
 
 measure-at-requires-7 : tie.Need-measure-at-requires-7
 measure-at-requires-7 c κs = c.before.before.before.before.before.before.before.before.before.requires.3 4 (omega arith)

@@ -1,13 +1,13 @@
 -- The measures of a statement, shape by shape.
 use mathlib.Core.Path.{refl}
 use native.Mathlib.Omega.{arith}
-use Rattle.language.specs.Decode.{expressionAt}
+use Rattle.language.specs.Decode.{expression_at}
 use Rattle.language_shapes.specs.ShapeLaws.{stated, optional}
 use Rattle.translation.specs.Uses.{direct}
-use Rattle.translation.specs.Translate.{atomOf, labels, statementLevels}
-use Rattle.translation.specs.TranslateSize.{statementSize}
-use Rattle.translation.specs.TranslateBounds.{taken-most}
-use Rattle.measures_table.specs.Parts.{calledIn}
+use Rattle.translation.specs.Translate.{atom_of, labels, statement_levels}
+use Rattle.translation.specs.TranslateSize.{statement_size}
+use Rattle.translation.proofs.TranslateBounds.{taken_most}
+use Rattle.measures_table.specs.Parts.{called_in}
 use Rattle.measures_table.specs.MeasureLaws.{slot-asks, link-asks}
 use Rattle.measures.proofs.StatementLaws.{absent-link, store-small, plain-measured, express-measured, block-measured, if-measured, while-shape, do-shape, for-measured, switch-measured, guarded-measured, rounds-shape, declare-measured, return-measured}
 use borrow.Author.Rules.{rules}
@@ -79,7 +79,7 @@ taken-at-requires : tie.Need-taken-at-requires
 taken-at-requires c κs = link-asks c.before.before.before.before.before.requires.0 (stated c.before.before.before.statement-at.ensures c.before.shape7.given.1).onward.0
 
 switch-measures-requires : tie.Need-switch-measures-requires
-switch-measures-requires c κs = (slot-asks c.before.before.before.before.before.before.requires.0 (optional (stated c.before.before.before.before.statement-at.ensures c.before.before.shape7.given.1).onward.0), slot-asks c.before.before.before.before.before.before.requires.0 (stated c.before.before.before.before.statement-at.ensures c.before.before.shape7.given.1).onward.1, omega (arith, c.taken_at.ensures, taken-most (atomOf (calledIn c.before.before.before.before.before.before.args.rows.now) (expressionAt c.before.before.before.before.before.before.args.rows.now c.before.before.shape7.given.0.0))))
+switch-measures-requires c κs = (slot-asks c.before.before.before.before.before.before.requires.0 (optional (stated c.before.before.before.before.statement-at.ensures c.before.before.shape7.given.1).onward.0), slot-asks c.before.before.before.before.before.before.requires.0 (stated c.before.before.before.before.statement-at.ensures c.before.before.shape7.given.1).onward.1, omega (arith, c.taken_at.ensures, taken_most (atom_of (called_in c.before.before.before.before.before.before.args.rows.now) (expression_at c.before.before.before.before.before.before.args.rows.now c.before.before.shape7.given.0.0))))
 
 enum-told-2 : tie.Need-enum-told-2
 enum-told-2 c = search rules
@@ -124,7 +124,7 @@ store-rows-requires : tie.Need-store-rows-requires
 store-rows-requires c κs = (c.before.before.before.before.before.requires.0.source, (stated c.before.before.before.statement-at.ensures c.before.shape10.given.1).onward.1.inside)
 
 declare-measures-requires : tie.Need-declare-measures-requires
-declare-measures-requires c κs = (slot-asks c.before.before.before.before.before.before.requires.0 (stated c.before.before.before.before.statement-at.ensures c.before.before.shape10.given.1).onward.1.onward, store-small (direct (expressionAt c.before.before.before.before.before.before.args.rows.now c.before.before.shape10.given.0.1.0)) c.store-rows.ensures)
+declare-measures-requires c κs = (slot-asks c.before.before.before.before.before.before.requires.0 (stated c.before.before.before.before.statement-at.ensures c.before.before.shape10.given.1).onward.1.onward, store-small (direct (expression_at c.before.before.before.before.before.before.args.rows.now c.before.before.shape10.given.0.1.0)) c.store-rows.ensures)
 
 enum-known-shape-11 : tie.Need-enum-known-shape-11
 enum-known-shape-11 c = search rules
@@ -133,7 +133,7 @@ return-measures-requires : tie.Need-return-measures-requires
 return-measures-requires c κs = slot-asks c.before.before.before.before.before.requires.0 (stated c.before.before.before.statement-at.ensures c.before.shape11.given.1).onward
 
 returns : tie.Need-returns
-unfolding statementSize statementLevels labels
+unfolding statement_size statement_levels labels
 returns c = plain-measured c.before.before.before.before.before.requires.0 (stated c.before.before.before.statement-at.ensures c.before.enum_told.given.1) refl refl refl c.plain-measures.ensures
 
 returns-2 : tie.Need-returns-2
@@ -158,15 +158,15 @@ returns-8 : tie.Need-returns-8
 returns-8 c = switch-measured c.before.before.before.before.before.before.before.requires.0 (stated c.before.before.before.before.before.statement-at.ensures c.before.before.before.shape7.given.1) c.before.taken_at.ensures c.switch-measures.ensures
 
 returns-9 : tie.Need-returns-9
-unfolding statementSize statementLevels labels
+unfolding statement_size statement_levels labels
 returns-9 c = plain-measured c.before.before.before.before.before.requires.0 (stated c.before.before.before.statement-at.ensures c.before.enum-told2.given.1) refl refl refl c.plain-measures2.ensures
 
 returns-10 : tie.Need-returns-10
-unfolding statementSize statementLevels labels
+unfolding statement_size statement_levels labels
 returns-10 c = plain-measured c.before.before.before.before.before.requires.0 (stated c.before.before.before.statement-at.ensures c.before.enum-told3.given.1) refl refl refl c.plain-measures3.ensures
 
 returns-11 : tie.Need-returns-11
-unfolding statementSize statementLevels labels
+unfolding statement_size statement_levels labels
 returns-11 c = plain-measured c.before.before.before.before.before.requires.0 (stated c.before.before.before.statement-at.ensures c.before.enum-told4.given.1) refl refl refl c.plain-measures4.ensures
 
 returns-12 : tie.Need-returns-12
@@ -176,7 +176,7 @@ returns-13 : tie.Need-returns-13
 returns-13 c = rounds-shape c.before.before.before.before.before.before.requires.0 (stated c.before.before.before.before.statement-at.ensures c.before.before.shape9.given.1) c.rounds-measures.ensures
 
 returns-14 : tie.Need-returns-14
-unfolding statementSize statementLevels labels
+unfolding statement_size statement_levels labels
 returns-14 c = plain-measured c.before.before.before.before.before.requires.0 (stated c.before.before.before.statement-at.ensures c.before.enum-told5.given.1) refl refl refl c.plain-measures5.ensures
 
 returns-15 : tie.Need-returns-15

@@ -2,7 +2,7 @@
 use mathlib.Core.Path.{refl, ap, ◌∙◌}
 use Prim.Native.Nat.{ℕ, ◌+◌}
 use native.Mathlib.Omega.{arith}
-use Rattle.measures_table.specs.Measures.{limited, rowsSlot, levelsSlot}
+use Rattle.measures_table.specs.Measures.{limited, rows_slot, levels_slot}
 use Rattle.measures.proofs.StatementLaws.{same-three}
 use borrow.Author.Rules.{rules}
 use Rattle.measures.proofs.statements.return_measures.Statement.{statement}
@@ -11,7 +11,7 @@ use Rattle.measures_table.proofs.table.limited.Reads as limited-reads
 use Rattle.measures_table.proofs.table.measure_at.Reads as measure-at-reads
 
 measure-at-requires : tie.Need-measure-at-requires
-measure-at-requires c κs = c.before.requires rowsSlot (omega arith)
+measure-at-requires c κs = c.before.requires rows_slot (omega arith)
 
 add-limited : tie.Need-overflow-add-limited
 add-limited c = omega (arith, c.measure-at.ensures.small)
@@ -20,7 +20,7 @@ limited-requires : tie.Need-limited-requires
 limited-requires c κs = search rules
 
 measure-at-requires-2 : tie.Need-measure-at-requires-2
-measure-at-requires-2 c κs = c.before.before.before.requires levelsSlot (omega arith)
+measure-at-requires-2 c κs = c.before.before.before.requires levels_slot (omega arith)
 
 returns : tie.Need-returns
 returns c = same-three (c.before.limited.ensures ∙ ap (λ (n : ℕ). limited (2 + n)) c.before.before.measure-at.ensures.is) c.measure-at2.ensures.is refl

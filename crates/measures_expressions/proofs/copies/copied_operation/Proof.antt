@@ -3,7 +3,7 @@ use mathlib.Core.Path.{refl, ap}
 use Rattle.language_shapes.specs.ShapeLaws.{expressed}
 use Rattle.language_shapes.specs.declared.ExpressionShape.TheVariants.{Operation}
 use Rattle.measures_table.specs.MeasureLaws.{link-asks}
-use Rattle.write_sets_rows.proofs.WriteLaws.{Copied-none, copied-binary, copied-assign, copied-compound, index-inside}
+use Rattle.write_sets_rows.proofs.WriteLaws.{Copied-none, copied-binary, copied-assign, copied-compound, index_inside}
 use borrow.Author.Rules.{rules}
 use Rattle.measures_expressions.proofs.copies.copied_operation.Statement.{statement}
 use Rattle.measures_expressions.proofs.copies.copied_operation.Tie as tie
@@ -40,7 +40,7 @@ copied-over-requires-2 c κs =
     let asked = c.before.before.before.before.before.before.requires in
     let shape = expressed asked.2 (ap Operation c.before.before.operation2.given.1) in
     let value = link-asks asked.1 shape.onward.1 in
-    ((asked.0, value.1, index-inside asked.0.source c.index_at.ensures), (value.2, value.3))
+    ((asked.0, value.1, index_inside asked.0.source c.index_at.ensures), (value.2, value.3))
 
 enum-known-operation-3 : tie.Need-enum-known-operation-3
 enum-known-operation-3 c = search rules
@@ -53,7 +53,7 @@ copied-over-requires-3 c κs =
     let asked = c.before.before.before.before.before.before.requires in
     let shape = expressed asked.2 (ap Operation c.before.before.operation3.given.1) in
     let value = link-asks asked.1 shape.onward.1 in
-    ((asked.0, value.1, index-inside asked.0.source c.index-at2.ensures), (value.2, value.3))
+    ((asked.0, value.1, index_inside asked.0.source c.index-at2.ensures), (value.2, value.3))
 
 enum-told-4 : tie.Need-enum-told-4
 enum-told-4 c = search rules

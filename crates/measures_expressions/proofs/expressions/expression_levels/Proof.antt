@@ -2,9 +2,9 @@
 use mathlib.Core.Path.{ap, ap₂, ◌∙◌}
 use Prim.Native.Nat.{max}
 use native.Mathlib.Omega.{arith}
-use Rattle.language.specs.Decode.{expressionAt}
-use Rattle.measures_table.specs.Parts.{calledIn}
-use Rattle.measures_table.specs.Measures.{limited, levelsSlot}
+use Rattle.language.specs.Decode.{expression_at}
+use Rattle.measures_table.specs.Parts.{called_in}
+use Rattle.measures_table.specs.Measures.{limited, levels_slot}
 use Rattle.measures_table.specs.MeasureLaws.{slot-asks}
 use Rattle.measures_expressions.proofs.ExpressionLaws.{levels-of, above_most}
 use borrow.Author.Rules.{rules}
@@ -36,15 +36,15 @@ measure-at-requires-2 c κs =
 
 add-second : tie.Need-overflow-add-second
 add-second c =
-    omega (arith, c.before.measure-at2.ensures.small, c.before.before.before.before.before.before.before.requires.2.above-is, above_most (calledIn c.before.before.before.before.before.before.before.args.rows.now) (expressionAt c.before.before.before.before.before.before.before.args.rows.now c.before.before.before.before.before.before.before.args.row))
+    omega (arith, c.before.measure-at2.ensures.small, c.before.before.before.before.before.before.before.requires.2.above-is, above_most (called_in c.before.before.before.before.before.before.before.args.rows.now) (expression_at c.before.before.before.before.before.before.before.args.rows.now c.before.before.before.before.before.before.before.args.row))
 
 measure-at-requires-3 : tie.Need-measure-at-requires-3
 measure-at-requires-3 c κs =
-    slot-asks c.before.before.before.before.before.before.before.requires.0 c.before.before.before.before.before.before.before.requires.2.third.onward levelsSlot (omega arith)
+    slot-asks c.before.before.before.before.before.before.before.requires.0 c.before.before.before.before.before.before.before.requires.2.third.onward levels_slot (omega arith)
 
 measure-at-requires-4 : tie.Need-measure-at-requires-4
 measure-at-requires-4 c κs =
-    slot-asks c.before.before.before.before.before.before.before.before.requires.0 c.before.before.before.before.before.before.before.before.requires.2.fourth.onward levelsSlot (omega arith)
+    slot-asks c.before.before.before.before.before.before.before.before.requires.0 c.before.before.before.before.before.before.before.before.requires.2.fourth.onward levels_slot (omega arith)
 
 levels-by-requires : tie.Need-levels-by-requires
 levels-by-requires c κs = search rules

@@ -1,11 +1,11 @@
 -- The rows of an expression: those of its operands and its own.
 use mathlib.Core.Path.{◌∙◌}
 use native.Mathlib.Omega.{arith}
-use Rattle.language.specs.Decode.{expressionAt}
-use Rattle.measures_table.specs.Parts.{calledIn}
-use Rattle.measures_table.specs.Measures.{rowsSlot}
+use Rattle.language.specs.Decode.{expression_at}
+use Rattle.measures_table.specs.Parts.{called_in}
+use Rattle.measures_table.specs.Measures.{rows_slot}
 use Rattle.measures_table.specs.MeasureLaws.{slot-asks}
-use Rattle.measures_expressions.proofs.ExpressionLaws.{rows_of, own-most, own-rows-by}
+use Rattle.measures_expressions.proofs.ExpressionLaws.{rows-of, own-most, own-rows-by}
 use borrow.Author.Rules.{rules}
 use Rattle.measures_expressions.proofs.expressions.expression_rows.Statement.{statement}
 use Rattle.measures_expressions.proofs.expressions.expression_rows.Tie as tie
@@ -34,11 +34,11 @@ measure-at-requires-2 c κs =
 
 measure-at-requires-3 : tie.Need-measure-at-requires-3
 measure-at-requires-3 c κs =
-    slot-asks c.before.before.before.before.before.before.requires.0 c.before.before.before.before.before.before.requires.2.third.onward rowsSlot (omega arith)
+    slot-asks c.before.before.before.before.before.before.requires.0 c.before.before.before.before.before.before.requires.2.third.onward rows_slot (omega arith)
 
 measure-at-requires-4 : tie.Need-measure-at-requires-4
 measure-at-requires-4 c κs =
-    slot-asks c.before.before.before.before.before.before.before.requires.0 c.before.before.before.before.before.before.before.requires.2.fourth.onward rowsSlot (omega arith)
+    slot-asks c.before.before.before.before.before.before.before.requires.0 c.before.before.before.before.before.before.before.requires.2.fourth.onward rows_slot (omega arith)
 
 add-limited : tie.Need-overflow-add-limited
 add-limited c = search rules
@@ -54,14 +54,14 @@ rows-by-requires c κs = search rules
 
 add-limited-4 : tie.Need-overflow-add-limited-4
 add-limited-4 c =
-    omega (arith, c.before.before.before.before.before.measure-at.ensures.small, c.before.before.before.measure-at2.ensures.small, c.before.before.measure-at3.ensures.small, c.before.measure-at4.ensures.small, c.rows-by.ensures, own-rows-by c.before.before.before.before.before.before.before.before.before.requires.2 c.before.before.before.before.before.before.before.before.before.args.usage, own-most (calledIn c.before.before.before.before.before.before.before.before.before.args.rows.now) (expressionAt c.before.before.before.before.before.before.before.before.before.args.rows.now c.before.before.before.before.before.before.before.before.before.args.row) c.before.before.before.before.before.before.before.before.before.args.usage c.before.before.before.before.before.before.before.before.before.requires.3)
+    omega (arith, c.before.before.before.before.before.measure-at.ensures.small, c.before.before.before.measure-at2.ensures.small, c.before.before.measure-at3.ensures.small, c.before.measure-at4.ensures.small, c.rows-by.ensures, own-rows-by c.before.before.before.before.before.before.before.before.before.requires.2 c.before.before.before.before.before.before.before.before.before.args.usage, own-most (called_in c.before.before.before.before.before.before.before.before.before.args.rows.now) (expression_at c.before.before.before.before.before.before.before.before.before.args.rows.now c.before.before.before.before.before.before.before.before.before.args.row) c.before.before.before.before.before.before.before.before.before.args.usage c.before.before.before.before.before.before.before.before.before.requires.3)
 
 limited-requires : tie.Need-limited-requires
 limited-requires c κs = search rules
 
 returns : tie.Need-returns
 returns c =
-    c.limited.ensures ∙ rows_of _ _ _ c.before.before.before.before.before.before.before.before.before.before.requires.0 _ c.before.before.before.before.before.before.before.before.before.before.requires.2 c.before.before.before.before.before.before.before.before.before.before.args.usage _ _ _ _ _ _ _ c.before.before.before.before.before.before.before.before.before.before.requires.3 c.before.before.before.before.before.before.before.before.second-use.ensures c.before.before.before.before.before.before.before.rows-for.ensures c.before.before.before.before.before.rows-for2.ensures c.before.before.before.before.before.before.measure-at.ensures.is c.before.before.before.before.measure-at2.ensures.is c.before.before.before.measure-at3.ensures.is c.before.before.measure-at4.ensures.is c.before.rows-by.ensures
+    c.limited.ensures ∙ rows-of _ _ _ c.before.before.before.before.before.before.before.before.before.before.requires.0 _ c.before.before.before.before.before.before.before.before.before.before.requires.2 c.before.before.before.before.before.before.before.before.before.before.args.usage _ _ _ _ _ _ _ c.before.before.before.before.before.before.before.before.before.before.requires.3 c.before.before.before.before.before.before.before.before.second-use.ensures c.before.before.before.before.before.before.before.rows-for.ensures c.before.before.before.before.before.rows-for2.ensures c.before.before.before.before.before.before.measure-at.ensures.is c.before.before.before.before.measure-at2.ensures.is c.before.before.before.measure-at3.ensures.is c.before.before.measure-at4.ensures.is c.before.rows-by.ensures
 
 pub expression-rows-spec : {M : Type 1} → statement M
 expression-rows-spec =

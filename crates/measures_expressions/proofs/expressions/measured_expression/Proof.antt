@@ -53,7 +53,7 @@ call-measures-requires : tie.Need-call-measures-requires
 call-measures-requires c κs =
     let p = c.before.before.before.before.before.before.before.before.requires in
     let f = expressed c.before.before.before.before.before.expression-at.ensures c.before.before.before.shape.given.1 in
-    (c.passed-measures.ensures.rows-small, omega (arith, c.passed-measures.ensures.count-is, call-arguments p.0.source p.2 f.is))
+    (c.passed-measures.ensures.rows_small, omega (arith, c.passed-measures.ensures.count_is, call-arguments p.0.source p.2 f.is))
 
 returns : tie.Need-returns
 returns c = search rules

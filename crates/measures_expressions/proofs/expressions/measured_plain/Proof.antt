@@ -1,7 +1,7 @@
 -- The measures of an expression that is no call: what its own row brings, and those of its operands.
 use mathlib.Core.Path.{sym}
-use Rattle.language.specs.Decode.{expressionAt}
-use Rattle.measures_table.specs.Parts.{calledIn}
+use Rattle.language.specs.Decode.{expression_at}
+use Rattle.measures_table.specs.Parts.{called_in}
 use Rattle.measures_table.specs.NoCalls.{copies-none}
 use Rattle.measures_expressions.proofs.expressions.measured_plain.Statement.{statement}
 use Rattle.measures_expressions.proofs.expressions.measured_plain.Tie as tie
@@ -32,7 +32,7 @@ expression-levels-requires-3 : tie.Need-expression-levels-requires-3
 expression-levels-requires-3 c κs = (c.before.before.before.before.before.before.before.before.requires.1, c.before.before.before.before.before.before.before.before.requires.2, c.before.before.before.before.own_at.ensures)
 
 returns : tie.Need-returns
-returns c = record { rows_are = c.before.before.before.before.expression-rows.ensures; levels-are = c.before.before.before.expression-levels.ensures; value-is = c.before.before.before.before.before.own_at.ensures.value-is; value-inside = c.before.before.before.before.before.own_at.ensures.value-inside; copied_is = c.before.before.before.before.before.before.Copied-at.ensures; dropped-rows-are = c.before.before.expression-rows2.ensures; dropped-levels-are = c.before.expression-levels2.ensures; stored-levels-are = c.expression-levels3.ensures; copies-are = sym (copies-none (calledIn c.before.before.before.before.before.before.before.before.before.args.rows.now) (expressionAt c.before.before.before.before.before.before.before.before.before.args.rows.now c.before.before.before.before.before.before.before.before.before.args.row) c.before.before.before.before.before.before.before.before.before.requires.3) }
+returns c = record { rows_are = c.before.before.before.before.expression-rows.ensures; levels_are = c.before.before.before.expression-levels.ensures; value_is = c.before.before.before.before.before.own_at.ensures.value_is; value_inside = c.before.before.before.before.before.own_at.ensures.value_inside; copied_is = c.before.before.before.before.before.before.Copied-at.ensures; dropped_rows_are = c.before.before.expression-rows2.ensures; dropped_levels_are = c.before.expression-levels2.ensures; stored_levels_are = c.expression-levels3.ensures; copies_are = sym (copies-none (called_in c.before.before.before.before.before.before.before.before.before.args.rows.now) (expression_at c.before.before.before.before.before.before.before.before.before.args.rows.now c.before.before.before.before.before.before.before.before.before.args.row) c.before.before.before.before.before.before.before.before.before.requires.3) }
 
 pub measured-plain-spec : {M : Type 1} → statement M
 measured-plain-spec =

@@ -22,7 +22,7 @@ plain-holder-requires c κs = search rules
 
 returns : tie.Need-returns
 returns c =
-    held_same c.plain-holder.ensures c.before.before.before.requires.3.expression.value-is
+    held_same c.plain-holder.ensures c.before.before.before.requires.3.expression.value_is
 
 pub holder-at-spec : {M : Type 1} → statement M
 holder-at-spec =

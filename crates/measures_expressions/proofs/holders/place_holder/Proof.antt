@@ -1,6 +1,6 @@
 -- A variable holds its own value; an element's goes into the temporary.
 use mathlib.Core.Path.{sym, ap}
-use Rattle.measures_table.specs.Parts.{placeHolder}
+use Rattle.measures_table.specs.Parts.{place_holder}
 use borrow.Author.Rules.{rules}
 use Rattle.measures_expressions.proofs.holders.place_holder.Statement.{statement}
 use Rattle.measures_expressions.proofs.holders.place_holder.Tie as tie
@@ -13,7 +13,7 @@ enum_told c = search rules
 
 returns : tie.Need-returns
 returns c =
-    sym (ap placeHolder c.before.place.given.1)
+    sym (ap place_holder c.before.place.given.1)
 
 returns-2 : tie.Need-returns-2
 returns-2 c = search rules

@@ -1,12 +1,12 @@
 -- What the row of an assignment brings, by its place.
 use native.Mathlib.Omega.{arith}
-use Rattle.language.specs.Decode.{expressionAt}
-use Rattle.translation.specs.Translate.{atomOf}
-use Rattle.translation.specs.TranslateBounds.{taken-most}
+use Rattle.language.specs.Decode.{expression_at}
+use Rattle.translation.specs.Translate.{atom_of}
+use Rattle.translation.proofs.TranslateBounds.{taken_most}
 use Rattle.language_shapes.specs.ShapeLaws.{optional, placed}
 use Rattle.measures_table.specs.MeasureLaws.{link-asks, slot-asks, first-copied-most}
 use Rattle.measures_expressions.proofs.OwnLaws.{own-assign, store_asks}
-use Rattle.measures_table.specs.Parts.{calledIn}
+use Rattle.measures_table.specs.Parts.{called_in}
 use borrow.Author.Rules.{rules}
 use Rattle.measures_expressions.proofs.parts.own_assign.Statement.{statement}
 use Rattle.measures_expressions.proofs.parts.own_assign.Tie as tie
@@ -35,7 +35,7 @@ taken-at-requires c κs =
 
 add-above : tie.Need-overflow-add-above
 add-above c =
-    omega (arith, c.before.before.before.before.before.before.requires.3, first-copied-most (calledIn c.before.before.before.before.before.before.args.rows.now) (expressionAt c.before.before.before.before.before.before.args.rows.now c.before.before.before.before.before.before.args.row), c.taken_at.ensures, taken-most (atomOf (calledIn c.before.before.before.before.before.before.args.rows.now) (expressionAt c.before.before.before.before.before.before.args.rows.now c.before.before.before.before.before.before.args.e)))
+    omega (arith, c.before.before.before.before.before.before.requires.3, first-copied-most (called_in c.before.before.before.before.before.before.args.rows.now) (expression_at c.before.before.before.before.before.before.args.rows.now c.before.before.before.before.before.before.args.row), c.taken_at.ensures, taken_most (atom_of (called_in c.before.before.before.before.before.before.args.rows.now) (expression_at c.before.before.before.before.before.before.args.rows.now c.before.before.before.before.before.before.args.e)))
 
 value-at-requires : tie.Need-value-at-requires
 value-at-requires c κs =
@@ -43,11 +43,11 @@ value-at-requires c κs =
 
 mul-own : tie.Need-overflow-mul-own
 mul-own c =
-    omega (arith, c.before.before.before.before.before.before.before.requires.3, first-copied-most (calledIn c.before.before.before.before.before.before.before.args.rows.now) (expressionAt c.before.before.before.before.before.before.before.args.rows.now c.before.before.before.before.before.before.before.args.row))
+    omega (arith, c.before.before.before.before.before.before.before.requires.3, first-copied-most (called_in c.before.before.before.before.before.before.before.args.rows.now) (expression_at c.before.before.before.before.before.before.before.args.rows.now c.before.before.before.before.before.before.before.args.row))
 
 add-own : tie.Need-overflow-add-own
 add-own c =
-    omega (arith, c.before.before.before.before.before.before.before.requires.3, first-copied-most (calledIn c.before.before.before.before.before.before.before.args.rows.now) (expressionAt c.before.before.before.before.before.before.before.args.rows.now c.before.before.before.before.before.before.before.args.row))
+    omega (arith, c.before.before.before.before.before.before.before.requires.3, first-copied-most (called_in c.before.before.before.before.before.before.before.args.rows.now) (expression_at c.before.before.before.before.before.before.before.args.rows.now c.before.before.before.before.before.before.before.args.row))
 
 own-requires : tie.Need-own-requires
 own-requires c κs = search rules

@@ -1,14 +1,14 @@
 -- What an operation's own row brings, kind by kind.
 use mathlib.Core.Path.{ap}
 use native.Mathlib.Omega.{arith}
-use Rattle.language.specs.Decode.{place_of, expressionAt}
-use Rattle.translation.specs.Translate.{atomOf}
-use Rattle.translation.specs.TranslateBounds.{index-most, taken-most}
+use Rattle.language.specs.Decode.{place_of, expression_at}
+use Rattle.translation.specs.Translate.{atom_of}
+use Rattle.translation.proofs.TranslateBounds.{index-most, taken_most}
 use Rattle.language_shapes.specs.ShapeLaws.{optional, expressed}
 use Rattle.language_shapes.specs.declared.ExpressionShape.TheVariants.{Operation}
 use Rattle.measures_table.specs.MeasureLaws.{link-asks, slot-asks, measured-less, first-copied-most}
 use Rattle.measures_expressions.proofs.OwnLaws.{own-minus, own-not, own-binary, own-comma, own-compound, own-prefix}
-use Rattle.measures_table.specs.Parts.{calledIn}
+use Rattle.measures_table.specs.Parts.{called_in}
 use borrow.Author.Rules.{rules}
 use Rattle.measures_expressions.proofs.parts.own_operation.Statement.{statement}
 use Rattle.measures_expressions.proofs.parts.own_operation.Tie as tie
@@ -41,15 +41,15 @@ taken-at-requires c κs =
 
 add-above : tie.Need-overflow-add-above
 add-above c =
-    omega (arith, c.before.before.before.before.before.requires.3, first-copied-most (calledIn c.before.before.before.before.before.args.rows.now) (expressionAt c.before.before.before.before.before.args.rows.now c.before.before.before.before.before.args.row), c.taken_at.ensures, taken-most (atomOf (calledIn c.before.before.before.before.before.args.rows.now) (expressionAt c.before.before.before.before.before.args.rows.now c.before.before.operation3.given.0.1.1.0)))
+    omega (arith, c.before.before.before.before.before.requires.3, first-copied-most (called_in c.before.before.before.before.before.args.rows.now) (expression_at c.before.before.before.before.before.args.rows.now c.before.before.before.before.before.args.row), c.taken_at.ensures, taken_most (atom_of (called_in c.before.before.before.before.before.args.rows.now) (expression_at c.before.before.before.before.before.args.rows.now c.before.before.operation3.given.0.1.1.0)))
 
 mul-result : tie.Need-overflow-mul-result
 mul-result c =
-    omega (arith, c.before.before.before.before.before.requires.3, first-copied-most (calledIn c.before.before.before.before.before.args.rows.now) (expressionAt c.before.before.before.before.before.args.rows.now c.before.before.before.before.before.args.row))
+    omega (arith, c.before.before.before.before.before.requires.3, first-copied-most (called_in c.before.before.before.before.before.args.rows.now) (expression_at c.before.before.before.before.before.args.rows.now c.before.before.before.before.before.args.row))
 
 add-result : tie.Need-overflow-add-result
 add-result c =
-    omega (arith, c.before.before.before.before.before.requires.3, first-copied-most (calledIn c.before.before.before.before.before.args.rows.now) (expressionAt c.before.before.before.before.before.args.rows.now c.before.before.before.before.before.args.row))
+    omega (arith, c.before.before.before.before.before.requires.3, first-copied-most (called_in c.before.before.before.before.before.args.rows.now) (expression_at c.before.before.before.before.before.args.rows.now c.before.before.before.before.before.args.row))
 
 result-requires-3 : tie.Need-result-requires-3
 result-requires-3 c κs = search rules
@@ -77,19 +77,19 @@ place-own-requires c κs =
 
 mul-own-rows : tie.Need-overflow-mul-own-rows
 mul-own-rows c =
-    omega (arith, c.before.place-own.ensures.rows_are, index-most (place_of (expressionAt c.before.before.before.before.before.before.args.rows.now c.before.before.before.operation6.given.0.1.0)))
+    omega (arith, c.before.place-own.ensures.rows_are, index-most (place_of (expression_at c.before.before.before.before.before.before.args.rows.now c.before.before.before.operation6.given.0.1.0)))
 
 add-own-rows : tie.Need-overflow-add-own-rows
 add-own-rows c =
-    omega (arith, c.before.place-own.ensures.rows_are, index-most (place_of (expressionAt c.before.before.before.before.before.before.args.rows.now c.before.before.before.operation6.given.0.1.0)))
+    omega (arith, c.before.place-own.ensures.rows_are, index-most (place_of (expression_at c.before.before.before.before.before.before.args.rows.now c.before.before.before.operation6.given.0.1.0)))
 
 mul-own-rows-2 : tie.Need-overflow-mul-own-rows-2
 mul-own-rows-2 c =
-    omega (arith, c.before.before.before.before.before.before.requires.3, first-copied-most (calledIn c.before.before.before.before.before.before.args.rows.now) (expressionAt c.before.before.before.before.before.before.args.rows.now c.before.before.before.before.before.before.args.row))
+    omega (arith, c.before.before.before.before.before.before.requires.3, first-copied-most (called_in c.before.before.before.before.before.before.args.rows.now) (expression_at c.before.before.before.before.before.before.args.rows.now c.before.before.before.before.before.before.args.row))
 
 add-own-rows-2 : tie.Need-overflow-add-own-rows-2
 add-own-rows-2 c =
-    omega (arith, c.before.before.before.before.before.before.requires.3, first-copied-most (calledIn c.before.before.before.before.before.before.args.rows.now) (expressionAt c.before.before.before.before.before.before.args.rows.now c.before.before.before.before.before.before.args.row), c.before.place-own.ensures.rows_are, index-most (place_of (expressionAt c.before.before.before.before.before.before.args.rows.now c.before.before.before.operation6.given.0.1.0)))
+    omega (arith, c.before.before.before.before.before.before.requires.3, first-copied-most (called_in c.before.before.before.before.before.before.args.rows.now) (expression_at c.before.before.before.before.before.before.args.rows.now c.before.before.before.before.before.before.args.row), c.before.place-own.ensures.rows_are, index-most (place_of (expression_at c.before.before.before.before.before.before.args.rows.now c.before.before.before.operation6.given.0.1.0)))
 
 own-requires : tie.Need-own-requires
 own-requires c κs = search rules
@@ -103,11 +103,11 @@ place-own-requires-2 c κs =
 
 mul-own : tie.Need-overflow-mul-own
 mul-own c =
-    omega (arith, c.before.place-own2.ensures.rows_are, index-most (place_of (expressionAt c.before.before.before.before.before.before.args.rows.now c.before.before.before.operation7.given.0.1.0)))
+    omega (arith, c.before.place-own2.ensures.rows_are, index-most (place_of (expression_at c.before.before.before.before.before.before.args.rows.now c.before.before.before.operation7.given.0.1.0)))
 
 add-own : tie.Need-overflow-add-own
 add-own c =
-    omega (arith, c.before.place-own2.ensures.rows_are, index-most (place_of (expressionAt c.before.before.before.before.before.before.args.rows.now c.before.before.before.operation7.given.0.1.0)))
+    omega (arith, c.before.place-own2.ensures.rows_are, index-most (place_of (expression_at c.before.before.before.before.before.before.args.rows.now c.before.before.before.operation7.given.0.1.0)))
 
 own-requires-2 : tie.Need-own-requires-2
 own-requires-2 c κs = search rules

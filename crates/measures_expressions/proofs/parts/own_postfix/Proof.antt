@@ -1,12 +1,12 @@
 -- What the row of e++ or e−− brings, by its place.
 use native.Mathlib.Omega.{arith}
-use Rattle.language.specs.Decode.{expressionAt}
-use Rattle.translation.specs.Translate.{atomOf}
-use Rattle.translation.specs.TranslateBounds.{taken-most}
+use Rattle.language.specs.Decode.{expression_at}
+use Rattle.translation.specs.Translate.{atom_of}
+use Rattle.translation.proofs.TranslateBounds.{taken_most}
 use Rattle.language_shapes.specs.ShapeLaws.{placed}
 use Rattle.measures_table.specs.MeasureLaws.{link-asks, measured-less}
 use Rattle.measures_expressions.proofs.OwnLaws.{own-step-variable, own-step-element}
-use Rattle.measures_table.specs.Parts.{calledIn}
+use Rattle.measures_table.specs.Parts.{called_in}
 use borrow.Author.Rules.{rules}
 use Rattle.measures_expressions.proofs.parts.own_postfix.Statement.{statement}
 use Rattle.measures_expressions.proofs.parts.own_postfix.Tie as tie
@@ -33,7 +33,7 @@ taken-at-requires c κs =
 
 add-levels : tie.Need-overflow-add-levels
 add-levels c =
-    omega (arith, c.taken_at.ensures, taken-most (atomOf (calledIn c.before.before.before.before.before.before.args.rows.now) (expressionAt c.before.before.before.before.before.before.args.rows.now c.before.before.shape.given.0.1.0)))
+    omega (arith, c.taken_at.ensures, taken_most (atom_of (called_in c.before.before.before.before.before.before.args.rows.now) (expression_at c.before.before.before.before.before.before.args.rows.now c.before.before.shape.given.0.1.0)))
 
 own-requires : tie.Need-own-requires
 own-requires c κs = search rules

@@ -2,7 +2,7 @@
 use mathlib.Core.Path.{sym, ◌∙◌}
 use native.Mathlib.Omega.{arith}
 use Rattle.language_shapes.specs.ShapeLaws.{optional}
-use Rattle.measures_table.specs.Measures.{valueSlot}
+use Rattle.measures_table.specs.Measures.{value_slot}
 use Rattle.measures_table.specs.MeasureLaws.{link-asks, slot-asks}
 use Rattle.measures_expressions.proofs.OwnLaws.{own-straight, own-moved}
 use borrow.Author.Rules.{rules}
@@ -29,7 +29,7 @@ taken-at-requires c κs =
 
 measure-at-requires : tie.Need-measure-at-requires
 measure-at-requires c κs =
-    slot-asks c.before.before.before.before.requires.measured (optional c.before.before.before.before.requires.onward) valueSlot (omega arith)
+    slot-asks c.before.before.before.before.requires.measured (optional c.before.before.before.before.requires.onward) value_slot (omega arith)
 
 stored-requires-2 : tie.Need-stored-requires-2
 stored-requires-2 c κs = search rules

@@ -2,11 +2,11 @@
 -- are left.
 use native.Mathlib.Omega.{arith}
 use borrow.Author.Rules.{rules}
-use Rattle.words.specs.Table.{rowCount}
+use Rattle.words.specs.Table.{row_count}
 use Rattle.language_shapes.specs.ShapeLaws.{argued}
 use Rattle.measures_table.specs.MeasureLaws.{link-asks, slot-asks, measured-less}
 use Rattle.write_sets_rows.proofs.WriteLaws.{Link-set, sets-less}
-use Rattle.write_sets_rows.proofs.ArgumentLaws.{rowsLeft, left_less}
+use Rattle.write_sets_rows.proofs.ArgumentLaws.{rows_left, left_less}
 use Rattle.measures_expressions.proofs.PassedLaws.{absent-passed, ended-passed, count-behind, behind-fits, argument-passed, read_next, taken-small}
 use Prim.Native.Nat.{ℕ, ◌<◌}
 use borrow.Fn.Kinds.{In}
@@ -27,7 +27,7 @@ use Rattle.measures_expressions.proofs.passed.+passed_measures.Tie.{close}
 
 abbrev μ-passed-measures : Measures 3 passed-measures-kinds.ps ℕ
 μ-passed-measures κs a =
-    rowsLeft (rowCount a.1.0.now) a.1.1.1.1.0
+    rows_left (row_count a.1.0.now) a.1.1.1.1.0
 
 abbrev passed-measures-at : ℕ → In 3 passed-measures-kinds.ps
 passed-measures-at t =

@@ -45,10 +45,10 @@ add-t17 : tie.Need-overflow-add-t17
 add-t17 c = search rules
 
 mul-t18 : tie.Need-overflow-mul-t18
-mul-t18 c = omega (arith, digits-fit _ _ c.before.before.before.before.before.before.before.before.before.before.before.before.requires.3.few c.before.before.before.before.before.before.before.before.before.before.before.before.requires.3.copies-small)
+mul-t18 c = omega (arith, digits-fit _ _ c.before.before.before.before.before.before.before.before.before.before.before.before.requires.3.few c.before.before.before.before.before.before.before.before.before.before.before.before.requires.3.copies_small)
 
 add-t19 : tie.Need-overflow-add-t19
-add-t19 c = omega (arith, digits-fit _ _ c.before.before.before.before.before.before.before.before.before.before.before.before.requires.3.few c.before.before.before.before.before.before.before.before.before.before.before.before.requires.3.copies-small, c.before.before.before.before.before.before.before.before.before.before.before.before.requires.2)
+add-t19 c = omega (arith, digits-fit _ _ c.before.before.before.before.before.before.before.before.before.before.before.before.requires.3.few c.before.before.before.before.before.before.before.before.before.before.before.before.requires.3.copies_small, c.before.before.before.before.before.before.before.before.before.before.before.before.requires.2)
 
 returns : tie.Need-returns
 returns c = passed_words c.before.before.before.before.before.before.before.before.before.before.before.before.args.table.now c.before.before.before.before.before.before.before.before.before.before.before.before.args.e c.before.before.before.before.before.before.before.before.before.before.before.before.args.taken c.before.before.before.before.before.before.before.before.before.before.before.before.args.copied c.before.before.before.before.before.before.before.before.before.before.before.before.args.behind c.before.before.before.before.before.before.before.before.measure-at2.ensures.is c.before.before.before.before.before.before.before.before.before.before.measure-at.ensures.is c.before.before.before.before.before.before.before.before.before.larger.ensures c.before.before.before.before.larger2.ensures c.before.before.before.before.before.before.limited.ensures c.before.before.before.limited2.ensures

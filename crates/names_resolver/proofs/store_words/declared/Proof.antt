@@ -2,8 +2,8 @@
 use mathlib.Core.Path.{◌≡◌, sym, ap, ◌∙◌}
 use Prim.Native.Nat.{ℕ, ◌+◌, ◌-◌, ◌≤◌, ◌<◌}
 use native.Mathlib.Omega.{arith}
-use Rattle.words.specs.Table.{rowCount}
-use Rattle.names.specs.Names.{scopeAt, meantFrom}
+use Rattle.words.specs.Table.{row_count}
+use Rattle.names.specs.Names.{scope_at, meant_from}
 use Rattle.names_resolver.specs.ScanLaws.{scope-room, scope-is, scope-inside}
 use Rattle.names_resolver.specs.MeantLaws.{meant-nothing, meant-here, meant-outward}
 use Rattle.names_resolver.proofs.store_words.declared.Statement.{statement}
@@ -11,7 +11,7 @@ use Rattle.names_resolver.proofs.store_words.declared.Tie as tie
 
 abbrev invariant-loop : tie.invariant-loop
 invariant-loop rows scopes around counts row number declaration₀ -outward₀ declaration -outward =
-    (-outward ≤ 64) × (declaration < rowCount rows) × (meantFrom 64 rows (scopeAt rows row) number ≡ meantFrom (64 - -outward) rows declaration number)
+    (-outward ≤ 64) × (declaration < row_count rows) × (meant_from 64 rows (scope_at rows row) number ≡ meant_from (64 - -outward) rows declaration number)
 
 abbrev decreases-loop : tie.decreases-loop
 decreases-loop rows scopes around counts row number declaration₀ -outward₀ declaration -outward =
@@ -31,7 +31,7 @@ wide-requires c κs =
 
 loop-holds : tie.Need-loop-init invariant-loop decreases-loop
 loop-holds c =
-    let e = c.wide.ensures in (omega arith, omega (arith, e, scope-inside c.before.before.before.before.before.requires.0 c.before.before.before.before.before.args.row c.before.before.before.before.before.requires.1), ap (λ (d : ℕ). meantFrom 64 c.before.before.before.before.before.args.rows.now d c.before.before.before.before.before.args.number) (sym (e ∙ scope-is c.before.before.before.before.before.requires.0 _ c.before.before.before.before.before.requires.1)))
+    let e = c.wide.ensures in (omega arith, omega (arith, e, scope-inside c.before.before.before.before.before.requires.0 c.before.before.before.before.before.args.row c.before.before.before.before.before.requires.1), ap (λ (d : ℕ). meant_from 64 c.before.before.before.before.before.args.rows.now d c.before.before.before.before.before.args.number) (sym (e ∙ scope-is c.before.before.before.before.before.requires.0 _ c.before.before.before.before.before.requires.1)))
 
 returns : tie.Need-returns invariant-loop decreases-loop
 returns c =
@@ -77,17 +77,17 @@ loop-again c =
       omega (arith, e, scope-inside s.requires.0 at.declaration at.invariant.1),
       at.invariant.2
           ∙ meant-outward rows (64 - at.-outward) at.declaration s.args.number (omega arith) c.before.before.before.before.if1.false (λ q. c.before.before.if2.false (c.before.before.before.number_at.ensures ∙ q))
-          ∙ ap (λ (k : ℕ). meantFrom k rows (scopeAt rows at.declaration) s.args.number) one_less
-          ∙ ap (λ (d : ℕ). meantFrom (64 - (at.-outward + 1)) rows d s.args.number) (sym scope),
+          ∙ ap (λ (k : ℕ). meant_from k rows (scope_at rows at.declaration) s.args.number) one_less
+          ∙ ap (λ (d : ℕ). meant_from (64 - (at.-outward + 1)) rows d s.args.number) (sym scope),
     )
 
 returns-3 : tie.Need-returns-3 invariant-loop decreases-loop
-unfolding meantFrom
+unfolding meant_from
 returns-3 c =
     let at = c.before.loop in
     let s = c.before.before.before.before.before.before.before in
     let none : 64 - at.-outward ≡ 0 = omega arith in
-    sym (at.invariant.2 ∙ ap (λ (k : ℕ). meantFrom k s.args.rows.now at.declaration s.args.number) none)
+    sym (at.invariant.2 ∙ ap (λ (k : ℕ). meant_from k s.args.rows.now at.declaration s.args.number) none)
 
 pub declared-spec : {M : Type 1} → statement M
 declared-spec =

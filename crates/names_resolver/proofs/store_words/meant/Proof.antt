@@ -2,7 +2,7 @@
 use mathlib.Core.Path.{sym, ap, ◌∙◌}
 use Prim.Native.Nat.{ℕ}
 use native.Mathlib.Omega.{arith}
-use Rattle.names.specs.Names.{parameterAt}
+use Rattle.names.specs.Names.{parameter_at}
 use Rattle.names_resolver.specs.ScanLaws.{around-room, around-is, around-inside}
 use Rattle.names_resolver.specs.MeantLaws.{meant-around, meant-parameter}
 use borrow.Author.Rules.{rules}
@@ -35,7 +35,7 @@ returns-2 : tie.Need-returns-2
 returns-2 c =
     let s = c.before.before.before.before.before.before.before.before in
     c.parameter-named.ensures
-    ∙ ap (λ (definition : ℕ). parameterAt s.args.rows.now definition s.args.number) (c.before.wide.ensures ∙ around-is s.requires.0 s.args.row s.requires.1)
+    ∙ ap (λ (definition : ℕ). parameter_at s.args.rows.now definition s.args.number) (c.before.wide.ensures ∙ around-is s.requires.0 s.args.row s.requires.1)
     ∙ sym (meant-parameter s.args.rows.now s.args.row s.args.number _ c.before.before.before.before.declared.ensures c.before.before.before.if1.false)
 
 pub meant-spec : {M : Type 1} → statement M

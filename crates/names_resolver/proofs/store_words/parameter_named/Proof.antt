@@ -4,18 +4,18 @@ use mathlib.Core.Bool.{false}
 use Prim.Native.Nat.{ℕ, ◌+◌, ◌-◌, ◌≤◌, ◌<◌}
 use native.Mathlib.Omega.{arith}
 use borrow.Author.Tests.{eq-eqb, not-true, not-false}
-use Rattle.words.specs.Table.{rowCount}
+use Rattle.words.specs.Table.{row_count}
 use Rattle.words.specs.Links.{link}
 use Rattle.check_structure.specs.LinkLaws.{part-inside}
-use Rattle.names.specs.Names.{parameterFrom, parameterAt}
-use Rattle.names.specs.ScopeLaws.{parameter-outside}
+use Rattle.names.specs.Names.{parameter_from, parameter_at}
+use Rattle.names.proofs.ScopeLaws.{parameter-outside}
 use Rattle.names_resolver.specs.MeantLaws.{named-nothing, named_here, named-along, named-inside}
 use Rattle.names_resolver.proofs.store_words.parameter_named.Statement.{statement}
 use Rattle.names_resolver.proofs.store_words.parameter_named.Tie as tie
 
 abbrev invariant-loop : tie.invariant-loop
 invariant-loop kinds rows definition number parameter₀ -passed₀ parameter -passed =
-    (-passed ≤ 64) × (parameter < rowCount rows) × (parameterAt rows definition number ≡ parameterFrom (64 - -passed) rows parameter number)
+    (-passed ≤ 64) × (parameter < row_count rows) × (parameter_at rows definition number ≡ parameter_from (64 - -passed) rows parameter number)
 
 abbrev decreases-loop : tie.decreases-loop
 decreases-loop kinds rows definition number parameter₀ -passed₀ parameter -passed = 64 - -passed
@@ -32,7 +32,7 @@ loop-holds c =
     let rows = s.args.rows.now in (
       omega arith,
       part-inside rows s.requires.0 s.args.definition 2 _ s.requires.1 (omega arith) c.link.ensures,
-      named-inside rows s.args.definition s.args.number c.before.if1.false ∙ ap (λ (p : ℕ). parameterFrom 64 rows p s.args.number) (sym c.link.ensures),
+      named-inside rows s.args.definition s.args.number c.before.if1.false ∙ ap (λ (p : ℕ). parameter_from 64 rows p s.args.number) (sym c.link.ensures),
     )
 
 is-declaration-requires : tie.Need-is-declaration-requires invariant-loop decreases-loop
@@ -67,17 +67,17 @@ loop-again c =
       part-inside rows s.requires.0 at.parameter 5 _ at.invariant.1 (omega arith) c.link2.ensures,
       at.invariant.2
           ∙ named-along rows (64 - at.-passed) at.parameter s.args.number (omega arith) (sym c.before.before.before.before.is-declaration.ensures ∙ not-false _ c.before.before.before.if2.false) (λ q. c.before.if3.false (c.before.before.number_at.ensures ∙ q))
-          ∙ ap (λ (k : ℕ). parameterFrom k rows (link rows at.parameter 5) s.args.number) one_less
-          ∙ ap (λ (p : ℕ). parameterFrom (64 - (at.-passed + 1)) rows p s.args.number) (sym c.link2.ensures),
+          ∙ ap (λ (k : ℕ). parameter_from k rows (link rows at.parameter 5) s.args.number) one_less
+          ∙ ap (λ (p : ℕ). parameter_from (64 - (at.-passed + 1)) rows p s.args.number) (sym c.link2.ensures),
     )
 
 returns-4 : tie.Need-returns-4 invariant-loop decreases-loop
-unfolding parameterFrom
+unfolding parameter_from
 returns-4 c =
     let at = c.before.loop in
     let s = c.before.before.before.before in
     let none : 64 - at.-passed ≡ 0 = omega arith in
-    sym (at.invariant.2 ∙ ap (λ (k : ℕ). parameterFrom k s.args.rows.now at.parameter s.args.number) none)
+    sym (at.invariant.2 ∙ ap (λ (k : ℕ). parameter_from k s.args.rows.now at.parameter s.args.number) none)
 
 pub parameter-named-spec : {M : Type 1} → statement M
 parameter-named-spec =

@@ -2,7 +2,7 @@
 use mathlib.Core.Path.{sym, ◌∙◌}
 use Rattle.words.specs.Laws.{back}
 use Rattle.names_resolver.specs.ScanLaws.{count_room, count-few}
-use Rattle.names_resolver.specs.WordLaws.{name-declared, name-variable, name-other, declared-word}
+use Rattle.names_resolver.specs.WordLaws.{name-declared, name_variable, name-other, declared-word}
 use borrow.Author.Rules.{rules}
 use Rattle.names_resolver.proofs.store_words.resolved_name.Statement.{statement}
 use Rattle.names_resolver.proofs.store_words.resolved_name.Tie as tie
@@ -26,14 +26,14 @@ variable-word-requires c κs = search rules
 
 returns-2 : tie.Need-returns-2
 returns-2 c =
-    back _ c.variable-word.type-inv ∙ c.variable-word.ensures ∙ sym (name-variable _ _ _ (sym c.before.before.before.before.is-declaration.ensures ∙ c.before.before.before.if1.false) (sym c.before.before.number_at.ensures ∙ c.before.if2.true))
+    back _ c.variable-word.type-inv ∙ c.variable-word.ensures ∙ sym (name_variable _ _ _ (sym c.before.before.before.before.is-declaration.ensures ∙ c.before.before.before.if1.false) (sym c.before.before.number_at.ensures ∙ c.before.if2.true))
 
 word-at-requires : tie.Need-word-at-requires
 word-at-requires c κs = search rules
 
 returns-3 : tie.Need-returns-3
 returns-3 c =
-    back _ c.word_at.type-inv ∙ c.word_at.ensures ∙ sym (name-other _ _ _ (sym c.before.before.before.before.is-declaration.ensures ∙ c.before.before.before.if1.false) (λ q. c.before.if2.false (c.before.before.number_at.ensures ∙ q)))
+    back _ c.word-at.type-inv ∙ c.word-at.ensures ∙ sym (name-other _ _ _ (sym c.before.before.before.before.is-declaration.ensures ∙ c.before.before.before.if1.false) (λ q. c.before.if2.false (c.before.before.number_at.ensures ∙ q)))
 
 pub resolved-name-spec : {M : Type 1} → statement M
 resolved-name-spec =

@@ -18,7 +18,7 @@ word-at-requires c κs = search rules
 
 returns-2 : tie.Need-returns-2
 returns-2 c =
-    back _ c.word_at.type-inv ∙ c.word_at.ensures ∙ sym (word_kept _ _ _ _ c.before.if1.false)
+    back _ c.word-at.type-inv ∙ c.word-at.ensures ∙ sym (word_kept _ _ _ _ c.before.if1.false)
 
 pub resolved-word-spec : {M : Type 1} → statement M
 resolved-word-spec = tie.close (tie.spec resolved-name-requires returns word-at-requires returns-2)

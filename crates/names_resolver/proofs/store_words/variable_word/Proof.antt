@@ -2,10 +2,10 @@
 use mathlib.Core.Path.{◌≡◌, sym, ap, ◌∙◌}
 use native.Mathlib.Omega.{arith}
 use Prim.Native.Nat.{◌<◌}
-use Rattle.words.specs.Table.{numberAt, rowCount}
+use Rattle.words.specs.Table.{numberAt, row_count}
 use Rattle.words.specs.Laws.{back}
-use Rattle.names.specs.Names.{meantAt}
-use Rattle.names.specs.ScopeLaws.{meant-inside}
+use Rattle.names.specs.Names.{meant_at}
+use Rattle.names.proofs.ScopeLaws.{meant-inside}
 use Rattle.names_resolver.specs.ScanLaws.{count_room, count-few}
 use Rattle.names_resolver.specs.WordLaws.{variable-outer, variable-declared, declared-word}
 use borrow.Author.Rules.{rules}
@@ -21,18 +21,18 @@ meant-requires c κs = search rules
 word-at-requires : tie.Need-word-at-requires
 word-at-requires c κs = search rules
 
-is : (c : tie.After-meant) → c.meant.result ≡ meantAt c.before.before.before.before.before.args.rows.now c.before.before.before.before.before.args.row (numberAt c.before.before.before.before.before.args.rows.now c.before.before.before.before.before.args.row 1)
+is : (c : tie.After-meant) → c.meant.result ≡ meant_at c.before.before.before.before.before.args.rows.now c.before.before.before.before.before.args.row (numberAt c.before.before.before.before.before.args.rows.now c.before.before.before.before.before.args.row 1)
 is c =
-    c.meant.ensures ∙ ap (meantAt _ _) c.before.number-at.ensures
+    c.meant.ensures ∙ ap (meant_at _ _) c.before.number-at.ensures
 
-inside : (c : tie.After-meant) → c.meant.result < rowCount c.before.before.before.before.before.args.rows.now
+inside : (c : tie.After-meant) → c.meant.result < row_count c.before.before.before.before.before.args.rows.now
 inside c =
     let s = c.before.before.before.before.before in
     omega (arith, is c, meant-inside s.args.rows.now s.requires.0.tree s.args.row (numberAt s.args.rows.now s.args.row 1) s.requires.2)
 
 returns : tie.Need-returns
 returns c =
-    back _ c.word_at.type-inv ∙ c.word_at.ensures ∙ sym (variable-outer _ _ _ _ (is c.before.before) c.before.if1.true)
+    back _ c.word-at.type-inv ∙ c.word-at.ensures ∙ sym (variable-outer _ _ _ _ (is c.before.before) c.before.if1.true)
 
 store-word-requires : tie.Need-store-word-requires
 store-word-requires c κs =

@@ -1,8 +1,8 @@
 -- `atom`: by its first byte: a variable, a declared word, a temporary, or else a constant.
 use mathlib.Core.Path.{sym, ap, ◌∙◌}
 use Rattle.words.specs.OverLaws.{rest_of}
-use Rattle.page_words.specs.Reads.{numberRead, variableOf, declaredWordOf, temporaryOf, constantOf}
-use Rattle.page_words.specs.FirstBytes.{atom-none, atom-variable, atom-declared, atom-temporary, atom-constant}
+use Rattle.page_words.specs.Reads.{number_read, variable_of, declared_word_of, temporary_of, constant_of}
+use Rattle.page_words.proofs.FirstBytes.{atom-none, atom-variable, atom-declared, atom-temporary, atom-constant}
 use borrow.Author.Rules.{rules}
 use Rattle.page_atoms.proofs.atoms.atom.Statement.{statement}
 use Rattle.page_atoms.proofs.atoms.atom.Tie as tie
@@ -31,7 +31,7 @@ variable-of-requires c κs = search rules
 
 returns-2 : tie.Need-returns-2
 returns-2 c =
-    c.variable-of.ensures ∙ ap variableOf (c.before.number-below.ensures ∙ ap (numberRead _) (rest_of c.before.before.before.before.before.before.before.args.word.now 1)) ∙ atom-variable _ _ c.before.before.before.before.before.if1.false c.before.before.before.if2.true
+    c.variable-of.ensures ∙ ap variable_of (c.before.number-below.ensures ∙ ap (number_read _) (rest_of c.before.before.before.before.before.before.before.args.word.now 1)) ∙ atom-variable _ _ c.before.before.before.before.before.if1.false c.before.before.before.if2.true
 
 sub-number-below-2 : tie.Need-overflow-sub-number-below-2
 sub-number-below-2 c = search rules
@@ -50,7 +50,7 @@ declared-of-requires c κs = search rules
 
 returns-3 : tie.Need-returns-3
 returns-3 c =
-    c.declared-of.ensures ∙ ap declaredWordOf (c.before.number-below2.ensures ∙ ap (numberRead _) (rest_of c.before.before.before.before.before.before.before.before.args.word.now 1)) ∙ atom-declared _ _ c.before.before.before.before.before.before.if1.false c.before.before.before.if3.true
+    c.declared-of.ensures ∙ ap declared_word_of (c.before.number-below2.ensures ∙ ap (number_read _) (rest_of c.before.before.before.before.before.before.before.before.args.word.now 1)) ∙ atom-declared _ _ c.before.before.before.before.before.before.if1.false c.before.before.before.if3.true
 
 sub-number-below-3 : tie.Need-overflow-sub-number-below-3
 sub-number-below-3 c = search rules
@@ -69,7 +69,7 @@ temporary-of-requires c κs = search rules
 
 returns-4 : tie.Need-returns-4
 returns-4 c =
-    c.temporary-of.ensures ∙ ap temporaryOf (c.before.number-below3.ensures ∙ ap (numberRead _) (rest_of c.before.before.before.before.before.before.before.before.before.args.word.now 1)) ∙ atom-temporary _ _ c.before.before.before.before.before.before.before.if1.false c.before.before.before.if4.true
+    c.temporary-of.ensures ∙ ap temporary_of (c.before.number-below3.ensures ∙ ap (number_read _) (rest_of c.before.before.before.before.before.before.before.before.before.args.word.now 1)) ∙ atom-temporary _ _ c.before.before.before.before.before.before.before.if1.false c.before.before.before.if4.true
 
 number-requires : tie.Need-number-requires
 number-requires c κs = search rules
@@ -79,7 +79,7 @@ constant-of-requires c κs = search rules
 
 returns-5 : tie.Need-returns-5
 returns-5 c =
-    c.constant_of.ensures ∙ ap constantOf c.before.number.ensures ∙ atom-constant _ _ c.before.before.before.before.before.before.if1.false c.before.before.before.before.if2.false c.before.before.before.if3.false c.before.before.if4.false
+    c.constant_of.ensures ∙ ap constant_of c.before.number.ensures ∙ atom-constant _ _ c.before.before.before.before.before.before.if1.false c.before.before.before.before.if2.false c.before.before.before.if3.false c.before.before.if4.false
 
 pub atom-spec : {M : Type 1} → statement M
 atom-spec =

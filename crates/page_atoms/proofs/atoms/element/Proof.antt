@@ -4,7 +4,7 @@ use mathlib.Core.List.{List, [], ◌∷◌}
 use Prim.Native.Nat.{ℕ}
 use native.Mathlib.Omega.{arith}
 use borrow.Author.Tests.{not-true, not-false}
-use Rattle.page_words.specs.Reads.{elementRead}
+use Rattle.page_words.specs.Reads.{element_read}
 use Rattle.page_words.specs.CompareLaws.{framed-long}
 use borrow.Author.Rules.{rules}
 use Rattle.page_atoms.proofs.atoms.element.Statement.{statement}
@@ -20,7 +20,7 @@ is-framed-requires : tie.Need-is-framed-requires
 is-framed-requires c κs = search rules
 
 returns : tie.Need-returns
-unfolding elementRead
+unfolding element_read
 returns c =
     rw (sym c.before.is_framed.ensures ∙ not-true _ c.if1.true)
 
@@ -43,7 +43,7 @@ element-in-requires : tie.Need-element-in-requires
 element-in-requires c κs = search rules
 
 returns-2 : tie.Need-returns-2
-unfolding elementRead
+unfolding element_read
 returns-2 c =
     rw (sym c.before.before.before.is_framed.ensures ∙ not-false _ c.before.before.if1.false) c.element-in.ensures
 

@@ -1,11 +1,11 @@
 -- `element_in`: the first bracket parts the array from its index.
 use mathlib.Core.Path.{ap₂, ◌∙◌}
-use Rattle.page_words.specs.Reads.{elementOf}
+use Rattle.page_words.specs.Reads.{element_of}
 use mathlib.Core.Path.{sym, ap, ap₂, ◌∙◌}
 use native.Mathlib.Omega.{arith}
 use Rattle.words.specs.OverLaws.{rest_of}
-use Rattle.page_words.specs.Reads.{numberRead, atomRead, elementOf}
-use Rattle.page_words.specs.Parts.{piece-within, element-unparted, element-parted}
+use Rattle.page_words.specs.Reads.{number_read, atom_read, element_of}
+use Rattle.page_words.proofs.Parts.{piece-within, element-unparted, element-parted}
 use borrow.Author.Rules.{rules}
 use Rattle.page_atoms.proofs.atoms.element_in.Statement.{statement}
 use Rattle.page_atoms.proofs.atoms.element_in.Tie as tie
@@ -53,7 +53,7 @@ element-of-requires c κs = search rules
 
 returns-2 : tie.Need-returns-2
 returns-2 c =
-    c.element-of.ensures ∙ ap₂ elementOf c.before.before.before.number-below.ensures c.before.atom.ensures ∙ element-parted c.before.before.before.before.before.before.before.before.args.names c.before.before.before.before.before.before.before.before.args.inner.now c.before.before.before.before.before.before.piece-end.result c.before.before.before.before.before.before.piece-end.ensures c.before.before.before.before.before.if1.false
+    c.element-of.ensures ∙ ap₂ element_of c.before.before.before.number-below.ensures c.before.atom.ensures ∙ element-parted c.before.before.before.before.before.before.before.before.args.names c.before.before.before.before.before.before.before.before.args.inner.now c.before.before.before.before.before.before.piece-end.result c.before.before.before.before.before.before.piece-end.ensures c.before.before.before.before.before.if1.false
 
 pub element-in-spec : {M : Type 1} → statement M
 element-in-spec =

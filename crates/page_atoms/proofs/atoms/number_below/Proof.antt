@@ -1,8 +1,8 @@
 -- `number_below`: a number up to the bound, and then below it.
 use mathlib.Core.Path.{sym, ap, ◌∙◌}
-use Rattle.text_numbers.specs.Reader.{digitsValue}
-use Rattle.page_words.specs.Reads.{numberRead}
-use Rattle.page_words.specs.FirstBytes.{below_none, below-inside, below-outside}
+use Rattle.text_numbers.specs.Reader.{digits_value}
+use Rattle.page_words.specs.Reads.{number_read}
+use Rattle.page_words.proofs.FirstBytes.{below_none, below-inside, below-outside}
 use borrow.Author.Rules.{rules}
 use Rattle.page_atoms.proofs.atoms.number_below.Statement.{statement}
 use Rattle.page_atoms.proofs.atoms.number_below.Tie as tie
@@ -17,19 +17,19 @@ enum_told : tie.Need-enum-told
 enum_told c = search rules
 
 returns : tie.Need-returns
-unfolding numberRead
+unfolding number_read
 returns c =
-    below_none _ _ (sym (ap digitsValue c.enum_told.given.1) ∙ c.before.before.natural-of.ensures)
+    below_none _ _ (sym (ap digits_value c.enum_told.given.1) ∙ c.before.before.natural-of.ensures)
 
 returns-2 : tie.Need-returns-2
-unfolding numberRead
+unfolding number_read
 returns-2 c =
-    below-inside _ _ _ (sym (ap digitsValue c.before.before.digits.given.1) ∙ c.before.before.before.before.natural-of.ensures) c.if1.true
+    below-inside _ _ _ (sym (ap digits_value c.before.before.digits.given.1) ∙ c.before.before.before.before.natural-of.ensures) c.if1.true
 
 returns-3 : tie.Need-returns-3
-unfolding numberRead
+unfolding number_read
 returns-3 c =
-    below-outside _ _ _ (sym (ap digitsValue c.before.before.digits.given.1) ∙ c.before.before.before.before.natural-of.ensures) c.if1.false
+    below-outside _ _ _ (sym (ap digits_value c.before.before.digits.given.1) ∙ c.before.before.before.before.natural-of.ensures) c.if1.false
 
 pub number-below-spec : {M : Type 1} → statement M
 number-below-spec =

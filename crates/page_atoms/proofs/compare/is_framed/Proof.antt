@@ -1,7 +1,7 @@
 -- `is_framed`: the lengths first, so that the two do not meet; then the start, then the end.
 use mathlib.Core.Path.{sym, ◌∙◌}
 use borrow.Author.Tests.{not-true, not-false}
-use Rattle.page_words.specs.Parts.{framed-short, framed-begins, framed-ends}
+use Rattle.page_words.proofs.Parts.{framed-short, framed-begins, framed-ends}
 use borrow.Author.Rules.{rules}
 use Rattle.page_atoms.proofs.compare.is_framed.Statement.{statement}
 use Rattle.page_atoms.proofs.compare.is_framed.Tie as tie

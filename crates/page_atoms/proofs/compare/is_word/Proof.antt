@@ -1,6 +1,6 @@
 -- `is_word`: as long as the word, and beginning with it.
 use mathlib.Core.Path.{◌∙◌}
-use Rattle.page_words.specs.Parts.{other_word, as-long-word}
+use Rattle.page_words.proofs.Parts.{other_word, as-long-word}
 use borrow.Author.Rules.{rules}
 use Rattle.page_atoms.proofs.compare.is_word.Statement.{statement}
 use Rattle.page_atoms.proofs.compare.is_word.Tie as tie

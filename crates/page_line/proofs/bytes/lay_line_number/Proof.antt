@@ -4,8 +4,8 @@ use Prim.Native.Nat.{ℕ, ◌-◌}
 use native.Mathlib.Omega.{arith}
 use borrow.Author.Rules.{rules}
 use Rattle.text_numbers.specs.PutLaws.{digits-within}
-use Rattle.page.specs.Page.{blanks, rightSet}
-use Rattle.page.specs.Widths.{length-blanks}
+use Rattle.page.specs.Page.{blanks, right_set}
+use Rattle.page.proofs.Widths.{length-blanks}
 use Rattle.page_line.specs.LaidLaws.{laid_of, laid_next}
 use Rattle.page_line.proofs.bytes.lay_line_number.Statement.{statement}
 use Rattle.page_line.proofs.bytes.lay_line_number.Tie as tie
@@ -30,7 +30,7 @@ same_length : tie.Need-same-length
 same_length c = search rules
 
 returns : tie.Need-returns
-unfolding rightSet
+unfolding right_set
 returns c = laid_next (laid_of (λ (n : ℕ). blanks (5 - n)) (sym c.before.before.before.before.before.before.before.before.columns.ensures) c.before.before.before.before.before.before.lay-blanks.ensures) c.before.before.lay-digits.ensures
 
 pub lay-line-number-spec : {M : Type 1} → statement M

@@ -3,11 +3,11 @@ use native.Mathlib.Omega.{arith}
 use mathlib.Core.Path.{◌≡◌, subst}
 use mathlib.Core.List.{List}
 use Prim.Native.Nat.{ℕ}
-use Rattle.words.specs.Table.{rowCount}
-use Rattle.language.specs.Decode.{expressionAt, place_of}
-use Rattle.page.specs.Page.{lineWords, parted}
+use Rattle.words.specs.Table.{row_count}
+use Rattle.language.specs.Decode.{expression_at, place_of}
+use Rattle.page.specs.Page.{line_words, parted}
 use Rattle.page_line.specs.declared.LineAt.{LineAt}
-use Rattle.page_line.specs.Contents.{lineTree, LineInside}
+use Rattle.page_line.specs.Contents.{line_tree, LineInside}
 use Rattle.page_line.specs.LaidLaws.{laid_as, laid_of}
 use Rattle.page_line.specs.ContentLaws.{goto-bytes, while-bytes, if-bytes, call-bytes, argument-bytes, last-argument-bytes, function-bytes, parameters-bytes, parameter-bytes, last-parameter-bytes}
 use borrow.Author.Rules.{rules}
@@ -15,10 +15,10 @@ use Rattle.page_line.proofs.contents.lay_content.Statement.{statement}
 use Rattle.page_line.proofs.contents.lay_content.Tie as tie
 
 abbrev bytes : tie.Start → LineAt → List ℕ
-bytes c l = parted (lineWords c.args.sizes (lineTree c.args.rows.now l))
+bytes c l = parted (line_words c.args.sizes (line_tree c.args.rows.now l))
 
-inside : (c : tie.Start) {l : LineAt} → c.args.line ≡ l → LineInside (rowCount c.args.rows.now) l
-inside c e = subst (λ (l : LineAt). LineInside (rowCount c.args.rows.now) l) e c.requires.0.1
+inside : (c : tie.Start) {l : LineAt} → c.args.line ≡ l → LineInside (row_count c.args.rows.now) l
+inside c e = subst (λ (l : LineAt). LineInside (row_count c.args.rows.now) l) e c.requires.0.1
 
 enum_told : tie.Need-enum-told
 enum_told c = search rules
@@ -76,7 +76,7 @@ slice-aggregate-lay-test c = search rules
 
 lay-test-requires : tie.Need-lay-test-requires
 lay-test-requires c κs =
-    ((c.before.before.before.before.before.before.requires.0.0, inside c.before.before.before.before.before.before c.before.before.before.line4.given.1), rw (c.before.before.before.line4.given.1, ← while-bytes c.before.before.before.before.before.before.args.sizes (expressionAt c.before.before.before.before.before.before.args.rows.now c.before.before.before.line4.given.0.0)) at c.before.before.before.before.before.before.requires.1)
+    ((c.before.before.before.before.before.before.requires.0.0, inside c.before.before.before.before.before.before c.before.before.before.line4.given.1), rw (c.before.before.before.line4.given.1, ← while-bytes c.before.before.before.before.before.before.args.sizes (expression_at c.before.before.before.before.before.before.args.rows.now c.before.before.before.line4.given.0.0)) at c.before.before.before.before.before.before.requires.1)
 
 enum-known-line-5 : tie.Need-enum-known-line-5
 enum-known-line-5 c = search rules
@@ -86,7 +86,7 @@ slice-aggregate-lay-test-2 c = search rules
 
 lay-test-requires-2 : tie.Need-lay-test-requires-2
 lay-test-requires-2 c κs =
-    ((c.before.before.before.before.before.before.requires.0.0, inside c.before.before.before.before.before.before c.before.before.before.line5.given.1), rw (c.before.before.before.line5.given.1, ← if-bytes c.before.before.before.before.before.before.args.sizes (expressionAt c.before.before.before.before.before.before.args.rows.now c.before.before.before.line5.given.0.0)) at c.before.before.before.before.before.before.requires.1)
+    ((c.before.before.before.before.before.before.requires.0.0, inside c.before.before.before.before.before.before c.before.before.before.line5.given.1), rw (c.before.before.before.line5.given.1, ← if-bytes c.before.before.before.before.before.before.args.sizes (expression_at c.before.before.before.before.before.before.args.rows.now c.before.before.before.line5.given.0.0)) at c.before.before.before.before.before.before.requires.1)
 
 enum-told-4 : tie.Need-enum-told-4
 enum-told-4 c = search rules
@@ -119,7 +119,7 @@ enum-known-line-7 c = search rules
 
 lay-call-requires : tie.Need-lay-call-requires
 lay-call-requires c κs =
-    ((c.before.before.before.before.before.requires.0.0, inside c.before.before.before.before.before c.before.before.line7.given.1), rw (c.before.before.line7.given.1, ← call-bytes c.before.before.before.before.before.args.sizes (place_of (expressionAt c.before.before.before.before.before.args.rows.now c.before.before.line7.given.0.0)) c.before.before.line7.given.0.1.0) at c.before.before.before.before.before.requires.1)
+    ((c.before.before.before.before.before.requires.0.0, inside c.before.before.before.before.before c.before.before.line7.given.1), rw (c.before.before.line7.given.1, ← call-bytes c.before.before.before.before.before.args.sizes (place_of (expression_at c.before.before.before.before.before.args.rows.now c.before.before.line7.given.0.0)) c.before.before.line7.given.0.1.0) at c.before.before.before.before.before.requires.1)
 
 enum-known-line-8 : tie.Need-enum-known-line-8
 enum-known-line-8 c = search rules
@@ -129,7 +129,7 @@ slice-aggregate-lay-argument c = search rules
 
 lay-argument-requires : tie.Need-lay-argument-requires
 lay-argument-requires c κs =
-    ((c.before.before.before.before.before.before.requires.0.0, inside c.before.before.before.before.before.before c.before.before.before.line8.given.1), rw (c.before.before.before.line8.given.1, ← argument-bytes c.before.before.before.before.before.before.args.sizes (expressionAt c.before.before.before.before.before.before.args.rows.now c.before.before.before.line8.given.0.0)) at c.before.before.before.before.before.before.requires.1)
+    ((c.before.before.before.before.before.before.requires.0.0, inside c.before.before.before.before.before.before c.before.before.before.line8.given.1), rw (c.before.before.before.line8.given.1, ← argument-bytes c.before.before.before.before.before.before.args.sizes (expression_at c.before.before.before.before.before.before.args.rows.now c.before.before.before.line8.given.0.0)) at c.before.before.before.before.before.before.requires.1)
 
 enum-known-line-9 : tie.Need-enum-known-line-9
 enum-known-line-9 c = search rules
@@ -139,7 +139,7 @@ slice-aggregate-lay-argument-2 c = search rules
 
 lay-argument-requires-2 : tie.Need-lay-argument-requires-2
 lay-argument-requires-2 c κs =
-    ((c.before.before.before.before.before.before.requires.0.0, inside c.before.before.before.before.before.before c.before.before.before.line9.given.1), rw (c.before.before.before.line9.given.1, ← last-argument-bytes c.before.before.before.before.before.before.args.sizes (expressionAt c.before.before.before.before.before.before.args.rows.now c.before.before.before.line9.given.0.0)) at c.before.before.before.before.before.before.requires.1)
+    ((c.before.before.before.before.before.before.requires.0.0, inside c.before.before.before.before.before.before c.before.before.before.line9.given.1), rw (c.before.before.before.line9.given.1, ← last-argument-bytes c.before.before.before.before.before.before.args.sizes (expression_at c.before.before.before.before.before.before.args.rows.now c.before.before.before.line9.given.0.0)) at c.before.before.before.before.before.before.requires.1)
 
 enum-known-line-10 : tie.Need-enum-known-line-10
 enum-known-line-10 c = search rules
@@ -231,14 +231,14 @@ same-length-7 c = search rules
 
 returns-7 : tie.Need-returns-7
 returns-7 c =
-    laid_of (bytes c.before.before.before.before.before.before.before.before.before) c.before.before.before.before.before.before.line4.given.1 (laid_as (while-bytes c.before.before.before.before.before.before.before.before.before.args.sizes (expressionAt c.before.before.before.before.before.before.before.before.before.args.rows.now c.before.before.before.before.before.before.line4.given.0.0)) c.before.before.lay-test.ensures)
+    laid_of (bytes c.before.before.before.before.before.before.before.before.before) c.before.before.before.before.before.before.line4.given.1 (laid_as (while-bytes c.before.before.before.before.before.before.before.before.before.args.sizes (expression_at c.before.before.before.before.before.before.before.before.before.args.rows.now c.before.before.before.before.before.before.line4.given.0.0)) c.before.before.lay-test.ensures)
 
 same-length-8 : tie.Need-same-length-8
 same-length-8 c = search rules
 
 returns-8 : tie.Need-returns-8
 returns-8 c =
-    laid_of (bytes c.before.before.before.before.before.before.before.before.before) c.before.before.before.before.before.before.line5.given.1 (laid_as (if-bytes c.before.before.before.before.before.before.before.before.before.args.sizes (expressionAt c.before.before.before.before.before.before.before.before.before.args.rows.now c.before.before.before.before.before.before.line5.given.0.0)) c.before.before.lay-test2.ensures)
+    laid_of (bytes c.before.before.before.before.before.before.before.before.before) c.before.before.before.before.before.before.line5.given.1 (laid_as (if-bytes c.before.before.before.before.before.before.before.before.before.args.sizes (expression_at c.before.before.before.before.before.before.before.before.before.args.rows.now c.before.before.before.before.before.before.line5.given.0.0)) c.before.before.lay-test2.ensures)
 
 same-length-9 : tie.Need-same-length-9
 same-length-9 c = search rules
@@ -268,21 +268,21 @@ same-length-12 c = search rules
 
 returns-12 : tie.Need-returns-12
 returns-12 c =
-    laid_of (bytes c.before.before.before.before.before.before.before.before) c.before.before.before.before.before.line7.given.1 (laid_as (call-bytes c.before.before.before.before.before.before.before.before.args.sizes (place_of (expressionAt c.before.before.before.before.before.before.before.before.args.rows.now c.before.before.before.before.before.line7.given.0.0)) c.before.before.before.before.before.line7.given.0.1.0) c.before.before.lay-call.ensures)
+    laid_of (bytes c.before.before.before.before.before.before.before.before) c.before.before.before.before.before.line7.given.1 (laid_as (call-bytes c.before.before.before.before.before.before.before.before.args.sizes (place_of (expression_at c.before.before.before.before.before.before.before.before.args.rows.now c.before.before.before.before.before.line7.given.0.0)) c.before.before.before.before.before.line7.given.0.1.0) c.before.before.lay-call.ensures)
 
 same-length-13 : tie.Need-same-length-13
 same-length-13 c = search rules
 
 returns-13 : tie.Need-returns-13
 returns-13 c =
-    laid_of (bytes c.before.before.before.before.before.before.before.before.before) c.before.before.before.before.before.before.line8.given.1 (laid_as (argument-bytes c.before.before.before.before.before.before.before.before.before.args.sizes (expressionAt c.before.before.before.before.before.before.before.before.before.args.rows.now c.before.before.before.before.before.before.line8.given.0.0)) c.before.before.lay-argument.ensures)
+    laid_of (bytes c.before.before.before.before.before.before.before.before.before) c.before.before.before.before.before.before.line8.given.1 (laid_as (argument-bytes c.before.before.before.before.before.before.before.before.before.args.sizes (expression_at c.before.before.before.before.before.before.before.before.before.args.rows.now c.before.before.before.before.before.before.line8.given.0.0)) c.before.before.lay-argument.ensures)
 
 same-length-14 : tie.Need-same-length-14
 same-length-14 c = search rules
 
 returns-14 : tie.Need-returns-14
 returns-14 c =
-    laid_of (bytes c.before.before.before.before.before.before.before.before.before) c.before.before.before.before.before.before.line9.given.1 (laid_as (last-argument-bytes c.before.before.before.before.before.before.before.before.before.args.sizes (expressionAt c.before.before.before.before.before.before.before.before.before.args.rows.now c.before.before.before.before.before.before.line9.given.0.0)) c.before.before.lay-argument2.ensures)
+    laid_of (bytes c.before.before.before.before.before.before.before.before.before) c.before.before.before.before.before.before.line9.given.1 (laid_as (last-argument-bytes c.before.before.before.before.before.before.before.before.before.args.sizes (expression_at c.before.before.before.before.before.before.before.before.before.args.rows.now c.before.before.before.before.before.before.line9.given.0.0)) c.before.before.lay-argument2.ensures)
 
 same-length-15 : tie.Need-same-length-15
 same-length-15 c = search rules

@@ -2,9 +2,9 @@
 use mathlib.Core.Path.{ap}
 use mathlib.Core.List.{List}
 use Prim.Native.Nat.{ℕ}
-use Rattle.language.specs.Trees.{giveBack}
+use Rattle.language.specs.Trees.{give_back}
 use Rattle.language.specs.Decode.{part_at}
-use Rattle.page.specs.Page.{singleWords, parted}
+use Rattle.page.specs.Page.{single_words, parted}
 use Rattle.page_line.specs.LaidLaws.{laid_as, laid-nothing}
 use Rattle.page_line.specs.ContentLaws.{given-bytes}
 use borrow.Author.Rules.{rules}
@@ -12,7 +12,7 @@ use Rattle.page_line.proofs.contents.lay_given.Statement.{statement}
 use Rattle.page_line.proofs.contents.lay_given.Tie as tie
 
 abbrev bytes : tie.Start → ℕ → List ℕ
-bytes c value = parted (singleWords c.args.sizes (giveBack (part_at c.args.rows.now value)))
+bytes c value = parted (single_words c.args.sizes (give_back (part_at c.args.rows.now value)))
 
 returns : tie.Need-returns
 unfolding parted

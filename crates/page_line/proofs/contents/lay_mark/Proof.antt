@@ -2,8 +2,8 @@
 use mathlib.Core.Path.{ap}
 use mathlib.Core.List.{List, []}
 use Prim.Native.Nat.{ℕ}
-use Rattle.page.specs.Page.{markWords, parted}
-use Rattle.language_shapes.specs.Shapes.{markTree}
+use Rattle.page.specs.Page.{mark_words, parted}
+use Rattle.language_shapes.specs.Shapes.{mark_tree}
 use Rattle.language_shapes.specs.declared.MarkShape.{MarkShape}
 use Rattle.page_line.specs.LaidLaws.{laid_as, laid_of, laid-nothing}
 use Rattle.page_line.specs.ContentLaws.{label-bytes}
@@ -12,7 +12,7 @@ use Rattle.page_line.proofs.contents.lay_mark.Statement.{statement}
 use Rattle.page_line.proofs.contents.lay_mark.Tie as tie
 
 abbrev bytes : tie.Start → MarkShape → List ℕ
-bytes c m = parted (markWords c.args.sizes (markTree [] m))
+bytes c m = parted (mark_words c.args.sizes (mark_tree [] m))
 
 enum_told : tie.Need-enum-told
 enum_told c = search rules

@@ -2,9 +2,9 @@
 use native.Mathlib.Omega.{arith}
 use mathlib.Core.List.{◌∷◌, []}
 use lib.ListN.{length-append}
-use Rattle.language.specs.Decode.{expressionAt}
-use Rattle.page.specs.Page.{atomWord}
-use Rattle.page_line.specs.Contents.{testBytes}
+use Rattle.language.specs.Decode.{expression_at}
+use Rattle.page.specs.Page.{atom_word}
+use Rattle.page_line.specs.Contents.{test_bytes}
 use Rattle.page_line.specs.LaidLaws.{laid_next}
 use borrow.Author.Rules.{rules}
 use Rattle.page_line.proofs.contents.lay_test.Statement.{statement}
@@ -12,18 +12,18 @@ use Rattle.page_line.proofs.contents.lay_test.Tie as tie
 
 lay-bytes-requires : tie.Need-lay-bytes-requires
 lay-bytes-requires c κs =
-    omega (arith, length-append c.before.before.before.args.opening.now (testBytes c.before.before.before.args.sizes (expressionAt c.before.before.before.args.rows.now c.before.before.before.args.row)), c.before.before.before.requires.1)
+    omega (arith, length-append c.before.before.before.args.opening.now (test_bytes c.before.before.before.args.sizes (expression_at c.before.before.before.args.rows.now c.before.before.before.args.row)), c.before.before.before.requires.1)
 
 lay-atom-requires : tie.Need-lay-atom-requires
 lay-atom-requires c κs =
-    (c.before.before.before.before.before.before.before.requires.0, omega (arith, length-append c.before.before.before.before.before.before.before.args.opening.now (testBytes c.before.before.before.before.before.before.before.args.sizes (expressionAt c.before.before.before.before.before.before.before.args.rows.now c.before.before.before.before.before.before.before.args.row)), length-append (atomWord c.before.before.before.before.before.before.before.args.sizes (expressionAt c.before.before.before.before.before.before.before.args.rows.now c.before.before.before.before.before.before.before.args.row)) (41 ∷ 32 ∷ 123 ∷ []), c.before.before.before.before.before.before.before.requires.1))
+    (c.before.before.before.before.before.before.before.requires.0, omega (arith, length-append c.before.before.before.before.before.before.before.args.opening.now (test_bytes c.before.before.before.before.before.before.before.args.sizes (expression_at c.before.before.before.before.before.before.before.args.rows.now c.before.before.before.before.before.before.before.args.row)), length-append (atom_word c.before.before.before.before.before.before.before.args.sizes (expression_at c.before.before.before.before.before.before.before.args.rows.now c.before.before.before.before.before.before.before.args.row)) (41 ∷ 32 ∷ 123 ∷ []), c.before.before.before.before.before.before.before.requires.1))
 
 slice-aggregate-lay-bytes : tie.Need-slice-aggregate-lay-bytes
 slice-aggregate-lay-bytes c = search rules
 
 lay-bytes-requires-2 : tie.Need-lay-bytes-requires-2
 lay-bytes-requires-2 c κs =
-    omega (arith, length-append c.before.before.before.before.before.before.before.before.before.before.before.before.args.opening.now (testBytes c.before.before.before.before.before.before.before.before.before.before.before.before.args.sizes (expressionAt c.before.before.before.before.before.before.before.before.before.before.before.before.args.rows.now c.before.before.before.before.before.before.before.before.before.before.before.before.args.row)), length-append (atomWord c.before.before.before.before.before.before.before.before.before.before.before.before.args.sizes (expressionAt c.before.before.before.before.before.before.before.before.before.before.before.before.args.rows.now c.before.before.before.before.before.before.before.before.before.before.before.before.args.row)) (41 ∷ 32 ∷ 123 ∷ []), c.before.before.before.before.before.before.before.before.before.before.before.before.requires.1)
+    omega (arith, length-append c.before.before.before.before.before.before.before.before.before.before.before.before.args.opening.now (test_bytes c.before.before.before.before.before.before.before.before.before.before.before.before.args.sizes (expression_at c.before.before.before.before.before.before.before.before.before.before.before.before.args.rows.now c.before.before.before.before.before.before.before.before.before.before.before.before.args.row)), length-append (atom_word c.before.before.before.before.before.before.before.before.before.before.before.before.args.sizes (expression_at c.before.before.before.before.before.before.before.before.before.before.before.before.args.rows.now c.before.before.before.before.before.before.before.before.before.before.before.before.args.row)) (41 ∷ 32 ∷ 123 ∷ []), c.before.before.before.before.before.before.before.before.before.before.before.before.requires.1)
 
 same_length : tie.Need-same-length
 same_length c = search rules

@@ -2,7 +2,7 @@
 use native.Mathlib.Omega.{arith}
 use mathlib.Core.List.{◌∷◌, []}
 use lib.ListN.{length-append}
-use Rattle.page.specs.Page.{functionWord}
+use Rattle.page.specs.Page.{function_word}
 use Rattle.page_line.specs.LaidLaws.{laid_next}
 use borrow.Author.Rules.{rules}
 use Rattle.page_line.proofs.expressions.lay_alone.Statement.{statement}
@@ -14,14 +14,14 @@ lay-byte-requires c κs =
 
 lay-lettered-requires : tie.Need-lay-lettered-requires
 lay-lettered-requires c κs =
-    omega (arith, length-append (functionWord c.before.before.before.before.before.before.args.number) (40 ∷ 41 ∷ 59 ∷ []), c.before.before.before.before.before.before.requires)
+    omega (arith, length-append (function_word c.before.before.before.before.before.before.args.number) (40 ∷ 41 ∷ 59 ∷ []), c.before.before.before.before.before.before.requires)
 
 slice-aggregate-lay-bytes : tie.Need-slice-aggregate-lay-bytes
 slice-aggregate-lay-bytes c = search rules
 
 lay-bytes-requires : tie.Need-lay-bytes-requires
 lay-bytes-requires c κs =
-    omega (arith, length-append (functionWord c.before.before.before.before.before.before.before.before.before.before.before.args.number) (40 ∷ 41 ∷ 59 ∷ []), c.before.before.before.before.before.before.before.before.before.before.before.requires)
+    omega (arith, length-append (function_word c.before.before.before.before.before.before.before.before.before.before.before.args.number) (40 ∷ 41 ∷ 59 ∷ []), c.before.before.before.before.before.before.before.before.before.before.before.requires)
 
 same_length : tie.Need-same-length
 same_length c = search rules

@@ -3,7 +3,7 @@ use mathlib.Core.Path.{ap, ◌∙◌}
 use mathlib.Core.List.{List}
 use Prim.Native.Nat.{ℕ}
 use Rattle.language.specs.Trees.{Expression}
-use Rattle.page.specs.Page.{assignmentWords, parted}
+use Rattle.page.specs.Page.{assignment_words, parted}
 use Rattle.page_line.specs.LaidLaws.{laid_of, laid-nothing}
 use Rattle.page_line.specs.ReadsLaws.{read_as}
 use Rattle.page_line.specs.ContentLaws.{no-assignment-chosen}
@@ -12,7 +12,7 @@ use Rattle.page_line.proofs.expressions.lay_assignment.Statement.{statement}
 use Rattle.page_line.proofs.expressions.lay_assignment.Tie as tie
 
 abbrev bytes : tie.Start → Expression → List ℕ
-bytes c e = parted (assignmentWords c.args.sizes e)
+bytes c e = parted (assignment_words c.args.sizes e)
 
 expression-at-requires : tie.Need-expression-at-requires
 expression-at-requires c κs = search rules

@@ -5,8 +5,8 @@ use mir.Syntax.{w32}
 use mir.Val.{to_z, of_z}
 use Rattle.words.specs.Laws.{back}
 use mathlib.Core.Path.{◌∙◌}
-use Rattle.text_numbers.specs.Number.{numberBytes}
-use Rattle.page.specs.Page.{atomWord}
+use Rattle.text_numbers.specs.Number.{number_bytes}
+use Rattle.page.specs.Page.{atom_word}
 use Rattle.language_shapes.specs.declared.ExpressionShape.TheVariants.{Read}
 use Rattle.page_line.specs.LaidLaws.{laid_of, laid-nothing}
 use Rattle.page_line.specs.ReadsLaws.{read_as}
@@ -55,7 +55,7 @@ same_length c = search rules
 returns : tie.Need-returns
 returns c =
     let f = read_as c.before.before.before.before.before.before.before.expression-at.ensures.0 c.before.before.before.before.before.shape.given.1 in
-    laid_of (atomWord c.before.before.before.before.before.before.before.before.before.args.sizes) f.is (laid_of numberBytes (sym (back c.before.before.before.before.before.shape.given.0.0 c.before.before.before.before.known-told.given.0.1)) c.before.before.lay-constant.ensures)
+    laid_of (atom_word c.before.before.before.before.before.before.before.before.before.args.sizes) f.is (laid_of number_bytes (sym (back c.before.before.before.before.before.shape.given.0.0 c.before.before.before.before.known-told.given.0.1)) c.before.before.lay-constant.ensures)
 
 same-length-2 : tie.Need-same-length-2
 same-length-2 c = search rules
@@ -63,27 +63,27 @@ same-length-2 c = search rules
 returns-2 : tie.Need-returns-2
 returns-2 c =
     let f = read_as c.before.before.before.before.before.before.before.before.before.before.expression-at.ensures.0 (c.before.before.before.before.before.before.before.before.shape2.given.1 ∙ ap Read c.before.before.before.before.before.place.given.1) in
-    laid_of (atomWord c.before.before.before.before.before.before.before.before.before.before.before.before.args.sizes) f.is c.before.before.lay-name.ensures
+    laid_of (atom_word c.before.before.before.before.before.before.before.before.before.before.before.before.args.sizes) f.is c.before.before.lay-name.ensures
 
 returns-3 : tie.Need-returns-3
 returns-3 c =
     let f = read_as c.before.before.before.before.before.expression-at.ensures.0 (c.before.before.before.shape2.given.1 ∙ ap Read c.enum_told.given.1) in
-    laid-nothing _ _ _ (ap (atomWord c.before.before.before.before.before.before.before.args.sizes) f.is) c.before.before.before.before.before.before.before.requires.1
+    laid-nothing _ _ _ (ap (atom_word c.before.before.before.before.before.before.before.args.sizes) f.is) c.before.before.before.before.before.before.before.requires.1
 
 returns-4 : tie.Need-returns-4
 returns-4 c =
     let f = read_as c.before.before.expression-at.ensures.0 c.enum-told2.given.1 in
-    laid-nothing _ _ _ (ap (atomWord c.before.before.before.before.args.sizes) f.is ∙ no-atom c.before.before.before.before.args.sizes c.before.before.before.before.args.rows.now c.enum-told2.given.0.0) c.before.before.before.before.requires.1
+    laid-nothing _ _ _ (ap (atom_word c.before.before.before.before.args.sizes) f.is ∙ no-atom c.before.before.before.before.args.sizes c.before.before.before.before.args.rows.now c.enum-told2.given.0.0) c.before.before.before.before.requires.1
 
 returns-5 : tie.Need-returns-5
 returns-5 c =
     let f = read_as c.before.before.expression-at.ensures.0 c.enum-told3.given.1 in
-    laid-nothing _ _ _ (ap (atomWord c.before.before.before.before.args.sizes) f.is ∙ no-atom-chosen c.before.before.before.before.args.sizes c.before.before.before.before.args.rows.now c.enum-told3.given.0.0) c.before.before.before.before.requires.1
+    laid-nothing _ _ _ (ap (atom_word c.before.before.before.before.args.sizes) f.is ∙ no-atom-chosen c.before.before.before.before.args.sizes c.before.before.before.before.args.rows.now c.enum-told3.given.0.0) c.before.before.before.before.requires.1
 
 returns-6 : tie.Need-returns-6
 returns-6 c =
     let f = read_as c.before.before.expression-at.ensures.0 c.enum-told4.given.1 in
-    laid-nothing _ _ _ (ap (atomWord c.before.before.before.before.args.sizes) f.is) c.before.before.before.before.requires.1
+    laid-nothing _ _ _ (ap (atom_word c.before.before.before.before.args.sizes) f.is) c.before.before.before.before.requires.1
 
 pub lay-atom-spec : {M : Type 1} → statement M
 lay-atom-spec =

@@ -4,9 +4,9 @@ use mathlib.Core.Path.{◌≡◌}
 use mathlib.Core.List.{◌∷◌, [], ◌++◌}
 use Prim.Native.Nat.{◌+◌}
 use lib.ListN.{length, length-append}
-use Rattle.language.specs.Decode.{expressionAt}
+use Rattle.language.specs.Decode.{expression_at}
 use Rattle.language.specs.Trees.{binary}
-use Rattle.page.specs.Page.{atomWord, operatorWord, ended, valueWords, parted}
+use Rattle.page.specs.Page.{atom_word, operator_word, ended, value_words, parted}
 use Rattle.page_line.specs.Contents.{led}
 use Rattle.page_line.specs.LaidLaws.{laid_as, laid_next}
 use Rattle.page_line.specs.ContentLaws.{binary-bytes}
@@ -15,13 +15,13 @@ use Rattle.page_line.proofs.expressions.lay_binary.Statement.{statement}
 use Rattle.page_line.proofs.expressions.lay_binary.Tie as tie
 
 sizes : (c : tie.Start)
-    → length (led (ended (valueWords c.args.sizes (binary c.args.operator (expressionAt c.args.rows.now c.args.left) (expressionAt c.args.rows.now c.args.right)))))
-    ≡ length (atomWord c.args.sizes (expressionAt c.args.rows.now c.args.left)) + length (operatorWord c.args.operator) + length (atomWord c.args.sizes (expressionAt c.args.rows.now c.args.right)) + 4
+    → length (led (ended (value_words c.args.sizes (binary c.args.operator (expression_at c.args.rows.now c.args.left) (expression_at c.args.rows.now c.args.right)))))
+    ≡ length (atom_word c.args.sizes (expression_at c.args.rows.now c.args.left)) + length (operator_word c.args.operator) + length (atom_word c.args.sizes (expression_at c.args.rows.now c.args.right)) + 4
 unfolding ended parted
 sizes c =
-    let left = atomWord c.args.sizes (expressionAt c.args.rows.now c.args.left) in
-    let right = atomWord c.args.sizes (expressionAt c.args.rows.now c.args.right) in
-    let word = operatorWord c.args.operator in
+    let left = atom_word c.args.sizes (expression_at c.args.rows.now c.args.left) in
+    let right = atom_word c.args.sizes (expression_at c.args.rows.now c.args.right) in
+    let word = operator_word c.args.operator in
     omega (arith, length-append left (32 ∷ (word ++ (32 ∷ (right ++ (59 ∷ []))))), length-append word (32 ∷ (right ++ (59 ∷ []))), length-append right (59 ∷ []))
 
 lay-byte-requires : tie.Need-lay-byte-requires
@@ -57,7 +57,7 @@ same_length c = search rules
 
 returns : tie.Need-returns
 returns c =
-    laid_as (binary-bytes c.before.before.before.before.before.before.before.before.before.before.before.before.before.before.before.before.before.before.before.before.before.before.before.before.before.before.before.before.before.args.sizes c.before.before.before.before.before.before.before.before.before.before.before.before.before.before.before.before.before.before.before.before.before.before.before.before.before.before.before.before.before.args.operator (expressionAt c.before.before.before.before.before.before.before.before.before.before.before.before.before.before.before.before.before.before.before.before.before.before.before.before.before.before.before.before.before.args.rows.now c.before.before.before.before.before.before.before.before.before.before.before.before.before.before.before.before.before.before.before.before.before.before.before.before.before.before.before.before.before.args.left) (expressionAt c.before.before.before.before.before.before.before.before.before.before.before.before.before.before.before.before.before.before.before.before.before.before.before.before.before.before.before.before.before.args.rows.now c.before.before.before.before.before.before.before.before.before.before.before.before.before.before.before.before.before.before.before.before.before.before.before.before.before.before.before.before.before.args.right))
+    laid_as (binary-bytes c.before.before.before.before.before.before.before.before.before.before.before.before.before.before.before.before.before.before.before.before.before.before.before.before.before.before.before.before.before.args.sizes c.before.before.before.before.before.before.before.before.before.before.before.before.before.before.before.before.before.before.before.before.before.before.before.before.before.before.before.before.before.args.operator (expression_at c.before.before.before.before.before.before.before.before.before.before.before.before.before.before.before.before.before.before.before.before.before.before.before.before.before.before.before.before.before.args.rows.now c.before.before.before.before.before.before.before.before.before.before.before.before.before.before.before.before.before.before.before.before.before.before.before.before.before.before.before.before.before.args.left) (expression_at c.before.before.before.before.before.before.before.before.before.before.before.before.before.before.before.before.before.before.before.before.before.before.before.before.before.before.before.before.before.args.rows.now c.before.before.before.before.before.before.before.before.before.before.before.before.before.before.before.before.before.before.before.before.before.before.before.before.before.before.before.before.before.args.right))
     (laid_next c.before.before.before.before.before.before.before.before.before.before.before.before.before.before.before.before.before.before.before.before.before.before.before.before.before.before.lay-byte.ensures (laid_next c.before.before.before.before.before.before.before.before.before.before.before.before.before.before.before.before.before.before.before.before.before.before.lay-atom.ensures (laid_next c.before.before.before.before.before.before.before.before.before.before.before.before.before.before.before.before.before.before.lay-byte2.ensures (laid_next c.before.before.before.before.before.before.before.before.before.before.before.before.before.before.lay-operator.ensures (laid_next c.before.before.before.before.before.before.before.before.before.before.lay-byte3.ensures (laid_next c.before.before.before.before.before.before.lay-atom2.ensures c.before.before.lay-byte4.ensures))))))
 
 pub lay-binary-spec : {M : Type 1} → statement M

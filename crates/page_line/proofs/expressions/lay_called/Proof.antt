@@ -1,6 +1,6 @@
 -- `lay_called`: by whether the link leads to an argument.
 use mathlib.Core.Path.{ap}
-use Rattle.page_line.specs.Contents.{calledBytes}
+use Rattle.page_line.specs.Contents.{called_bytes}
 use Rattle.page_line.specs.LaidLaws.{laid_of, laid-nothing}
 use Rattle.page_line.specs.ReadsLaws.{argument-as}
 use borrow.Author.Rules.{rules}
@@ -24,7 +24,7 @@ lay-alone-requires c κs =
 returns : tie.Need-returns
 returns c =
     let r = argument-as c.before.before.argument-at.ensures.0 c.enum_told.given.1 in
-    laid-nothing _ _ _ (ap (calledBytes c.before.before.before.before.args.number) r.is) c.before.before.before.before.requires.1
+    laid-nothing _ _ _ (ap (called_bytes c.before.before.before.before.args.number) r.is) c.before.before.before.before.requires.1
 
 same_length : tie.Need-same-length
 same_length c = search rules
@@ -32,7 +32,7 @@ same_length c = search rules
 returns-2 : tie.Need-returns-2
 returns-2 c =
     let r = argument-as c.before.before.before.before.before.before.argument-at.ensures.0 c.before.before.before.before.enum-told2.given.1 in
-    laid_of (calledBytes c.before.before.before.before.before.before.before.before.args.number) r.is c.before.before.lay-alone.ensures
+    laid_of (called_bytes c.before.before.before.before.before.before.before.before.args.number) r.is c.before.before.lay-alone.ensures
 
 pub lay-called-spec : {M : Type 1} → statement M
 lay-called-spec =

@@ -6,17 +6,17 @@ use Prim.Native.Nat.{◌+◌}
 use lib.ListN.{length, length-append}
 use Rattle.text_numbers.specs.Number.{digits}
 use Rattle.language.specs.Trees.{element}
-use Rattle.language.specs.Decode.{expressionAt}
-use Rattle.page.specs.Page.{atomWord, placeWord}
+use Rattle.language.specs.Decode.{expression_at}
+use Rattle.page.specs.Page.{atom_word, place_word}
 use Rattle.page_line.specs.LaidLaws.{laid_next}
 use borrow.Author.Rules.{rules}
 use Rattle.page_line.proofs.expressions.lay_element.Statement.{statement}
 use Rattle.page_line.proofs.expressions.lay_element.Tie as tie
 
 sizes : (c : tie.Start)
-    → length (placeWord c.args.sizes (element c.args.array (expressionAt c.args.rows.now c.args.index))) ≡ length (digits c.args.array) + length (atomWord c.args.sizes (expressionAt c.args.rows.now c.args.index)) + 3
+    → length (place_word c.args.sizes (element c.args.array (expression_at c.args.rows.now c.args.index))) ≡ length (digits c.args.array) + length (atom_word c.args.sizes (expression_at c.args.rows.now c.args.index)) + 3
 sizes c =
-    let atom = atomWord c.args.sizes (expressionAt c.args.rows.now c.args.index) in
+    let atom = atom_word c.args.sizes (expression_at c.args.rows.now c.args.index) in
     omega (arith, length-append (digits c.args.array) (91 ∷ (atom ++ (93 ∷ []))), length-append atom (93 ∷ []))
 
 lay-lettered-requires : tie.Need-lay-lettered-requires

@@ -4,9 +4,9 @@ use mathlib.Core.Path.{◌≡◌}
 use mathlib.Core.List.{◌∷◌, [], ◌++◌}
 use Prim.Native.Nat.{◌+◌}
 use lib.ListN.{length, length-append}
-use Rattle.language.specs.Decode.{expressionAt}
+use Rattle.language.specs.Decode.{expression_at}
 use Rattle.language.specs.Trees.{minus}
-use Rattle.page.specs.Page.{atomWord, ended, valueWords, parted}
+use Rattle.page.specs.Page.{atom_word, ended, value_words, parted}
 use Rattle.page_line.specs.Contents.{led}
 use Rattle.page_line.specs.LaidLaws.{laid_as, laid_next}
 use Rattle.page_line.specs.ContentLaws.{minus-bytes}
@@ -15,9 +15,9 @@ use Rattle.page_line.proofs.expressions.lay_minus.Statement.{statement}
 use Rattle.page_line.proofs.expressions.lay_minus.Tie as tie
 
 sizes : (c : tie.Start)
-    → length (led (ended (valueWords c.args.sizes (minus (expressionAt c.args.rows.now c.args.operand))))) ≡ length (atomWord c.args.sizes (expressionAt c.args.rows.now c.args.operand)) + 4
+    → length (led (ended (value_words c.args.sizes (minus (expression_at c.args.rows.now c.args.operand))))) ≡ length (atom_word c.args.sizes (expression_at c.args.rows.now c.args.operand)) + 4
 unfolding ended parted
-sizes c = omega (arith, length-append (atomWord c.args.sizes (expressionAt c.args.rows.now c.args.operand)) (59 ∷ []))
+sizes c = omega (arith, length-append (atom_word c.args.sizes (expression_at c.args.rows.now c.args.operand)) (59 ∷ []))
 
 slice-aggregate-lay-bytes : tie.Need-slice-aggregate-lay-bytes
 slice-aggregate-lay-bytes c = search rules
@@ -39,7 +39,7 @@ same_length c = search rules
 
 returns : tie.Need-returns
 returns c =
-    laid_as (minus-bytes c.before.before.before.before.before.before.before.before.before.before.before.before.before.before.args.sizes (expressionAt c.before.before.before.before.before.before.before.before.before.before.before.before.before.before.args.rows.now c.before.before.before.before.before.before.before.before.before.before.before.before.before.before.args.operand)) (laid_next c.before.before.before.before.before.before.before.before.before.before.lay-bytes.ensures (laid_next c.before.before.before.before.before.before.lay-atom.ensures c.before.before.lay-byte.ensures))
+    laid_as (minus-bytes c.before.before.before.before.before.before.before.before.before.before.before.before.before.before.args.sizes (expression_at c.before.before.before.before.before.before.before.before.before.before.before.before.before.before.args.rows.now c.before.before.before.before.before.before.before.before.before.before.before.before.before.before.args.operand)) (laid_next c.before.before.before.before.before.before.before.before.before.before.lay-bytes.ensures (laid_next c.before.before.before.before.before.before.lay-atom.ensures c.before.before.lay-byte.ensures))
 
 pub lay-minus-spec : {M : Type 1} → statement M
 lay-minus-spec =

@@ -2,9 +2,9 @@
 use mathlib.Core.Path.{subst, ap}
 use mathlib.Core.List.{List}
 use Prim.Native.Nat.{ℕ}
-use Rattle.words.specs.Table.{rowCount}
-use Rattle.page.specs.Page.{ended, valueWords, parted}
-use Rattle.language_shapes.specs.Shapes.{operationTree}
+use Rattle.words.specs.Table.{row_count}
+use Rattle.page.specs.Page.{ended, value_words, parted}
+use Rattle.language_shapes.specs.Shapes.{operation_tree}
 use Rattle.language_shapes.specs.declared.OperationShape.{OperationShape}
 use Rattle.page_line.specs.Contents.{led}
 use Rattle.page_line.specs.Reads.{OperationInside}
@@ -14,21 +14,21 @@ use Rattle.page_line.proofs.expressions.lay_operation.Statement.{statement}
 use Rattle.page_line.proofs.expressions.lay_operation.Tie as tie
 
 abbrev bytes : tie.Start → OperationShape → List ℕ
-bytes c o = led (ended (valueWords c.args.sizes (operationTree c.args.rows.now o)))
+bytes c o = led (ended (value_words c.args.sizes (operation_tree c.args.rows.now o)))
 
 enum-known-operation : tie.Need-enum-known-operation
 enum-known-operation c = search rules
 
 lay-minus-requires : tie.Need-lay-minus-requires
 lay-minus-requires c κs =
-    ((c.before.before.before.before.before.requires.0.0, subst (λ (o : OperationShape). OperationInside (rowCount c.before.before.before.before.before.args.rows.now) o) c.before.before.operation.given.1 c.before.before.before.before.before.requires.0.1), rw c.before.before.operation.given.1 at c.before.before.before.before.before.requires.1)
+    ((c.before.before.before.before.before.requires.0.0, subst (λ (o : OperationShape). OperationInside (row_count c.before.before.before.before.before.args.rows.now) o) c.before.before.operation.given.1 c.before.before.before.before.before.requires.0.1), rw c.before.before.operation.given.1 at c.before.before.before.before.before.requires.1)
 
 enum-known-operation-2 : tie.Need-enum-known-operation-2
 enum-known-operation-2 c = search rules
 
 lay-binary-requires : tie.Need-lay-binary-requires
 lay-binary-requires c κs =
-    let inside = subst (λ (o : OperationShape). OperationInside (rowCount c.before.before.before.before.before.args.rows.now) o) c.before.before.operation2.given.1 c.before.before.before.before.before.requires.0.1 in
+    let inside = subst (λ (o : OperationShape). OperationInside (row_count c.before.before.before.before.before.args.rows.now) o) c.before.before.operation2.given.1 c.before.before.before.before.before.requires.0.1 in
     ((c.before.before.before.before.before.requires.0.0, inside.0, inside.1), rw c.before.before.operation2.given.1 at c.before.before.before.before.before.requires.1)
 
 enum_told : tie.Need-enum-told

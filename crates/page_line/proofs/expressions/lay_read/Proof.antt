@@ -1,8 +1,8 @@
 -- `lay_read`: by the two sorts of places.
 use mathlib.Core.Path.{subst}
-use Rattle.words.specs.Table.{rowCount}
-use Rattle.page.specs.Page.{placeWord}
-use Rattle.language_shapes.specs.Shapes.{placeTree}
+use Rattle.words.specs.Table.{row_count}
+use Rattle.page.specs.Page.{place_word}
+use Rattle.language_shapes.specs.Shapes.{place_tree}
 use Rattle.language_shapes.specs.declared.PlaceShape.{PlaceShape}
 use Rattle.page_line.specs.Reads.{PlaceInside}
 use Rattle.page_line.specs.LaidLaws.{laid_of}
@@ -22,21 +22,21 @@ enum-known-place-2 c = search rules
 
 lay-element-requires : tie.Need-lay-element-requires
 lay-element-requires c κs =
-    ((c.before.before.before.before.before.requires.0.0, subst (λ (p : PlaceShape). PlaceInside (rowCount c.before.before.before.before.before.args.rows.now) p) c.before.before.place2.given.1 c.before.before.before.before.before.requires.0.1), rw c.before.before.place2.given.1 at c.before.before.before.before.before.requires.1)
+    ((c.before.before.before.before.before.requires.0.0, subst (λ (p : PlaceShape). PlaceInside (row_count c.before.before.before.before.before.args.rows.now) p) c.before.before.place2.given.1 c.before.before.before.before.before.requires.0.1), rw c.before.before.place2.given.1 at c.before.before.before.before.before.requires.1)
 
 same_length : tie.Need-same-length
 same_length c = search rules
 
 returns : tie.Need-returns
 returns c =
-    laid_of (λ (p : PlaceShape). placeWord c.before.before.before.before.before.before.before.before.args.sizes (placeTree c.before.before.before.before.before.before.before.before.args.rows.now p)) c.before.before.before.before.before.place.given.1 c.before.before.lay-name.ensures
+    laid_of (λ (p : PlaceShape). place_word c.before.before.before.before.before.before.before.before.args.sizes (place_tree c.before.before.before.before.before.before.before.before.args.rows.now p)) c.before.before.before.before.before.place.given.1 c.before.before.lay-name.ensures
 
 same-length-2 : tie.Need-same-length-2
 same-length-2 c = search rules
 
 returns-2 : tie.Need-returns-2
 returns-2 c =
-    laid_of (λ (p : PlaceShape). placeWord c.before.before.before.before.before.before.before.before.args.sizes (placeTree c.before.before.before.before.before.before.before.before.args.rows.now p)) c.before.before.before.before.before.place2.given.1 c.before.before.lay-element.ensures
+    laid_of (λ (p : PlaceShape). place_word c.before.before.before.before.before.before.before.before.args.sizes (place_tree c.before.before.before.before.before.before.before.before.args.rows.now p)) c.before.before.before.before.before.place2.given.1 c.before.before.lay-element.ensures
 
 pub lay-read-spec : {M : Type 1} → statement M
 lay-read-spec =

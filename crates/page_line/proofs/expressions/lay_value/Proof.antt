@@ -7,10 +7,10 @@ use Rattle.words.specs.Laws.{back}
 use mathlib.Core.Path.{◌∙◌}
 use mathlib.Core.List.{List, ◌∷◌}
 use Prim.Native.Nat.{ℕ}
-use Rattle.text_numbers.specs.Number.{numberBytes}
+use Rattle.text_numbers.specs.Number.{number_bytes}
 use Rattle.language.specs.Trees.{Expression}
-use Rattle.language.specs.Decode.{argumentListAt}
-use Rattle.page.specs.Page.{blank, semicolon, endedBy, ended, valueWords, parted}
+use Rattle.language.specs.Decode.{argument_list_at}
+use Rattle.page.specs.Page.{blank, semicolon, ended_by, ended, value_words, parted}
 use Rattle.page_line.specs.Contents.{led}
 use Rattle.page_line.specs.LaidLaws.{laid_as, laid_of, laid-nothing}
 use Rattle.page_line.specs.ReadsLaws.{read_as}
@@ -20,7 +20,7 @@ use Rattle.page_line.proofs.expressions.lay_value.Statement.{statement}
 use Rattle.page_line.proofs.expressions.lay_value.Tie as tie
 
 abbrev bytes : tie.Start → Expression → List ℕ
-bytes c e = led (ended (valueWords c.args.sizes e))
+bytes c e = led (ended (value_words c.args.sizes e))
 
 expression-at-requires : tie.Need-expression-at-requires
 expression-at-requires c κs = search rules
@@ -60,7 +60,7 @@ enum-known-shape-4 c = search rules
 lay-called-requires : tie.Need-lay-called-requires
 lay-called-requires c κs =
     let f = read_as c.before.before.before.before.expression-at.ensures.0 c.before.before.shape4.given.1 in
-    ((c.before.before.before.before.before.before.requires.0.0, f.inside), rw (f.is, ← called-bytes c.before.before.before.before.before.before.args.sizes c.before.before.shape4.given.0.0 (argumentListAt c.before.before.before.before.before.before.args.rows.now c.before.before.shape4.given.0.1.0)) at c.before.before.before.before.before.before.requires.1)
+    ((c.before.before.before.before.before.before.requires.0.0, f.inside), rw (f.is, ← called-bytes c.before.before.before.before.before.before.args.sizes c.before.before.shape4.given.0.0 (argument_list_at c.before.before.before.before.before.before.args.rows.now c.before.before.shape4.given.0.1.0)) at c.before.before.before.before.before.before.requires.1)
 
 same_length : tie.Need-same-length
 same_length c = search rules
@@ -69,7 +69,7 @@ returns : tie.Need-returns
 unfolding ended parted
 returns c =
     let f = read_as c.before.before.before.before.before.before.before.expression-at.ensures.0 c.before.before.before.before.before.shape.given.1 in
-    laid_of (bytes c.before.before.before.before.before.before.before.before.before) f.is (laid_of (λ (z : ℤ). blank ∷ endedBy semicolon (numberBytes z)) (sym (back c.before.before.before.before.before.shape.given.0.0 c.before.before.before.before.known-told.given.0.1)) c.before.before.lay-constant-value.ensures)
+    laid_of (bytes c.before.before.before.before.before.before.before.before.before) f.is (laid_of (λ (z : ℤ). blank ∷ ended_by semicolon (number_bytes z)) (sym (back c.before.before.before.before.before.shape.given.0.0 c.before.before.before.before.known-told.given.0.1)) c.before.before.lay-constant-value.ensures)
 
 same-length-2 : tie.Need-same-length-2
 same-length-2 c = search rules
@@ -99,7 +99,7 @@ same-length-4 c = search rules
 returns-5 : tie.Need-returns-5
 returns-5 c =
     let f = read_as c.before.before.before.before.before.before.before.expression-at.ensures.0 c.before.before.before.before.before.shape4.given.1 in
-    laid_of (bytes c.before.before.before.before.before.before.before.before.before) f.is (laid_as (called-bytes c.before.before.before.before.before.before.before.before.before.args.sizes c.before.before.before.before.before.shape4.given.0.0 (argumentListAt c.before.before.before.before.before.before.before.before.before.args.rows.now c.before.before.before.before.before.shape4.given.0.1.0)) c.before.before.lay-called.ensures)
+    laid_of (bytes c.before.before.before.before.before.before.before.before.before) f.is (laid_as (called-bytes c.before.before.before.before.before.before.before.before.before.args.sizes c.before.before.before.before.before.shape4.given.0.0 (argument_list_at c.before.before.before.before.before.before.before.before.before.args.rows.now c.before.before.before.before.before.shape4.given.0.1.0)) c.before.before.lay-called.ensures)
 
 pub lay-value-spec : {M : Type 1} → statement M
 lay-value-spec =

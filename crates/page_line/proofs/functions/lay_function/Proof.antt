@@ -1,7 +1,7 @@
 -- `lay_function`: piece by piece.
 use native.Mathlib.Omega.{arith}
 use lib.ListN.{length-append}
-use Rattle.page.specs.Page.{functionWord}
+use Rattle.page.specs.Page.{function_word}
 use Rattle.page_line.specs.LaidLaws.{laid_next}
 use borrow.Author.Rules.{rules}
 use Rattle.page_line.proofs.functions.lay_function.Statement.{statement}
@@ -16,11 +16,11 @@ lay-bytes-requires c κs =
 
 lay-lettered-requires : tie.Need-lay-lettered-requires
 lay-lettered-requires c κs =
-    omega (arith, length-append (functionWord c.before.before.before.before.before.before.before.before.args.number) c.before.before.before.before.before.before.before.before.args.ending.now, c.before.before.before.before.before.before.before.before.requires)
+    omega (arith, length-append (function_word c.before.before.before.before.before.before.before.before.args.number) c.before.before.before.before.before.before.before.before.args.ending.now, c.before.before.before.before.before.before.before.before.requires)
 
 lay-bytes-requires-2 : tie.Need-lay-bytes-requires-2
 lay-bytes-requires-2 c κs =
-    omega (arith, length-append (functionWord c.before.before.before.before.before.before.before.before.before.before.before.before.args.number) c.before.before.before.before.before.before.before.before.before.before.before.before.args.ending.now, c.before.before.before.before.before.before.before.before.before.before.before.before.requires)
+    omega (arith, length-append (function_word c.before.before.before.before.before.before.before.before.before.before.before.before.args.number) c.before.before.before.before.before.before.before.before.before.before.before.before.args.ending.now, c.before.before.before.before.before.before.before.before.before.before.before.before.requires)
 
 same_length : tie.Need-same-length
 same_length c = search rules

@@ -4,17 +4,17 @@ use mathlib.Core.Path.{◌≡◌}
 use mathlib.Core.List.{◌∷◌, []}
 use Prim.Native.Nat.{◌+◌}
 use lib.ListN.{length, length-append}
-use Rattle.language.specs.Decode.{expressionAt}
-use Rattle.page.specs.Page.{atomWord}
-use Rattle.page_line.specs.Contents.{returnBytes}
+use Rattle.language.specs.Decode.{expression_at}
+use Rattle.page.specs.Page.{atom_word}
+use Rattle.page_line.specs.Contents.{return_bytes}
 use Rattle.page_line.specs.LaidLaws.{laid_next}
 use borrow.Author.Rules.{rules}
 use Rattle.page_line.proofs.functions.lay_return.Statement.{statement}
 use Rattle.page_line.proofs.functions.lay_return.Tie as tie
 
 sizes : (c : tie.Start)
-    → length (returnBytes c.args.sizes (expressionAt c.args.rows.now c.args.row)) ≡ length (atomWord c.args.sizes (expressionAt c.args.rows.now c.args.row)) + 8
-sizes c = omega (arith, length-append (atomWord c.args.sizes (expressionAt c.args.rows.now c.args.row)) (59 ∷ []))
+    → length (return_bytes c.args.sizes (expression_at c.args.rows.now c.args.row)) ≡ length (atom_word c.args.sizes (expression_at c.args.rows.now c.args.row)) + 8
+sizes c = omega (arith, length-append (atom_word c.args.sizes (expression_at c.args.rows.now c.args.row)) (59 ∷ []))
 
 slice-aggregate-lay-bytes : tie.Need-slice-aggregate-lay-bytes
 slice-aggregate-lay-bytes c = search rules

@@ -12,7 +12,7 @@ place-of-requires c κs = search rules
 
 returns : tie.Need-returns
 returns c =
-    place_read c.before.expression-at.ensures.0 c.place_of.ensures
+    place_read c.before.expression-at.ensures.0 c.place-of.ensures
 
 pub place-at-spec : {M : Type 1} → statement M
 place-at-spec = tie.close (tie.spec expression-at-requires place-of-requires returns)

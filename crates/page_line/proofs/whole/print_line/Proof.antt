@@ -3,8 +3,8 @@ use native.Mathlib.Omega.{arith}
 use mathlib.Core.Path.{sym}
 use Prim.Native.Nat.{ℕ, ◌+◌, ◌*◌, ◌-◌}
 use Rattle.page.specs.Page.{blanks}
-use Rattle.page.specs.Widths.{length-blanks}
-use Rattle.page_line.specs.Contents.{lineTree}
+use Rattle.page.proofs.Widths.{length-blanks}
+use Rattle.page_line.specs.Contents.{line_tree}
 use Rattle.page_line.specs.LaidLaws.{laid_of, laid_next}
 use Rattle.page_line.specs.PrintedLaws.{number-five, line-printed}
 use borrow.Author.Rules.{rules}
@@ -59,7 +59,7 @@ returns : tie.Need-returns
 returns c =
     let start = c.before.before.before.before.before.before.before.before.before.before.before.before.before.before.before.before.before.before.before.before.before.before in
     let rest = 81 * start.args.done + 80 - c.before.before.before.before.before.before.before.before.before.before.lay-content.result in
-    line-printed start.args.sizes start.args.done start.args.level rest _ (lineTree start.args.rows.now start.args.line) _ _ start.requires.few
+    line-printed start.args.sizes start.args.done start.args.level rest _ (line_tree start.args.rows.now start.args.line) _ _ start.requires.few
     (omega (arith, number-five (start.args.done + 1) start.requires.few, c.before.before.before.before.before.before.before.before.before.before.before.before.before.before.before.before.before.before.before.lay-line-number.ensures.reached, c.before.before.before.before.before.before.before.before.before.before.before.before.before.before.before.before.indent-of.ensures, length-blanks (c.before.before.before.before.before.before.before.before.before.before.before.before.before.before.before.before.indent-of.result + 1), c.before.before.before.before.before.before.before.before.before.before.before.before.before.before.lay-blanks.ensures.reached, c.before.before.before.before.before.before.before.before.before.before.lay-content.ensures.reached, start.requires.narrow))
     (laid_next c.before.before.before.before.before.before.before.before.before.before.before.before.before.before.before.before.before.before.before.lay-line-number.ensures (laid_next (laid_of (λ (n : ℕ). blanks (n + 1)) (sym c.before.before.before.before.before.before.before.before.before.before.before.before.before.before.before.before.indent-of.ensures) c.before.before.before.before.before.before.before.before.before.before.before.before.before.before.lay-blanks.ensures) (laid_next c.before.before.before.before.before.before.before.before.before.before.lay-content.ensures (laid_next c.before.before.before.before.before.before.lay-blanks2.ensures c.before.before.lay-byte.ensures))))
 

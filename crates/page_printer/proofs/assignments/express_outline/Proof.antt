@@ -1,7 +1,7 @@
 -- `express_outline`: by what stands at the row.
 use mathlib.Core.Path.{sym, ap, ◌∙◌}
 use Rattle.page_line.specs.ReadsLaws.{read_as}
-use Rattle.page_printer.specs.Outlines.{expressionOutline, expressOutline}
+use Rattle.page_printer.specs.Outlines.{expression_outline, express_outline}
 use borrow.Author.Rules.{rules}
 use Rattle.page_printer.proofs.assignments.express_outline.Statement.{statement}
 use Rattle.page_printer.proofs.assignments.express_outline.Tie as tie
@@ -29,29 +29,29 @@ enum-told-4 : tie.Need-enum-told-4
 enum-told-4 c = search rules
 
 returns : tie.Need-returns
-unfolding expressOutline
+unfolding express_outline
 returns c =
-    ap (expressionOutline c.before.before.before.args.rows.now c.before.before.before.args.expression) (sym c.enum_told.given.1 ∙ c.before.before.expression-at.ensures.1)
+    ap (expression_outline c.before.before.before.args.rows.now c.before.before.before.args.expression) (sym c.enum_told.given.1 ∙ c.before.before.expression-at.ensures.1)
 
 returns-2 : tie.Need-returns-2
-unfolding expressOutline
+unfolding express_outline
 returns-2 c =
-    ap (expressionOutline c.before.before.before.args.rows.now c.before.before.before.args.expression) (sym c.enum-told2.given.1 ∙ c.before.before.expression-at.ensures.1)
+    ap (expression_outline c.before.before.before.args.rows.now c.before.before.before.args.expression) (sym c.enum-told2.given.1 ∙ c.before.before.expression-at.ensures.1)
 
 returns-3 : tie.Need-returns-3
-unfolding expressOutline
+unfolding express_outline
 returns-3 c =
-    c.operation-outline.ensures ∙ ap (expressionOutline c.before.before.before.before.before.args.rows.now c.before.before.before.before.before.args.expression) (sym c.before.before.shape.given.1 ∙ c.before.before.before.before.expression-at.ensures.1)
+    c.operation-outline.ensures ∙ ap (expression_outline c.before.before.before.before.before.args.rows.now c.before.before.before.before.before.args.expression) (sym c.before.before.shape.given.1 ∙ c.before.before.before.before.expression-at.ensures.1)
 
 returns-4 : tie.Need-returns-4
-unfolding expressOutline
+unfolding express_outline
 returns-4 c =
-    ap (expressionOutline c.before.before.before.args.rows.now c.before.before.before.args.expression) (sym c.enum-told3.given.1 ∙ c.before.before.expression-at.ensures.1)
+    ap (expression_outline c.before.before.before.args.rows.now c.before.before.before.args.expression) (sym c.enum-told3.given.1 ∙ c.before.before.expression-at.ensures.1)
 
 returns-5 : tie.Need-returns-5
-unfolding expressOutline
+unfolding express_outline
 returns-5 c =
-    ap (expressionOutline c.before.before.before.args.rows.now c.before.before.before.args.expression) (sym c.enum-told4.given.1 ∙ c.before.before.expression-at.ensures.1)
+    ap (expression_outline c.before.before.before.args.rows.now c.before.before.before.args.expression) (sym c.enum-told4.given.1 ∙ c.before.before.expression-at.ensures.1)
 
 pub express-outline-spec : {M : Type 1} → statement M
 express-outline-spec =

@@ -1,7 +1,7 @@
 -- `value_outline`: by what stands at the row of the value.
 use mathlib.Core.Path.{sym, ap, ◌∙◌}
 use Rattle.page_line.specs.ReadsLaws.{read_as}
-use Rattle.page_printer.specs.Outlines.{valueOutline}
+use Rattle.page_printer.specs.Outlines.{value_outline}
 use borrow.Author.Rules.{rules}
 use Rattle.page_printer.proofs.assignments.value_outline.Statement.{statement}
 use Rattle.page_printer.proofs.assignments.value_outline.Tie as tie
@@ -30,23 +30,23 @@ called-outline-requires c κs =
 
 returns : tie.Need-returns
 returns c =
-    ap (valueOutline c.before.before.before.args.rows.now c.before.before.before.args.expression c.before.before.before.args.place) (sym c.enum_told.given.1 ∙ c.before.before.expression-at.ensures.1)
+    ap (value_outline c.before.before.before.args.rows.now c.before.before.before.args.expression c.before.before.before.args.place) (sym c.enum_told.given.1 ∙ c.before.before.expression-at.ensures.1)
 
 returns-2 : tie.Need-returns-2
 returns-2 c =
-    ap (valueOutline c.before.before.before.args.rows.now c.before.before.before.args.expression c.before.before.before.args.place) (sym c.enum-told2.given.1 ∙ c.before.before.expression-at.ensures.1)
+    ap (value_outline c.before.before.before.args.rows.now c.before.before.before.args.expression c.before.before.before.args.place) (sym c.enum-told2.given.1 ∙ c.before.before.expression-at.ensures.1)
 
 returns-3 : tie.Need-returns-3
 returns-3 c =
-    ap (valueOutline c.before.before.before.args.rows.now c.before.before.before.args.expression c.before.before.before.args.place) (sym c.enum-told3.given.1 ∙ c.before.before.expression-at.ensures.1)
+    ap (value_outline c.before.before.before.args.rows.now c.before.before.before.args.expression c.before.before.before.args.place) (sym c.enum-told3.given.1 ∙ c.before.before.expression-at.ensures.1)
 
 returns-4 : tie.Need-returns-4
 returns-4 c =
-    ap (valueOutline c.before.before.before.args.rows.now c.before.before.before.args.expression c.before.before.before.args.place) (sym c.enum-told4.given.1 ∙ c.before.before.expression-at.ensures.1)
+    ap (value_outline c.before.before.before.args.rows.now c.before.before.before.args.expression c.before.before.before.args.place) (sym c.enum-told4.given.1 ∙ c.before.before.expression-at.ensures.1)
 
 returns-5 : tie.Need-returns-5
 returns-5 c =
-    c.called-outline.ensures ∙ ap (valueOutline c.before.before.before.before.before.args.rows.now c.before.before.before.before.before.args.expression c.before.before.before.before.before.args.place) (sym c.before.before.shape.given.1 ∙ c.before.before.before.before.expression-at.ensures.1)
+    c.called-outline.ensures ∙ ap (value_outline c.before.before.before.before.before.args.rows.now c.before.before.before.before.before.args.expression c.before.before.before.before.before.args.place) (sym c.before.before.shape.given.1 ∙ c.before.before.before.before.expression-at.ensures.1)
 
 pub value-outline-spec : {M : Type 1} → statement M
 value-outline-spec =

@@ -3,10 +3,10 @@ use mathlib.Core.Path.{◌≡◌, sym, subst, ◌∙◌}
 use Prim.Native.Nat.{◌+◌, ◌<◌}
 use native.Mathlib.Omega.{arith}
 use lib.ListN.{length}
-use Rattle.words.specs.Table.{rowCount, numberAt}
-use Rattle.language.specs.Decode.{argumentListAt}
-use Rattle.language.specs.Calls.{argumentCount}
-use Rattle.page_line.specs.ReadsLaws.{row_words, argument-as}
+use Rattle.words.specs.Table.{row_count, numberAt}
+use Rattle.language.specs.Decode.{argument_list_at}
+use Rattle.language.specs.Calls.{argument_count}
+use Rattle.page_line.specs.ReadsLaws.{row-words, argument-as}
 use Rattle.page_printer.specs.FunctionLaws.{argument-more, argument-end}
 use borrow.Author.Rules.{rules}
 use Rattle.page_printer.proofs.functions.count_arguments.Statement.{statement}
@@ -14,11 +14,11 @@ use Rattle.page_printer.proofs.functions.count_arguments.Tie as tie
 
 abbrev invariant-loop : tie.invariant-loop
 invariant-loop rows link along₀ count₀ along count =
-    (count + argumentCount (argumentListAt rows along) ≡ argumentCount (argumentListAt rows link)) × (along < rowCount rows)
+    (count + argument_count (argument_list_at rows along) ≡ argument_count (argument_list_at rows link)) × (along < row_count rows)
 
 abbrev decreases-loop : tie.decreases-loop
 decreases-loop rows link along₀ count₀ along count =
-    argumentCount (argumentListAt rows along)
+    argument_count (argument_list_at rows along)
 
 loop-holds : tie.Need-loop-init invariant-loop decreases-loop
 loop-holds c =
@@ -44,7 +44,7 @@ add-count c =
 
 number-at-requires : tie.Need-number-at-requires invariant-loop decreases-loop
 number-at-requires c κs =
-    row_words c.before.before.before.before.requires.0 c.before.before.before.loop.invariant.1
+    row-words c.before.before.before.before.requires.0 c.before.before.before.loop.invariant.1
 
 loop-less : tie.Need-loop-smaller invariant-loop decreases-loop
 loop-less c =
@@ -52,7 +52,7 @@ loop-less c =
 
 loop-again : tie.Need-loop-preserved invariant-loop decreases-loop
 loop-again c =
-    let r = argument-as c.before.before.before.argument-at.ensures.0 c.before.enum_told.given.1 in rw c.number-at.ensures (omega (arith, c.before.before.before.before.loop.invariant.0, argument-more _ r), r.next-inside)
+    let r = argument-as c.before.before.before.argument-at.ensures.0 c.before.enum_told.given.1 in rw c.number-at.ensures (omega (arith, c.before.before.before.before.loop.invariant.0, argument-more _ r), r.next_inside)
 
 pub count-arguments-spec : {M : Type 1} → statement M
 count-arguments-spec =

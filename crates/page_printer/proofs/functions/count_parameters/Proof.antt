@@ -3,11 +3,11 @@ use mathlib.Core.Path.{◌≡◌, sym, subst, ◌∙◌}
 use Prim.Native.Nat.{◌+◌, ◌<◌}
 use native.Mathlib.Omega.{arith}
 use lib.ListN.{length}
-use Rattle.words.specs.Table.{rowCount, numberAt}
+use Rattle.words.specs.Table.{row_count, numberAt}
 use mathlib.Core.Path.{ap}
-use Rattle.language.specs.Decode.{parameterListAt}
-use Rattle.page_line.specs.ReadsLaws.{row_words}
-use Rattle.page_printer.specs.OutlineLaws.{next-inside}
+use Rattle.language.specs.Decode.{parameter_list_at}
+use Rattle.page_line.specs.ReadsLaws.{row-words}
+use Rattle.page_printer.specs.OutlineLaws.{next_inside}
 use Rattle.page_printer.specs.FunctionLaws.{parameter-more, parameter-none}
 use borrow.Author.Rules.{rules}
 use Rattle.page_printer.proofs.functions.count_parameters.Statement.{statement}
@@ -15,11 +15,11 @@ use Rattle.page_printer.proofs.functions.count_parameters.Tie as tie
 
 abbrev invariant-loop : tie.invariant-loop
 invariant-loop rows link along₀ count₀ along count =
-    (count + length (parameterListAt rows along) ≡ length (parameterListAt rows link)) × (along < rowCount rows)
+    (count + length (parameter_list_at rows along) ≡ length (parameter_list_at rows link)) × (along < row_count rows)
 
 abbrev decreases-loop : tie.decreases-loop
 decreases-loop rows link along₀ count₀ along count =
-    length (parameterListAt rows along)
+    length (parameter_list_at rows along)
 
 loop-holds : tie.Need-loop-init invariant-loop decreases-loop
 loop-holds c =
@@ -35,7 +35,7 @@ add-count c =
 
 number-at-requires : tie.Need-number-at-requires invariant-loop decreases-loop
 number-at-requires c κs =
-    row_words c.before.before.before.requires.0 c.before.before.loop.invariant.1
+    row-words c.before.before.before.requires.0 c.before.before.loop.invariant.1
 
 loop-less : tie.Need-loop-smaller invariant-loop decreases-loop
 loop-less c =
@@ -43,7 +43,7 @@ loop-less c =
 
 loop-again : tie.Need-loop-preserved invariant-loop decreases-loop
 loop-again c =
-    rw c.number-at.ensures (omega (arith, c.before.before.before.loop.invariant.0, ap length (parameter-more c.before.before.before.before.requires.0 _ c.before.before.before.loop.invariant.1 (sym c.before.before.is-parameter.ensures ∙ c.before.if1.true))), next-inside c.before.before.before.before.requires.0 c.before.before.before.loop.invariant.1)
+    rw c.number-at.ensures (omega (arith, c.before.before.before.loop.invariant.0, ap length (parameter-more c.before.before.before.before.requires.0 _ c.before.before.before.loop.invariant.1 (sym c.before.before.is-parameter.ensures ∙ c.before.if1.true))), next_inside c.before.before.before.before.requires.0 c.before.before.before.loop.invariant.1)
 
 returns : tie.Need-returns invariant-loop decreases-loop
 returns c =

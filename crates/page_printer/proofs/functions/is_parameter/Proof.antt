@@ -1,6 +1,6 @@
 -- `is_parameter`: the link 0 leads to no parameter.
 use native.Mathlib.Omega.{arith}
-use Rattle.page_line.specs.ReadsLaws.{row_words}
+use Rattle.page_line.specs.ReadsLaws.{row-words}
 use Rattle.page_printer.specs.FunctionLaws.{parameter-flag, no-parameter-flag}
 use borrow.Author.Rules.{rules}
 use Rattle.page_printer.proofs.functions.is_parameter.Statement.{statement}
@@ -12,7 +12,7 @@ returns c =
 
 is-declaration-requires : tie.Need-is-declaration-requires
 is-declaration-requires c κs =
-    omega (arith, row_words c.before.requires.0 c.before.requires.1)
+    omega (arith, row-words c.before.requires.0 c.before.requires.1)
 
 returns-2 : tie.Need-returns-2
 returns-2 c =

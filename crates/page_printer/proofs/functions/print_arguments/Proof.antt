@@ -3,13 +3,13 @@ use mathlib.Core.Path.{◌≡◌, sym, subst, ◌∙◌}
 use Prim.Native.Nat.{◌+◌, ◌<◌}
 use native.Mathlib.Omega.{arith}
 use lib.ListN.{length}
-use Rattle.words.specs.Table.{rowCount, numberAt}
-use Rattle.language.specs.Decode.{expressionAt, argumentListAt}
-use Rattle.language.specs.Calls.{argumentCount}
-use Rattle.page.specs.Lines.{argumentLines}
+use Rattle.words.specs.Table.{row_count, numberAt}
+use Rattle.language.specs.Decode.{expression_at, argument_list_at}
+use Rattle.language.specs.Calls.{argument_count}
+use Rattle.page.specs.Lines.{argument_lines}
 use Rattle.page_line.specs.LaidLaws.{laid-length}
 use Rattle.page_line.specs.declared.LineAt.TheVariants.{Argument, LastArgument}
-use Rattle.page_line.specs.ReadsLaws.{row_words, argument-as}
+use Rattle.page_line.specs.ReadsLaws.{row-words, argument-as}
 use Rattle.page_printer.specs.ReadyLaws.{ready-line}
 use Rattle.page_printer.specs.FunctionLaws.{argument-more, argument-line, last-argument-line, Printing, printing-start, printing-length, printing-as, printing-first, printing-next, printing-end}
 use borrow.Author.Rules.{rules}
@@ -18,12 +18,12 @@ use Rattle.page_printer.proofs.functions.print_arguments.Tie as tie
 
 abbrev invariant-loop : tie.invariant-loop
 invariant-loop sizes rows first link level done page₀ row₀ along₀ lines₀ page row along lines =
-    Printing sizes (argumentLines level (expressionAt rows first) (argumentListAt rows link)) (argumentLines level (expressionAt rows row) (argumentListAt rows along)) page₀ done lines page
-    × (row < rowCount rows) × (along < rowCount rows)
+    Printing sizes (argument_lines level (expression_at rows first) (argument_list_at rows link)) (argument_lines level (expression_at rows row) (argument_list_at rows along)) page₀ done lines page
+    × (row < row_count rows) × (along < row_count rows)
 
 abbrev decreases-loop : tie.decreases-loop
 decreases-loop sizes rows first link level done page₀ row₀ along₀ lines₀ page row along lines =
-    argumentCount (argumentListAt rows along)
+    argument_count (argument_list_at rows along)
 
 loop-holds : tie.Need-loop-init invariant-loop decreases-loop
 loop-holds c =
@@ -59,7 +59,7 @@ print-line-requires-2 c κs =
 
 number-at-requires : tie.Need-number-at-requires invariant-loop decreases-loop
 number-at-requires c κs =
-    row_words c.before.before.before.before.before.before.before.before.before.before.requires.0.readable c.before.before.before.before.before.before.before.before.loop.invariant.2
+    row-words c.before.before.before.before.before.before.before.before.before.before.requires.0.readable c.before.before.before.before.before.before.before.before.loop.invariant.2
 
 loop-less : tie.Need-loop-smaller invariant-loop decreases-loop
 loop-less c =
@@ -68,7 +68,7 @@ loop-less c =
 loop-again : tie.Need-loop-preserved invariant-loop decreases-loop
 loop-again c =
     let r = argument-as c.before.before.before.before.before.before.before.before.argument-at.ensures.0 c.before.before.before.before.before.before.found.given.1 in
-    rw c.number-at.ensures (printing-next (printing-as c.before.before.before.before.before.before.before.before.before.loop.invariant.0 (argument-line c.before.before.before.before.before.before.before.before.before.before.before.args.level c.before.before.before.before.before.before.before.before.before.loop.row c.before.before.before.before.before.before.found.given.0.0 r)) c.before.before.before.print-line2.ensures, r.inside, r.next-inside)
+    rw c.number-at.ensures (printing-next (printing-as c.before.before.before.before.before.before.before.before.before.loop.invariant.0 (argument-line c.before.before.before.before.before.before.before.before.before.before.before.args.level c.before.before.before.before.before.before.before.before.before.loop.row c.before.before.before.before.before.before.found.given.0.0 r)) c.before.before.before.print-line2.ensures, r.inside, r.next_inside)
 
 pub print-arguments-spec : {M : Type 1} → statement M
 print-arguments-spec =

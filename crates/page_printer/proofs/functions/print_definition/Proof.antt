@@ -3,11 +3,11 @@ use mathlib.Core.Path.{◌≡◌, sym, subst, ◌∙◌}
 use Prim.Native.Nat.{◌+◌, ◌<◌}
 use native.Mathlib.Omega.{arith}
 use lib.ListN.{length}
-use Rattle.words.specs.Table.{rowCount, number_at}
+use Rattle.words.specs.Table.{row_count, number_at}
 use borrow.Author.Tests.{not-true, not-false}
 use mathlib.Core.List.{List, [], ◌∷◌}
-use Rattle.language.specs.Decode.{parameterListAt}
-use Rattle.page.specs.Lines.{Indented, indented, opensParameters, definitionLines, parameterLines}
+use Rattle.language.specs.Decode.{parameter_list_at}
+use Rattle.page.specs.Lines.{Indented, indented, opens_parameters, definition_lines, parameter_lines}
 use Rattle.page_line.specs.Printed.{Printed}
 use Rattle.page_line.specs.PrintedLaws.{printed-next}
 use Rattle.page_line.specs.declared.LineAt.TheVariants.{OpensFunction, OpensParameters}
@@ -37,12 +37,12 @@ returns c =
 print-line-requires-2 : tie.Need-print-line-requires-2
 print-line-requires-2 c κs =
     let e = definition-more c.before.before.before.before.requires.0.readable c.before.before.before.before.args.level c.before.before.before.before.args.number c.before.before.before.before.args.link c.before.before.before.before.requires.1 (sym c.before.before.is-parameter.ensures ∙ not-false _ c.before.if1.false) in
-    ready-line (OpensParameters c.before.before.before.before.args.number) (ready-first (indented c.before.before.before.before.args.level (opensParameters c.before.before.before.before.args.number) ∷ []) _ (rw e at c.before.before.before.before.requires.0)) tt
+    ready-line (OpensParameters c.before.before.before.before.args.number) (ready-first (indented c.before.before.before.before.args.level (opens_parameters c.before.before.before.before.args.number) ∷ []) _ (rw e at c.before.before.before.before.requires.0)) tt
 
 print-parameters-requires : tie.Need-print-parameters-requires
 print-parameters-requires c κs =
     let e = definition-more c.before.before.before.before.before.before.before.before.requires.0.readable c.before.before.before.before.before.before.before.before.args.level c.before.before.before.before.before.before.before.before.args.number c.before.before.before.before.before.before.before.before.args.link c.before.before.before.before.before.before.before.before.requires.1 (sym c.before.before.before.before.before.before.is-parameter.ensures ∙ not-false _ c.before.before.before.before.before.if1.false) in
-    (ready-behind (indented c.before.before.before.before.before.before.before.before.args.level (opensParameters c.before.before.before.before.before.before.before.before.args.number) ∷ []) _ (rw e at c.before.before.before.before.before.before.before.before.requires.0) c.before.before.before.print-line2.ensures, c.before.before.before.before.before.before.before.before.requires.1)
+    (ready-behind (indented c.before.before.before.before.before.before.before.before.args.level (opens_parameters c.before.before.before.before.before.before.before.before.args.number) ∷ []) _ (rw e at c.before.before.before.before.before.before.before.before.requires.0) c.before.before.before.print-line2.ensures, c.before.before.before.before.before.before.before.before.requires.1)
 
 same-length-2 : tie.Need-same-length-2
 same-length-2 c = search rules

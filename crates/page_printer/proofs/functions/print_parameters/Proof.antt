@@ -3,15 +3,15 @@ use mathlib.Core.Path.{◌≡◌, sym, subst, ◌∙◌}
 use Prim.Native.Nat.{◌+◌, ◌<◌}
 use native.Mathlib.Omega.{arith}
 use lib.ListN.{length}
-use Rattle.words.specs.Table.{rowCount, numberAt}
+use Rattle.words.specs.Table.{row_count, numberAt}
 use borrow.Author.Tests.{not-true, not-false}
-use Rattle.language.specs.Decode.{parameterListAt}
-use Rattle.page.specs.Lines.{parameterLines}
+use Rattle.language.specs.Decode.{parameter_list_at}
+use Rattle.page.specs.Lines.{parameter_lines}
 use Rattle.page_line.specs.LaidLaws.{laid-length}
 use Rattle.page_line.specs.declared.LineAt.TheVariants.{Parameter, LastParameter}
-use Rattle.page_line.specs.ReadsLaws.{row_words}
+use Rattle.page_line.specs.ReadsLaws.{row-words}
 use Rattle.page_printer.specs.ReadyLaws.{ready-line}
-use Rattle.page_printer.specs.OutlineLaws.{next-inside}
+use Rattle.page_printer.specs.OutlineLaws.{next_inside}
 use Rattle.page_printer.specs.FunctionLaws.{parameter-more, parameter-line, last-parameter-line, Printing, printing-start, printing-length, printing-as, printing-first, printing-next, printing-end}
 use mathlib.Core.Path.{ap}
 use borrow.Author.Rules.{rules}
@@ -20,12 +20,12 @@ use Rattle.page_printer.proofs.functions.print_parameters.Tie as tie
 
 abbrev invariant-loop : tie.invariant-loop
 invariant-loop sizes rows first level done page₀ row₀ lines₀ page row lines =
-    Printing sizes (parameterLines level (numberAt rows first 1) (parameterListAt rows (numberAt rows first 5))) (parameterLines level (numberAt rows row 1) (parameterListAt rows (numberAt rows row 5))) page₀ done lines page
-    × (row < rowCount rows)
+    Printing sizes (parameter_lines level (numberAt rows first 1) (parameter_list_at rows (numberAt rows first 5))) (parameter_lines level (numberAt rows row 1) (parameter_list_at rows (numberAt rows row 5))) page₀ done lines page
+    × (row < row_count rows)
 
 abbrev decreases-loop : tie.decreases-loop
 decreases-loop sizes rows first level done page₀ row₀ lines₀ page row lines =
-    length (parameterListAt rows (numberAt rows row 5))
+    length (parameter_list_at rows (numberAt rows row 5))
 
 loop-holds : tie.Need-loop-init invariant-loop decreases-loop
 loop-holds c =
@@ -33,15 +33,15 @@ loop-holds c =
 
 number-at-requires : tie.Need-number-at-requires invariant-loop decreases-loop
 number-at-requires c κs =
-    omega (arith, row_words c.before.before.requires.0.readable c.loop.invariant.1)
+    omega (arith, row-words c.before.before.requires.0.readable c.loop.invariant.1)
 
 number-at-requires-2 : tie.Need-number-at-requires-2 invariant-loop decreases-loop
 number-at-requires-2 c κs =
-    row_words c.before.before.before.requires.0.readable c.before.loop.invariant.1
+    row-words c.before.before.before.requires.0.readable c.before.loop.invariant.1
 
 is-parameter-requires : tie.Need-is-parameter-requires invariant-loop decreases-loop
 is-parameter-requires c κs =
-    (c.before.before.before.before.requires.0.readable, rw c.number-at2.ensures (next-inside c.before.before.before.before.requires.0.readable c.before.before.loop.invariant.1))
+    (c.before.before.before.before.requires.0.readable, rw c.number-at2.ensures (next_inside c.before.before.before.before.requires.0.readable c.before.before.loop.invariant.1))
 
 print-line-requires : tie.Need-print-line-requires invariant-loop decreases-loop
 print-line-requires c κs =
@@ -61,18 +61,18 @@ returns c =
 print-line-requires-2 : tie.Need-print-line-requires-2 invariant-loop decreases-loop
 print-line-requires-2 c κs =
     let e = rw c.before.before.before.number-at2.ensures at (sym c.before.before.is-parameter.ensures ∙ not-false _ c.before.if1.false) in
-    let p = printing-as c.before.before.before.before.before.loop.invariant.0 (parameter-line c.before.before.before.before.before.before.before.requires.0.readable c.before.before.before.before.before.before.before.args.level _ _ (next-inside c.before.before.before.before.before.before.before.requires.0.readable c.before.before.before.before.before.loop.invariant.1) e) in
+    let p = printing-as c.before.before.before.before.before.loop.invariant.0 (parameter-line c.before.before.before.before.before.before.before.requires.0.readable c.before.before.before.before.before.before.before.args.level _ _ (next_inside c.before.before.before.before.before.before.before.requires.0.readable c.before.before.before.before.before.loop.invariant.1) e) in
     rw c.before.before.before.before.number-at.ensures (ready-line (Parameter _) (printing-first p c.before.before.before.before.before.before.before.requires.0) tt)
 
 loop-less : tie.Need-loop-smaller invariant-loop decreases-loop
 loop-less c =
     let e = rw c.before.before.before.before.before.before.number-at2.ensures at (sym c.before.before.before.before.before.is-parameter.ensures ∙ not-false _ c.before.before.before.before.if1.false) in
-    rw c.before.before.before.before.before.before.number-at2.ensures (omega (arith, ap length (parameter-more c.before.before.before.before.before.before.before.before.before.before.requires.0.readable _ (next-inside c.before.before.before.before.before.before.before.before.before.before.requires.0.readable c.before.before.before.before.before.before.before.before.loop.invariant.1) e)))
+    rw c.before.before.before.before.before.before.number-at2.ensures (omega (arith, ap length (parameter-more c.before.before.before.before.before.before.before.before.before.before.requires.0.readable _ (next_inside c.before.before.before.before.before.before.before.before.before.before.requires.0.readable c.before.before.before.before.before.before.before.before.loop.invariant.1) e)))
 
 loop-again : tie.Need-loop-preserved invariant-loop decreases-loop
 loop-again c =
     let e = rw c.before.before.before.before.before.before.number-at2.ensures at (sym c.before.before.before.before.before.is-parameter.ensures ∙ not-false _ c.before.before.before.before.if1.false) in
-    let inside = next-inside c.before.before.before.before.before.before.before.before.before.before.requires.0.readable c.before.before.before.before.before.before.before.before.loop.invariant.1 in
+    let inside = next_inside c.before.before.before.before.before.before.before.before.before.before.requires.0.readable c.before.before.before.before.before.before.before.before.loop.invariant.1 in
     rw c.before.before.before.before.before.before.number-at2.ensures (printing-next (printing-as c.before.before.before.before.before.before.before.before.loop.invariant.0 (parameter-line c.before.before.before.before.before.before.before.before.before.before.requires.0.readable c.before.before.before.before.before.before.before.before.before.before.args.level _ _ inside e)) (rw c.before.before.before.before.before.before.before.number-at.ensures at c.before.before.print-line2.ensures), inside)
 
 pub print-parameters-spec : {M : Type 1} → statement M

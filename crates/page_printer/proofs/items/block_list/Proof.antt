@@ -1,6 +1,6 @@
 -- `block_list`: by what stands at the row.
 use mathlib.Core.Path.{sym, ap, ◌∙◌}
-use Rattle.page_printer.specs.Outlines.{listIn, blockList}
+use Rattle.page_printer.specs.Outlines.{list_in, block_list}
 use borrow.Author.Rules.{rules}
 use Rattle.page_printer.proofs.items.block_list.Statement.{statement}
 use Rattle.page_printer.proofs.items.block_list.Tie as tie
@@ -33,39 +33,39 @@ enum-told-6 : tie.Need-enum-told-6
 enum-told-6 c = search rules
 
 returns : tie.Need-returns
-unfolding blockList
+unfolding block_list
 returns c =
-    ap listIn (sym c.enum_told.given.1 ∙ c.before.before.shape_at.ensures)
+    ap list_in (sym c.enum_told.given.1 ∙ c.before.before.shape_at.ensures)
 
 returns-2 : tie.Need-returns-2
-unfolding blockList
+unfolding block_list
 returns-2 c =
-    c.list_of.ensures ∙ ap listIn (sym c.before.before.shape.given.1 ∙ c.before.before.before.before.shape_at.ensures)
+    c.list_of.ensures ∙ ap list_in (sym c.before.before.shape.given.1 ∙ c.before.before.before.before.shape_at.ensures)
 
 returns-3 : tie.Need-returns-3
-unfolding blockList
+unfolding block_list
 returns-3 c =
-    ap listIn (sym c.enum-told2.given.1 ∙ c.before.before.shape_at.ensures)
+    ap list_in (sym c.enum-told2.given.1 ∙ c.before.before.shape_at.ensures)
 
 returns-4 : tie.Need-returns-4
-unfolding blockList
+unfolding block_list
 returns-4 c =
-    ap listIn (sym c.enum-told3.given.1 ∙ c.before.before.shape_at.ensures)
+    ap list_in (sym c.enum-told3.given.1 ∙ c.before.before.shape_at.ensures)
 
 returns-5 : tie.Need-returns-5
-unfolding blockList
+unfolding block_list
 returns-5 c =
-    ap listIn (sym c.enum-told4.given.1 ∙ c.before.before.shape_at.ensures)
+    ap list_in (sym c.enum-told4.given.1 ∙ c.before.before.shape_at.ensures)
 
 returns-6 : tie.Need-returns-6
-unfolding blockList
+unfolding block_list
 returns-6 c =
-    ap listIn (sym c.enum-told5.given.1 ∙ c.before.before.shape_at.ensures)
+    ap list_in (sym c.enum-told5.given.1 ∙ c.before.before.shape_at.ensures)
 
 returns-7 : tie.Need-returns-7
-unfolding blockList
+unfolding block_list
 returns-7 c =
-    ap listIn (sym c.enum-told6.given.1 ∙ c.before.before.shape_at.ensures)
+    ap list_in (sym c.enum-told6.given.1 ∙ c.before.before.shape_at.ensures)
 
 pub block-list-spec : {M : Type 1} → statement M
 block-list-spec =

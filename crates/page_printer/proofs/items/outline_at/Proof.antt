@@ -1,7 +1,7 @@
 -- `outline_at`: by what stands at the row.
 use mathlib.Core.Path.{sym, ap, ◌∙◌}
-use Rattle.page_line.specs.ReadsLaws.{row_words}
-use Rattle.page_printer.specs.Outlines.{outlineOf, outlineAt}
+use Rattle.page_line.specs.ReadsLaws.{row-words}
+use Rattle.page_printer.specs.Outlines.{outline_of, outline_at}
 use Rattle.page_printer.specs.OutlineLaws.{statement-expression}
 use borrow.Author.Rules.{rules}
 use Rattle.page_printer.proofs.items.outline_at.Statement.{statement}
@@ -9,7 +9,7 @@ use Rattle.page_printer.proofs.items.outline_at.Tie as tie
 
 shape-at-requires : tie.Need-shape-at-requires
 shape-at-requires c κs =
-    row_words c.requires.0 c.requires.1
+    row-words c.requires.0 c.requires.1
 
 enum_told : tie.Need-enum-told
 enum_told c = search rules
@@ -37,39 +37,39 @@ enum-told-4 : tie.Need-enum-told-4
 enum-told-4 c = search rules
 
 returns : tie.Need-returns
-unfolding outlineAt
+unfolding outline_at
 returns c =
-    ap (outlineOf c.before.before.before.args.rows.now c.before.before.before.args.row) (sym c.enum_told.given.1 ∙ c.before.before.shape_at.ensures)
+    ap (outline_of c.before.before.before.args.rows.now c.before.before.before.args.row) (sym c.enum_told.given.1 ∙ c.before.before.shape_at.ensures)
 
 returns-2 : tie.Need-returns-2
-unfolding outlineAt
+unfolding outline_at
 returns-2 c =
-    c.statement-outline.ensures ∙ ap (outlineOf c.before.before.before.before.before.args.rows.now c.before.before.before.before.before.args.row) (sym c.before.before.shape.given.1 ∙ c.before.before.before.before.shape_at.ensures)
+    c.statement-outline.ensures ∙ ap (outline_of c.before.before.before.before.before.args.rows.now c.before.before.before.before.before.args.row) (sym c.before.before.shape.given.1 ∙ c.before.before.before.before.shape_at.ensures)
 
 returns-3 : tie.Need-returns-3
-unfolding outlineAt
+unfolding outline_at
 returns-3 c =
-    ap (outlineOf c.before.before.before.before.args.rows.now c.before.before.before.before.args.row) (sym c.before.shape2.given.1 ∙ c.before.before.before.shape_at.ensures)
+    ap (outline_of c.before.before.before.before.args.rows.now c.before.before.before.before.args.row) (sym c.before.shape2.given.1 ∙ c.before.before.before.shape_at.ensures)
 
 returns-4 : tie.Need-returns-4
-unfolding outlineAt
+unfolding outline_at
 returns-4 c =
-    ap (outlineOf c.before.before.before.args.rows.now c.before.before.before.args.row) (sym c.enum-told2.given.1 ∙ c.before.before.shape_at.ensures)
+    ap (outline_of c.before.before.before.args.rows.now c.before.before.before.args.row) (sym c.enum-told2.given.1 ∙ c.before.before.shape_at.ensures)
 
 returns-5 : tie.Need-returns-5
-unfolding outlineAt
+unfolding outline_at
 returns-5 c =
-    ap (outlineOf c.before.before.before.args.rows.now c.before.before.before.args.row) (sym c.enum-told3.given.1 ∙ c.before.before.shape_at.ensures)
+    ap (outline_of c.before.before.before.args.rows.now c.before.before.before.args.row) (sym c.enum-told3.given.1 ∙ c.before.before.shape_at.ensures)
 
 returns-6 : tie.Need-returns-6
-unfolding outlineAt
+unfolding outline_at
 returns-6 c =
-    ap (outlineOf c.before.before.before.before.args.rows.now c.before.before.before.before.args.row) (sym c.before.shape3.given.1 ∙ c.before.before.before.shape_at.ensures)
+    ap (outline_of c.before.before.before.before.args.rows.now c.before.before.before.before.args.row) (sym c.before.shape3.given.1 ∙ c.before.before.before.shape_at.ensures)
 
 returns-7 : tie.Need-returns-7
-unfolding outlineAt
+unfolding outline_at
 returns-7 c =
-    ap (outlineOf c.before.before.before.args.rows.now c.before.before.before.args.row) (sym c.enum-told4.given.1 ∙ c.before.before.shape_at.ensures)
+    ap (outline_of c.before.before.before.args.rows.now c.before.before.before.args.row) (sym c.enum-told4.given.1 ∙ c.before.before.shape_at.ensures)
 
 pub outline-at-spec : {M : Type 1} → statement M
 outline-at-spec =

@@ -17,7 +17,7 @@ loop-holds : tie.Need-loop-init invariant-loop decreases-loop
 loop-holds c = passed_none _
 
 mul-pass-word : tie.Need-overflow-mul-pass-word invariant-loop decreases-loop
-mul-pass-word c = omega (arith, c.loop-test.true, c.before.before.well-formed)
+mul-pass-word c = omega (arith, c.loop-test.true, c.before.before.well_formed)
 
 shared-slice-copy-out-pass-word : tie.Need-shared-slice-copy-out-pass-word invariant-loop decreases-loop
 shared-slice-copy-out-pass-word c = c.loop-test.true

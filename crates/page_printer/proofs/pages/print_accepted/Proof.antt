@@ -4,9 +4,9 @@ use Prim.Native.Nat.{ℕ, ◌*◌, ◌≤◌, ◌<◌}
 use native.Mathlib.Omega.{arith}
 use borrow.Author.Rules.{rules}
 use lib.ListN.{length}
-use Rattle.language.specs.Decode.{listAt}
-use Rattle.page.specs.Lines.{itemsLines}
-use Rattle.page_printer.specs.Outlines.{blockList}
+use Rattle.language.specs.Decode.{list_at}
+use Rattle.page.specs.Lines.{items_lines}
+use Rattle.page_printer.specs.Outlines.{block_list}
 use Rattle.page_printer.specs.PageLaws.{table-row, table-sized, table-ready, short-page, whole-page, whole-reads, refused-reads}
 use Rattle.page_printer.proofs.pages.print_accepted.Statement.{statement}
 use Rattle.page_printer.proofs.pages.print_accepted.Tie as tie
@@ -25,10 +25,10 @@ count-list-requires c κs =
     rw c.block-list.ensures (table-sized s.args.header.now s.args.rows.now s.requires c.before.pass-words.ensures.fits)
 
 -- as many lines as the table has
-counted : (c : tie.After-count-list) → c.count-list.result ≡ length (itemsLines 0 (listAt c.before.before.before.before.args.rows.now (blockList c.before.before.before.before.args.rows.now 0)))
+counted : (c : tie.After-count-list) → c.count-list.result ≡ length (items_lines 0 (list_at c.before.before.before.before.args.rows.now (block_list c.before.before.before.before.args.rows.now 0)))
 counted c =
     c.count-list.ensures
-    ∙ ap (λ (r : ℕ). length (itemsLines 0 (listAt c.before.before.before.before.args.rows.now r))) c.before.block-list.ensures
+    ∙ ap (λ (r : ℕ). length (items_lines 0 (list_at c.before.before.before.before.args.rows.now r))) c.before.block-list.ensures
 
 mul-size : tie.Need-overflow-mul-size
 mul-size c =

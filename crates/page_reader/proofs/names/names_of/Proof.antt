@@ -1,6 +1,6 @@
 -- `names_of`: the header's bounds, its declared words and its temporaries.
 use native.Mathlib.Omega.{arith}
-use Rattle.words.specs.Laws.{headerFits-facts}
+use Rattle.words.specs.Laws.{header_fits-facts}
 use Rattle.words.specs.declared.Form.TheVariants.{Kernel}
 use Rattle.page_reader.proofs.HeaderNames.{names-are, variables-low, arrays-low}
 use borrow.Author.Rules.{rules}
@@ -12,11 +12,11 @@ bounds-of-requires c κs = search rules
 
 declared-requires : tie.Need-declared-requires
 declared-requires c κs =
-    (headerFits-facts Kernel c.before.args.header.now c.before.requires).least
+    (header_fits-facts Kernel c.before.args.header.now c.before.requires).least
 
 temporaries-requires : tie.Need-temporaries-requires
 temporaries-requires c κs =
-    (headerFits-facts Kernel c.before.before.args.header.now c.before.before.requires).least
+    (header_fits-facts Kernel c.before.before.args.header.now c.before.before.requires).least
 
 cast-t6 : tie.Need-overflow-cast-t6
 cast-t6 c =
@@ -24,11 +24,11 @@ cast-t6 c =
 
 cast-t7 : tie.Need-overflow-cast-t7
 cast-t7 c =
-    omega (arith, c.before.before.declared.ensures, (headerFits-facts Kernel c.before.before.before.before.args.header.now c.before.before.before.before.requires).few-declared)
+    omega (arith, c.before.before.declared.ensures, (header_fits-facts Kernel c.before.before.before.before.args.header.now c.before.before.before.before.requires).few_declared)
 
 cast-t8 : tie.Need-overflow-cast-t8
 cast-t8 c =
-    omega (arith, c.before.temporaries.ensures, (headerFits-facts Kernel c.before.before.before.before.args.header.now c.before.before.before.before.requires).few-temporaries)
+    omega (arith, c.before.temporaries.ensures, (header_fits-facts Kernel c.before.before.before.before.args.header.now c.before.before.before.before.requires).few_temporaries)
 
 cast-t9 : tie.Need-overflow-cast-t9
 cast-t9 c =

@@ -4,7 +4,7 @@ use Prim.Native.Nat.{◌-◌}
 use native.Mathlib.Omega.{arith}
 use lib.ListN.{length}
 use borrow.Author.Rules.{rules}
-use Rattle.page_reader.proofs.Passing.{Passing, slice-long, passing-start, passing-room, passing-end, line-inside, shallow, passing-skip, rows_left, line-fits, row_low, row_inside, line-room, passing-next}
+use Rattle.page_reader.proofs.Passing.{Passing, slice-long, passing-start, passing-room, passing-end, line-inside, shallow, passing-skip, rows-left, line-fits, row_low, row_inside, line-room, passing-next}
 use Rattle.page_reader.proofs.rows.write_rows.Statement.{statement}
 use Rattle.page_reader.proofs.rows.write_rows.Tie as tie
 
@@ -74,7 +74,7 @@ rows-of-requires c κs =
 
 sub-base : tie.Need-overflow-sub-base invariant-loop decreases-loop
 sub-base c =
-    omega (arith, c.rows_of_lem.ensures.0, rows_left c.before.before.before.before.before.before.before.loop.invariant.0 c.before.before.before.before.before.before.loop-test.true c.before.before.before.before.statement-in.result c.before.before.before.before.statement-in.ensures c.before.before.read.given.0.0 c.before.before.read.given.1)
+    omega (arith, c.rows_of_lem.ensures.0, rows-left c.before.before.before.before.before.before.before.loop.invariant.0 c.before.before.before.before.before.before.loop-test.true c.before.before.before.before.statement-in.result c.before.before.before.before.statement-in.ensures c.before.before.read.given.0.0 c.before.before.read.given.1)
 
 waiting-row-requires : tie.Need-waiting-row-requires invariant-loop decreases-loop
 waiting-row-requires c κs =
@@ -106,7 +106,7 @@ part-put-line-end c =
 
 put-line-requires : tie.Need-put-line-requires invariant-loop decreases-loop
 put-line-requires c κs =
-    (line-room c.before.before.before.before.before.before.before.before.before.before.before.before.loop.invariant.0 c.before.before.before.before.before.before.before.before.before.before.before.loop-test.true c.before.before.before.before.before.before.before.before.before.statement-in.result c.before.before.before.before.before.before.before.before.before.statement-in.ensures c.before.before.before.before.before.before.before.read.given.0.0 c.before.before.before.before.before.before.before.read.given.1 c.before.before.before.before.before.rows_of_lem.result c.before.before.before.before.before.rows_of_lem.ensures.0, c.before.before.before.before.before.before.before.before.before.before.before.before.loop.invariant.0.counted.small-sizes, c.before.before.before.waiting-row.ensures.1, c.before.waiting-row2.ensures.1, line-fits c.before.before.before.before.before.before.before.before.before.before.before.before.loop.invariant.0 c.before.before.before.before.before.before.before.before.before.before.before.loop-test.true c.before.before.before.before.before.before.before.before.before.statement-in.result c.before.before.before.before.before.before.before.before.before.statement-in.ensures c.before.before.before.before.before.before.before.read.given.0.0 c.before.before.before.before.before.before.before.read.given.1)
+    (line-room c.before.before.before.before.before.before.before.before.before.before.before.before.loop.invariant.0 c.before.before.before.before.before.before.before.before.before.before.before.loop-test.true c.before.before.before.before.before.before.before.before.before.statement-in.result c.before.before.before.before.before.before.before.before.before.statement-in.ensures c.before.before.before.before.before.before.before.read.given.0.0 c.before.before.before.before.before.before.before.read.given.1 c.before.before.before.before.before.rows_of_lem.result c.before.before.before.before.before.rows_of_lem.ensures.0, c.before.before.before.before.before.before.before.before.before.before.before.before.loop.invariant.0.counted.small_sizes, c.before.before.before.waiting-row.ensures.1, c.before.waiting-row2.ensures.1, line-fits c.before.before.before.before.before.before.before.before.before.before.before.before.loop.invariant.0 c.before.before.before.before.before.before.before.before.before.before.before.loop-test.true c.before.before.before.before.before.before.before.before.before.statement-in.result c.before.before.before.before.before.before.before.before.before.statement-in.ensures c.before.before.before.before.before.before.before.read.given.0.0 c.before.before.before.before.before.before.before.read.given.1)
 
 left-before-requires : tie.Need-left-before-requires invariant-loop decreases-loop
 left-before-requires c κs =

@@ -3,7 +3,7 @@ use mathlib.Core.Path.{sym, ap, ap₂, ◌∙◌}
 use native.Mathlib.Omega.{arith}
 use Rattle.language.specs.Trees.{read, minus, binary, assign, variable, element, express, none, ◌then◌}
 use Rattle.writers_rows.specs.LeafLaws.{recoded}
-use Rattle.page_words.specs.Trees.{valueTree}
+use Rattle.page_words.specs.Trees.{value_tree}
 use Rattle.page_rows.proofs.Steps.{value_room, value-fit}
 use borrow.Author.Rules.{rules}
 use Rattle.page_rows.proofs.assignments.put_value.Statement.{statement}
@@ -77,7 +77,7 @@ same_length c = search rules
 returns : tie.Need-returns
 returns c =
     recoded _ _ _ _ _ _ c.before.put_copy.ensures
-    (ap (λ x. express (assign (variable c.before.before.before.before.before.before.before.args.number) x) then none) c.before.before.before.kernel-atom.ensures.0 ∙ ap (λ v. express (assign (variable c.before.before.before.before.before.before.before.args.number) (valueTree c.before.before.before.before.before.before.before.args.sizes v)) then none) (sym c.before.before.before.before.before.value.given.1))
+    (ap (λ x. express (assign (variable c.before.before.before.before.before.before.before.args.number) x) then none) c.before.before.before.kernel-atom.ensures.0 ∙ ap (λ v. express (assign (variable c.before.before.before.before.before.before.before.args.number) (value_tree c.before.before.before.before.before.before.before.args.sizes v)) then none) (sym c.before.before.before.before.before.value.given.1))
 
 same-length-2 : tie.Need-same-length-2
 same-length-2 c = search rules
@@ -85,7 +85,7 @@ same-length-2 c = search rules
 returns-2 : tie.Need-returns-2
 returns-2 c =
     recoded _ _ _ _ _ _ c.before.put-fetch.ensures
-    (ap (λ x. express (assign (variable c.before.before.before.before.before.before.before.args.number) (read (element c.before.before.before.before.before.value2.given.0.0 x))) then none) c.before.before.before.kernel-atom2.ensures.0 ∙ ap (λ v. express (assign (variable c.before.before.before.before.before.before.before.args.number) (valueTree c.before.before.before.before.before.before.before.args.sizes v)) then none) (sym c.before.before.before.before.before.value2.given.1))
+    (ap (λ x. express (assign (variable c.before.before.before.before.before.before.before.args.number) (read (element c.before.before.before.before.before.value2.given.0.0 x))) then none) c.before.before.before.kernel-atom2.ensures.0 ∙ ap (λ v. express (assign (variable c.before.before.before.before.before.before.before.args.number) (value_tree c.before.before.before.before.before.before.before.args.sizes v)) then none) (sym c.before.before.before.before.before.value2.given.1))
 
 same-length-3 : tie.Need-same-length-3
 same-length-3 c = search rules
@@ -93,7 +93,7 @@ same-length-3 c = search rules
 returns-3 : tie.Need-returns-3
 returns-3 c =
     recoded _ _ _ _ _ _ c.before.put-minus.ensures
-    (ap (λ x. express (assign (variable c.before.before.before.before.before.before.before.args.number) (minus x)) then none) c.before.before.before.kernel-atom3.ensures.0 ∙ ap (λ v. express (assign (variable c.before.before.before.before.before.before.before.args.number) (valueTree c.before.before.before.before.before.before.before.args.sizes v)) then none) (sym c.before.before.before.before.before.value3.given.1))
+    (ap (λ x. express (assign (variable c.before.before.before.before.before.before.before.args.number) (minus x)) then none) c.before.before.before.kernel-atom3.ensures.0 ∙ ap (λ v. express (assign (variable c.before.before.before.before.before.before.before.args.number) (value_tree c.before.before.before.before.before.before.before.args.sizes v)) then none) (sym c.before.before.before.before.before.value3.given.1))
 
 same-length-4 : tie.Need-same-length-4
 same-length-4 c = search rules
@@ -101,14 +101,14 @@ same-length-4 c = search rules
 returns-4 : tie.Need-returns-4
 returns-4 c =
     recoded _ _ _ _ _ _ c.before.put-binary.ensures
-    (ap₂ (λ x y. express (assign (variable c.before.before.before.before.before.before.before.before.args.number) (binary c.before.before.before.before.before.before.value4.given.0.0 x y)) then none) c.before.before.before.before.kernel-atom4.ensures.0 c.before.before.before.kernel-atom5.ensures.0 ∙ ap (λ v. express (assign (variable c.before.before.before.before.before.before.before.before.args.number) (valueTree c.before.before.before.before.before.before.before.before.args.sizes v)) then none) (sym c.before.before.before.before.before.before.value4.given.1))
+    (ap₂ (λ x y. express (assign (variable c.before.before.before.before.before.before.before.before.args.number) (binary c.before.before.before.before.before.before.value4.given.0.0 x y)) then none) c.before.before.before.before.kernel-atom4.ensures.0 c.before.before.before.kernel-atom5.ensures.0 ∙ ap (λ v. express (assign (variable c.before.before.before.before.before.before.before.before.args.number) (value_tree c.before.before.before.before.before.before.before.before.args.sizes v)) then none) (sym c.before.before.before.before.before.before.value4.given.1))
 
 same-length-5 : tie.Need-same-length-5
 same-length-5 c = search rules
 
 returns-5 : tie.Need-returns-5
 returns-5 c =
-    recoded _ _ _ _ _ _ c.before.put-called.ensures (ap (λ v. express (assign (variable c.before.before.before.before.before.before.args.number) (valueTree c.before.before.before.before.before.before.args.sizes v)) then none) (sym c.before.before.before.before.value5.given.1))
+    recoded _ _ _ _ _ _ c.before.put-called.ensures (ap (λ v. express (assign (variable c.before.before.before.before.before.before.args.number) (value_tree c.before.before.before.before.before.before.args.sizes v)) then none) (sym c.before.before.before.before.value5.given.1))
 
 pub put-value-spec : {M : Type 1} → statement M
 put-value-spec =

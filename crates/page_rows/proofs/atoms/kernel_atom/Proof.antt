@@ -2,8 +2,8 @@
 use mathlib.Core.Path.{sym, ap, ◌∙◌}
 use Rattle.words.specs.Laws.{back}
 use Rattle.language.specs.Trees.{constant}
-use Rattle.page_words.specs.Trees.{atomTree}
-use Rattle.page_rows.proofs.Steps.{variable-atom, declared-atom, temporary-atom}
+use Rattle.page_words.specs.Trees.{atom_tree}
+use Rattle.page_rows.proofs.Steps.{variable_atom, declared-atom, temporary-atom}
 use borrow.Author.Rules.{rules}
 use Rattle.page_rows.proofs.atoms.kernel_atom.Statement.{statement}
 use Rattle.page_rows.proofs.atoms.kernel_atom.Tie as tie
@@ -40,11 +40,11 @@ add-t13 c = search rules
 
 returns : tie.Need-returns
 returns c =
-    (ap constant (back c.before.atom.given.0.0 c.known-told.given.0.1) ∙ ap (atomTree c.before.before.before.args.sizes) (sym c.before.atom.given.1), tt)
+    (ap constant (back c.before.atom.given.0.0 c.known-told.given.0.1) ∙ ap (atom_tree c.before.before.before.args.sizes) (sym c.before.atom.given.1), tt)
 
 returns-2 : tie.Need-returns-2
 returns-2 c =
-    variable-atom c.before.before.before.args.sizes c.before.before.before.requires.0 c.before.before.before.args.atom _ c.before.atom2.given.1 c.before.before.before.requires.1
+    variable_atom c.before.before.before.args.sizes c.before.before.before.requires.0 c.before.before.before.args.atom _ c.before.atom2.given.1 c.before.before.before.requires.1
 
 returns-3 : tie.Need-returns-3
 returns-3 c =

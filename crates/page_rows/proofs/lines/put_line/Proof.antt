@@ -179,7 +179,7 @@ add-put-parameter c = search rules
 
 put-parameter-requires : tie.Need-put-parameter-requires
 put-parameter-requires c κs =
-    (line-room _ _ c.before.before.before.line13.given.1 _ _ c.before.before.before.before.before.requires.0, omega (arith, line-fit _ _ c.before.before.before.line13.given.1 c.before.before.before.before.before.requires.4, c.before.before.before.before.before.requires.1.small-store))
+    (line-room _ _ c.before.before.before.line13.given.1 _ _ c.before.before.before.before.before.requires.0, omega (arith, line-fit _ _ c.before.before.before.line13.given.1 c.before.before.before.before.before.requires.4, c.before.before.before.before.before.requires.1.small_store))
 
 enum-known-line-14 : tie.Need-enum-known-line-14
 enum-known-line-14 c = search rules
@@ -192,7 +192,7 @@ add-put-last-parameter c = search rules
 
 put-last-parameter-requires : tie.Need-put-last-parameter-requires
 put-last-parameter-requires c κs =
-    (line-room _ _ c.before.before.before.line14.given.1 _ _ c.before.before.before.before.before.requires.0, omega (arith, line-fit _ _ c.before.before.before.line14.given.1 c.before.before.before.before.before.requires.4, c.before.before.before.before.before.requires.1.small-store))
+    (line-room _ _ c.before.before.before.line14.given.1 _ _ c.before.before.before.before.before.requires.0, omega (arith, line-fit _ _ c.before.before.before.line14.given.1 c.before.before.before.before.before.requires.4, c.before.before.before.before.before.requires.1.small_store))
 
 same_length : tie.Need-same-length
 same_length c = search rules

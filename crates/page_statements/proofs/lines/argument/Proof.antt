@@ -2,7 +2,7 @@
 use mathlib.Core.Path.{sym, ap, ◌∙◌}
 use mathlib.Core.List.{List, [], ◌∷◌}
 use native.Mathlib.Omega.{arith}
-use Rattle.page_words.specs.Reads.{argumentOf, lastArgumentOf, argumentRead}
+use Rattle.page_words.specs.Reads.{argument_of, last_argument_of, argument_read}
 use Rattle.page_words.specs.CompareLaws.{framed-long}
 use borrow.Author.Rules.{rules}
 use Rattle.page_statements.proofs.lines.argument.Statement.{statement}
@@ -39,9 +39,9 @@ argument-of-requires : tie.Need-argument-of-requires
 argument-of-requires c κs = search rules
 
 returns : tie.Need-returns
-unfolding argumentRead
+unfolding argument_read
 returns c =
-    rw (sym c.before.before.before.before.is_framed.ensures ∙ c.before.before.before.if1.true) (c.argument-of.ensures ∙ ap argumentOf c.before.atom.ensures)
+    rw (sym c.before.before.before.before.is_framed.ensures ∙ c.before.before.before.if1.true) (c.argument-of.ensures ∙ ap argument_of c.before.atom.ensures)
 
 slice-aggregate-is-framed-3 : tie.Need-slice-aggregate-is-framed-3
 slice-aggregate-is-framed-3 c = search rules
@@ -74,12 +74,12 @@ last-argument-of-requires : tie.Need-last-argument-of-requires
 last-argument-of-requires c κs = search rules
 
 returns-2 : tie.Need-returns-2
-unfolding argumentRead
+unfolding argument_read
 returns-2 c =
-    rw (sym c.before.before.before.before.before.before.before.before.is_framed.ensures ∙ c.before.before.before.before.before.before.before.if1.false, sym c.before.before.before.before.is-framed2.ensures ∙ c.before.before.before.if2.true) (c.last-argument-of.ensures ∙ ap lastArgumentOf c.before.atom2.ensures)
+    rw (sym c.before.before.before.before.before.before.before.before.is_framed.ensures ∙ c.before.before.before.before.before.before.before.if1.false, sym c.before.before.before.before.is-framed2.ensures ∙ c.before.before.before.if2.true) (c.last-argument-of.ensures ∙ ap last_argument_of c.before.atom2.ensures)
 
 returns-3 : tie.Need-returns-3
-unfolding argumentRead
+unfolding argument_read
 returns-3 c =
     rw (sym c.before.before.before.before.before.is_framed.ensures ∙ c.before.before.before.before.if1.false, sym c.before.is-framed2.ensures ∙ c.if2.false)
 

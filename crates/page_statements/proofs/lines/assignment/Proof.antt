@@ -1,7 +1,7 @@
 -- `assignment`: an argument, or the first blank parts the target from the rest.
 use mathlib.Core.Path.{◌∙◌}
 use native.Mathlib.Omega.{arith}
-use Rattle.page_words.specs.Parts.{piece-within, assignment-unparted, assignment-parted}
+use Rattle.page_words.proofs.Parts.{piece-within, assignment-unparted, assignment-parted}
 use borrow.Author.Rules.{rules}
 use Rattle.page_statements.proofs.lines.assignment.Statement.{statement}
 use Rattle.page_statements.proofs.lines.assignment.Tie as tie

@@ -3,7 +3,7 @@ use mathlib.Core.Path.{sym, ap, ap₂, ◌∙◌}
 use mathlib.Core.List.{List, [], ◌∷◌}
 use native.Mathlib.Omega.{arith}
 use borrow.Author.Tests.{not-true, not-false}
-use Rattle.page_words.specs.Reads.{nameOf, call_of, assignmentOf}
+use Rattle.page_words.specs.Reads.{name_of, call_of, assignment_of}
 use Rattle.page_words.specs.CompareLaws.{framed-long}
 use borrow.Author.Rules.{rules}
 use Rattle.page_statements.proofs.lines.assignment_of.Statement.{statement}
@@ -46,9 +46,9 @@ call-of-requires : tie.Need-call-of-requires
 call-of-requires c κs = search rules
 
 returns : tie.Need-returns
-unfolding assignmentOf
+unfolding assignment_of
 returns c =
-    rw (sym c.before.before.before.before.before.before.is_framed.ensures ∙ c.before.before.before.before.before.if1.true) (c.call-of.ensures ∙ ap₂ call_of (c.before.name_of.ensures ∙ ap nameOf c.before.before.atom.ensures) c.before.before.before.number-below.ensures)
+    rw (sym c.before.before.before.before.before.before.is_framed.ensures ∙ c.before.before.before.before.before.if1.true) (c.call-of.ensures ∙ ap₂ call_of (c.before.name-of.ensures ∙ ap name_of c.before.before.atom.ensures) c.before.before.before.number-below.ensures)
 
 slice-aggregate-is-framed-3 : tie.Need-slice-aggregate-is-framed-3
 slice-aggregate-is-framed-3 c = search rules
@@ -60,7 +60,7 @@ is-framed-requires-2 : tie.Need-is-framed-requires-2
 is-framed-requires-2 c κs = search rules
 
 returns-2 : tie.Need-returns-2
-unfolding assignmentOf
+unfolding assignment_of
 returns-2 c =
     rw (sym c.before.before.before.before.before.is_framed.ensures ∙ c.before.before.before.before.if1.false, sym c.before.is-framed2.ensures ∙ not-true _ c.if2.true)
 
@@ -95,7 +95,7 @@ assigned-of-requires : tie.Need-assigned-of-requires
 assigned-of-requires c κs = search rules
 
 returns-3 : tie.Need-returns-3
-unfolding assignmentOf
+unfolding assignment_of
 returns-3 c =
     rw (sym c.before.before.before.before.before.before.before.before.before.before.before.is_framed.ensures ∙ c.before.before.before.before.before.before.before.before.before.before.if1.false, sym c.before.before.before.before.before.before.before.is-framed2.ensures ∙ not-false _ c.before.before.before.before.before.before.if2.false) (c.assigned-of.ensures ∙ rw (c.before.before.before.element.ensures, c.before.name-of2.ensures, c.before.before.atom2.ensures, c.before.before.before.before.value.ensures))
 

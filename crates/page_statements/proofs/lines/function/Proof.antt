@@ -2,7 +2,7 @@
 use mathlib.Core.Path.{sym, ap, ◌∙◌}
 use mathlib.Core.List.{List, [], ◌∷◌}
 use native.Mathlib.Omega.{arith}
-use Rattle.page_words.specs.Reads.{returnOf, functionOf, parametersOf, functionRead}
+use Rattle.page_words.specs.Reads.{return_of, function_of, parameters_of, function_read}
 use Rattle.page_words.specs.CompareLaws.{framed-long}
 use borrow.Author.Rules.{rules}
 use Rattle.page_statements.proofs.lines.function.Statement.{statement}
@@ -39,9 +39,9 @@ return-of-requires : tie.Need-return-of-requires
 return-of-requires c κs = search rules
 
 returns : tie.Need-returns
-unfolding functionRead
+unfolding function_read
 returns c =
-    rw (sym c.before.before.before.before.is_framed.ensures ∙ c.before.before.before.if1.true) (c.Return-of.ensures ∙ ap returnOf c.before.atom.ensures)
+    rw (sym c.before.before.before.before.is_framed.ensures ∙ c.before.before.before.if1.true) (c.Return-of.ensures ∙ ap return_of c.before.atom.ensures)
 
 slice-aggregate-is-framed-3 : tie.Need-slice-aggregate-is-framed-3
 slice-aggregate-is-framed-3 c = search rules
@@ -74,9 +74,9 @@ function-of-requires : tie.Need-function-of-requires
 function-of-requires c κs = search rules
 
 returns-2 : tie.Need-returns-2
-unfolding functionRead
+unfolding function_read
 returns-2 c =
-    rw (sym c.before.before.before.before.before.before.before.before.is_framed.ensures ∙ c.before.before.before.before.before.before.before.if1.false, sym c.before.before.before.before.is-framed2.ensures ∙ c.before.before.before.if2.true) (c.Function-of.ensures ∙ ap functionOf c.before.number-below.ensures)
+    rw (sym c.before.before.before.before.before.before.before.before.is_framed.ensures ∙ c.before.before.before.before.before.before.before.if1.false, sym c.before.before.before.before.is-framed2.ensures ∙ c.before.before.before.if2.true) (c.Function-of.ensures ∙ ap function_of c.before.number-below.ensures)
 
 slice-aggregate-is-framed-5 : tie.Need-slice-aggregate-is-framed-5
 slice-aggregate-is-framed-5 c = search rules
@@ -109,15 +109,15 @@ parameters-of-requires : tie.Need-parameters-of-requires
 parameters-of-requires c κs = search rules
 
 returns-3 : tie.Need-returns-3
-unfolding functionRead
+unfolding function_read
 returns-3 c =
-    rw (sym c.before.before.before.before.before.before.before.before.before.before.before.before.is_framed.ensures ∙ c.before.before.before.before.before.before.before.before.before.before.before.if1.false, sym c.before.before.before.before.before.before.before.before.is-framed2.ensures ∙ c.before.before.before.before.before.before.before.if2.false, sym c.before.before.before.before.is-framed3.ensures ∙ c.before.before.before.if3.true) (c.parameters-of.ensures ∙ ap parametersOf c.before.number-below2.ensures)
+    rw (sym c.before.before.before.before.before.before.before.before.before.before.before.before.is_framed.ensures ∙ c.before.before.before.before.before.before.before.before.before.before.before.if1.false, sym c.before.before.before.before.before.before.before.before.is-framed2.ensures ∙ c.before.before.before.before.before.before.before.if2.false, sym c.before.before.before.before.is-framed3.ensures ∙ c.before.before.before.if3.true) (c.parameters-of.ensures ∙ ap parameters_of c.before.number-below2.ensures)
 
 parameter-requires : tie.Need-parameter-requires
 parameter-requires c κs = search rules
 
 returns-4 : tie.Need-returns-4
-unfolding functionRead
+unfolding function_read
 returns-4 c =
     rw (sym c.before.before.before.before.before.before.before.before.before.before.is_framed.ensures ∙ c.before.before.before.before.before.before.before.before.before.if1.false, sym c.before.before.before.before.before.before.is-framed2.ensures ∙ c.before.before.before.before.before.if2.false, sym c.before.before.is-framed3.ensures ∙ c.before.if3.false) c.parameter.ensures
 

@@ -2,7 +2,7 @@
 use mathlib.Core.Path.{sym, ap, ◌∙◌}
 use mathlib.Core.List.{List, [], ◌∷◌}
 use native.Mathlib.Omega.{arith}
-use Rattle.page_words.specs.Reads.{gotoOf, labelOf, jumpRead}
+use Rattle.page_words.specs.Reads.{goto_of, label_of, jump_read}
 use Rattle.page_words.specs.CompareLaws.{framed-long}
 use borrow.Author.Rules.{rules}
 use Rattle.page_statements.proofs.lines.jump.Statement.{statement}
@@ -39,9 +39,9 @@ goto-of-requires : tie.Need-goto-of-requires
 goto-of-requires c κs = search rules
 
 returns : tie.Need-returns
-unfolding jumpRead
+unfolding jump_read
 returns c =
-    rw (sym c.before.before.before.before.is_framed.ensures ∙ c.before.before.before.if1.true) (c.goto-of.ensures ∙ ap gotoOf c.before.number-below.ensures)
+    rw (sym c.before.before.before.before.is_framed.ensures ∙ c.before.before.before.if1.true) (c.goto-of.ensures ∙ ap goto_of c.before.number-below.ensures)
 
 slice-aggregate-is-framed-3 : tie.Need-slice-aggregate-is-framed-3
 slice-aggregate-is-framed-3 c = search rules
@@ -74,15 +74,15 @@ label-of-requires : tie.Need-label-of-requires
 label-of-requires c κs = search rules
 
 returns-2 : tie.Need-returns-2
-unfolding jumpRead
+unfolding jump_read
 returns-2 c =
-    rw (sym c.before.before.before.before.before.before.before.before.is_framed.ensures ∙ c.before.before.before.before.before.before.before.if1.false, sym c.before.before.before.before.is-framed2.ensures ∙ c.before.before.before.if2.true) (c.label_of.ensures ∙ ap labelOf c.before.number-below2.ensures)
+    rw (sym c.before.before.before.before.before.before.before.before.is_framed.ensures ∙ c.before.before.before.before.before.before.before.if1.false, sym c.before.before.before.before.is-framed2.ensures ∙ c.before.before.before.if2.true) (c.label_of.ensures ∙ ap label_of c.before.number-below2.ensures)
 
 function-requires : tie.Need-function-requires
 function-requires c κs = search rules
 
 returns-3 : tie.Need-returns-3
-unfolding jumpRead
+unfolding jump_read
 returns-3 c =
     rw (sym c.before.before.before.before.before.before.is_framed.ensures ∙ c.before.before.before.before.before.if1.false, sym c.before.before.is-framed2.ensures ∙ c.before.if2.false) c.function.ensures
 

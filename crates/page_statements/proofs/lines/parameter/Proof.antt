@@ -2,7 +2,7 @@
 use mathlib.Core.Path.{sym, ap, ◌∙◌}
 use mathlib.Core.List.{List, [], ◌∷◌}
 use native.Mathlib.Omega.{arith}
-use Rattle.page_words.specs.Reads.{lastParameterOf, parameterOf, parameterRead}
+use Rattle.page_words.specs.Reads.{last_parameter_of, parameter_of, parameter_read}
 use Rattle.page_words.specs.CompareLaws.{framed-long}
 use borrow.Author.Rules.{rules}
 use Rattle.page_statements.proofs.lines.parameter.Statement.{statement}
@@ -39,9 +39,9 @@ last-parameter-of-requires : tie.Need-last-parameter-of-requires
 last-parameter-of-requires c κs = search rules
 
 returns : tie.Need-returns
-unfolding parameterRead
+unfolding parameter_read
 returns c =
-    rw (sym c.before.before.before.before.is_framed.ensures ∙ c.before.before.before.if1.true) (c.last-parameter-of.ensures ∙ ap lastParameterOf c.before.number-below.ensures)
+    rw (sym c.before.before.before.before.is_framed.ensures ∙ c.before.before.before.if1.true) (c.last-parameter-of.ensures ∙ ap last_parameter_of c.before.number-below.ensures)
 
 slice-aggregate-is-framed-3 : tie.Need-slice-aggregate-is-framed-3
 slice-aggregate-is-framed-3 c = search rules
@@ -74,15 +74,15 @@ parameter-of-requires : tie.Need-parameter-of-requires
 parameter-of-requires c κs = search rules
 
 returns-2 : tie.Need-returns-2
-unfolding parameterRead
+unfolding parameter_read
 returns-2 c =
-    rw (sym c.before.before.before.before.before.before.before.before.is_framed.ensures ∙ c.before.before.before.before.before.before.before.if1.false, sym c.before.before.before.before.is-framed2.ensures ∙ c.before.before.before.if2.true) (c.parameter-of.ensures ∙ ap parameterOf c.before.number-below2.ensures)
+    rw (sym c.before.before.before.before.before.before.before.before.is_framed.ensures ∙ c.before.before.before.before.before.before.before.if1.false, sym c.before.before.before.before.is-framed2.ensures ∙ c.before.before.before.if2.true) (c.parameter-of.ensures ∙ ap parameter_of c.before.number-below2.ensures)
 
 tested-requires : tie.Need-tested-requires
 tested-requires c κs = search rules
 
 returns-3 : tie.Need-returns-3
-unfolding parameterRead
+unfolding parameter_read
 returns-3 c =
     rw (sym c.before.before.before.before.before.before.is_framed.ensures ∙ c.before.before.before.before.before.if1.false, sym c.before.before.is-framed2.ensures ∙ c.before.if2.false) c.tested.ensures
 

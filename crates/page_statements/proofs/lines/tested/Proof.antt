@@ -3,7 +3,7 @@ use mathlib.Core.Path.{sym, ap, ◌∙◌}
 use mathlib.Core.List.{List, [], ◌∷◌}
 use mathlib.Core.Bool.{true}
 use native.Mathlib.Omega.{arith}
-use Rattle.page_words.specs.Reads.{ifOf, whileOf, testRead}
+use Rattle.page_words.specs.Reads.{if_of, while_of, test_read}
 use Rattle.page_words.specs.CompareLaws.{framed-long}
 use borrow.Author.Rules.{rules}
 use Rattle.page_statements.proofs.lines.tested.Statement.{statement}
@@ -40,9 +40,9 @@ if-of-requires : tie.Need-if-of-requires
 if-of-requires c κs = search rules
 
 returns : tie.Need-returns
-unfolding testRead
+unfolding test_read
 returns c =
-    rw (sym c.before.before.before.before.is_framed.ensures ∙ c.before.before.before.if1.true) (c.if-of.ensures ∙ ap ifOf c.before.atom.ensures)
+    rw (sym c.before.before.before.before.is_framed.ensures ∙ c.before.before.before.if1.true) (c.if-of.ensures ∙ ap if_of c.before.atom.ensures)
 
 slice-aggregate-is-framed-3 : tie.Need-slice-aggregate-is-framed-3
 slice-aggregate-is-framed-3 c = search rules
@@ -75,15 +75,15 @@ while-of-requires : tie.Need-while-of-requires
 while-of-requires c κs = search rules
 
 returns-2 : tie.Need-returns-2
-unfolding testRead
+unfolding test_read
 returns-2 c =
-    rw (sym c.before.before.before.before.before.before.before.before.is_framed.ensures ∙ c.before.before.before.before.before.before.before.if1.false, sym c.before.before.before.before.is-framed2.ensures ∙ c.before.before.before.if2.true) (c.while-of.ensures ∙ ap whileOf c.before.atom2.ensures)
+    rw (sym c.before.before.before.before.before.before.before.before.is_framed.ensures ∙ c.before.before.before.before.before.before.before.if1.false, sym c.before.before.before.before.is-framed2.ensures ∙ c.before.before.before.if2.true) (c.while-of.ensures ∙ ap while_of c.before.atom2.ensures)
 
 assignment-requires : tie.Need-assignment-requires
 assignment-requires c κs = search rules
 
 returns-3 : tie.Need-returns-3
-unfolding testRead
+unfolding test_read
 returns-3 c =
     rw (sym c.before.before.before.before.before.before.is_framed.ensures ∙ c.before.before.before.before.before.if1.false, sym c.before.before.is-framed2.ensures ∙ c.before.if2.false) c.assignment.ensures
 

@@ -1,6 +1,6 @@
 -- `operator`: by the length of the word.
 use mathlib.Core.Path.{sym, ap, ◌∙◌}
-use Rattle.page_words.specs.FirstBytes.{operator-one, operator-other, operator-unended, operator-two}
+use Rattle.page_words.proofs.FirstBytes.{operator-one, operator-other, operator-unended, operator-two}
 use borrow.Author.Rules.{rules}
 use Rattle.page_statements.proofs.values.operator.Statement.{statement}
 use Rattle.page_statements.proofs.values.operator.Tie as tie

@@ -1,46 +1,46 @@
 -- `operator_of_one`: the bytes one after the other.
 use borrow.Author.Tests.{eq-eqb, ne_eqb}
-use Rattle.page_words.specs.Reads.{operatorOfOne}
+use Rattle.page_words.specs.Reads.{operator_of_one}
 use Rattle.page_statements.proofs.values.operator_of_one.Statement.{statement}
 use Rattle.page_statements.proofs.values.operator_of_one.Tie as tie
 
 returns : tie.Need-returns
-unfolding operatorOfOne
+unfolding operator_of_one
 returns c =
     rw (eq-eqb _ _ c.if1.true)
 
 returns-2 : tie.Need-returns-2
-unfolding operatorOfOne
+unfolding operator_of_one
 returns-2 c =
     rw (ne_eqb _ _ c.before.if1.false, eq-eqb _ _ c.if2.true)
 
 returns-3 : tie.Need-returns-3
-unfolding operatorOfOne
+unfolding operator_of_one
 returns-3 c =
     rw (ne_eqb _ _ c.before.before.if1.false, ne_eqb _ _ c.before.if2.false, eq-eqb _ _ c.if3.true)
 
 returns-4 : tie.Need-returns-4
-unfolding operatorOfOne
+unfolding operator_of_one
 returns-4 c =
     rw (ne_eqb _ _ c.before.before.before.if1.false, ne_eqb _ _ c.before.before.if2.false, ne_eqb _ _ c.before.if3.false, eq-eqb _ _ c.if4.true)
 
 returns-5 : tie.Need-returns-5
-unfolding operatorOfOne
+unfolding operator_of_one
 returns-5 c =
     rw (ne_eqb _ _ c.before.before.before.before.if1.false, ne_eqb _ _ c.before.before.before.if2.false, ne_eqb _ _ c.before.before.if3.false, ne_eqb _ _ c.before.if4.false, eq-eqb _ _ c.if5.true)
 
 returns-6 : tie.Need-returns-6
-unfolding operatorOfOne
+unfolding operator_of_one
 returns-6 c =
     rw (ne_eqb _ _ c.before.before.before.before.before.if1.false, ne_eqb _ _ c.before.before.before.before.if2.false, ne_eqb _ _ c.before.before.before.if3.false, ne_eqb _ _ c.before.before.if4.false, ne_eqb _ _ c.before.if5.false, eq-eqb _ _ c.if6.true)
 
 returns-7 : tie.Need-returns-7
-unfolding operatorOfOne
+unfolding operator_of_one
 returns-7 c =
     rw (ne_eqb _ _ c.before.before.before.before.before.before.if1.false, ne_eqb _ _ c.before.before.before.before.before.if2.false, ne_eqb _ _ c.before.before.before.before.if3.false, ne_eqb _ _ c.before.before.before.if4.false, ne_eqb _ _ c.before.before.if5.false, ne_eqb _ _ c.before.if6.false, eq-eqb _ _ c.if7.true)
 
 returns-8 : tie.Need-returns-8
-unfolding operatorOfOne
+unfolding operator_of_one
 returns-8 c =
     rw (ne_eqb _ _ c.before.before.before.before.before.before.if1.false, ne_eqb _ _ c.before.before.before.before.before.if2.false, ne_eqb _ _ c.before.before.before.before.if3.false, ne_eqb _ _ c.before.before.before.if4.false, ne_eqb _ _ c.before.before.if5.false, ne_eqb _ _ c.before.if6.false, ne_eqb _ _ c.if7.false)
 

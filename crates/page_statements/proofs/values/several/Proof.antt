@@ -1,6 +1,6 @@
 -- `several`: a minus by itself, or else an operand.
 use mathlib.Core.Path.{sym, ap, ◌∙◌}
-use Rattle.page_words.specs.Reads.{severalRead, minusOf}
+use Rattle.page_words.specs.Reads.{several_read, minus_of}
 use borrow.Author.Rules.{rules}
 use Rattle.page_statements.proofs.values.several.Statement.{statement}
 use Rattle.page_statements.proofs.values.several.Tie as tie
@@ -18,15 +18,15 @@ minus-of-requires : tie.Need-minus-of-requires
 minus-of-requires c κs = search rules
 
 returns : tie.Need-returns
-unfolding severalRead
+unfolding several_read
 returns c =
-    rw (sym c.before.before.before.is_IsWord.ensures ∙ c.before.before.if1.true) (c.minus-of.ensures ∙ ap minusOf c.before.atom.ensures)
+    rw (sym c.before.before.before.is_IsWord.ensures ∙ c.before.before.if1.true) (c.minus-of.ensures ∙ ap minus_of c.before.atom.ensures)
 
 binary-requires : tie.Need-binary-requires
 binary-requires c κs = search rules
 
 returns-2 : tie.Need-returns-2
-unfolding severalRead
+unfolding several_read
 returns-2 c =
     rw (sym c.before.before.is_IsWord.ensures ∙ c.before.if1.false) c.binary.ensures
 

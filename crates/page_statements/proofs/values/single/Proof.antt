@@ -2,7 +2,7 @@
 use mathlib.Core.Path.{sym, ap, ap₂, ◌∙◌}
 use mathlib.Core.List.{List, [], ◌∷◌}
 use native.Mathlib.Omega.{arith}
-use Rattle.page_words.specs.Reads.{singleOf, calledOf, singleRead}
+use Rattle.page_words.specs.Reads.{single_of, called_of, single_read}
 use Rattle.page_words.specs.CompareLaws.{framed-long}
 use borrow.Author.Rules.{rules}
 use Rattle.page_statements.proofs.values.single.Statement.{statement}
@@ -39,9 +39,9 @@ called-of-requires : tie.Need-called-of-requires
 called-of-requires c κs = search rules
 
 returns : tie.Need-returns
-unfolding singleRead
+unfolding single_read
 returns c =
-    rw (sym c.before.before.before.before.is_framed.ensures ∙ c.before.before.before.if1.true) (c.Called-of.ensures ∙ ap calledOf c.before.number-below.ensures)
+    rw (sym c.before.before.before.before.is_framed.ensures ∙ c.before.before.before.if1.true) (c.Called-of.ensures ∙ ap called_of c.before.number-below.ensures)
 
 element-requires : tie.Need-element-requires
 element-requires c κs = search rules
@@ -53,9 +53,9 @@ single-of-requires : tie.Need-single-of-requires
 single-of-requires c κs = search rules
 
 returns-2 : tie.Need-returns-2
-unfolding singleRead
+unfolding single_read
 returns-2 c =
-    rw (sym c.before.before.before.before.is_framed.ensures ∙ c.before.before.before.if1.false) (c.Single-of.ensures ∙ ap₂ singleOf c.before.before.element.ensures c.before.atom.ensures)
+    rw (sym c.before.before.before.before.is_framed.ensures ∙ c.before.before.before.if1.false) (c.Single-of.ensures ∙ ap₂ single_of c.before.before.element.ensures c.before.atom.ensures)
 
 pub single-spec : {M : Type 1} → statement M
 single-spec =

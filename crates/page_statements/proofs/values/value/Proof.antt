@@ -1,7 +1,7 @@
 -- `value`: one word, or several parted by blanks.
 use mathlib.Core.Path.{◌∙◌}
 use native.Mathlib.Omega.{arith}
-use Rattle.page_words.specs.Parts.{piece-within, value-unparted, value-parted}
+use Rattle.page_words.proofs.Parts.{piece-within, value-unparted, value-parted}
 use borrow.Author.Rules.{rules}
 use Rattle.page_statements.proofs.values.value.Statement.{statement}
 use Rattle.page_statements.proofs.values.value.Tie as tie

@@ -2,7 +2,7 @@
 use mathlib.Core.Path.{sym}
 use native.Mathlib.Omega.{arith}
 use lib.Seq.{length-take-le}
-use Rattle.translator.specs.TranslationLaws.{translation-made}
+use Rattle.translator.proofs.TranslationLaws.{translation-made}
 use borrow.Author.Rules.{rules}
 use Rattle.programs.proofs.kernel.answer_translation.Statement.{statement}
 use Rattle.programs.proofs.kernel.answer_translation.Tie as tie
@@ -26,13 +26,13 @@ enum-known-answer : tie.Need-enum-known-answer
 enum-known-answer c = search rules
 
 array-share-prefix-kernel-header : tie.Need-array-share-prefix-kernel-header
-array-share-prefix-kernel-header c = omega (arith, (translation-made _ _ _ _ _ _ _ _ (rw c.before.answer.given.1 at c.before.before.before.before.before.translate.ensures.0)).header-room, c.before.before.before.before.before.translate.auto.1.1.0)
+array-share-prefix-kernel-header c = omega (arith, (translation-made _ _ _ _ _ _ _ _ (rw c.before.answer.given.1 at c.before.before.before.before.before.translate.ensures.0)).header_room, c.before.before.before.before.before.translate.auto.1.1.0)
 
 slice-aggregate-answer-kernel : tie.Need-slice-aggregate-answer-kernel
 slice-aggregate-answer-kernel c = sym (length-take-le _ _ (array-share-prefix-kernel-header c.before))
 
 slice-reshare-prefix-answer-kernel : tie.Need-slice-reshare-prefix-answer-kernel
-slice-reshare-prefix-answer-kernel c = omega (arith, (translation-made _ _ _ _ _ _ _ _ (rw c.before.before.answer.given.1 at c.before.before.before.before.before.before.translate.ensures.0)).rows-room, c.before.before.before.before.before.before.translate.auto.1.1.1.0)
+slice-reshare-prefix-answer-kernel c = omega (arith, (translation-made _ _ _ _ _ _ _ _ (rw c.before.before.answer.given.1 at c.before.before.before.before.before.before.translate.ensures.0)).rows_room, c.before.before.before.before.before.before.translate.auto.1.1.1.0)
 
 slice-aggregate-answer-kernel-2 : tie.Need-slice-aggregate-answer-kernel-2
 slice-aggregate-answer-kernel-2 c = sym (length-take-le _ _ (slice-reshare-prefix-answer-kernel c.before))

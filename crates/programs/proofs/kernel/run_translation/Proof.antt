@@ -4,9 +4,9 @@ use native.Mathlib.Omega.{arith}
 use lib.Seq.{length-take-le}
 use Rattle.words.specs.StoreLaws.{kernel-store, size-least}
 use Rattle.words.specs.declared.Form.TheVariants.{Kernel}
-use Rattle.program_runs.specs.AcceptedLaws.{accepted-header, accepted-rows}
-use Rattle.program_runs.specs.AcceptedLaws.{kernel-words}
-use Rattle.words.specs.Laws.{headerFits-facts}
+use Rattle.program_runs.proofs.AcceptedLaws.{accepted-header, accepted-rows}
+use Rattle.program_runs.proofs.AcceptedLaws.{kernel_words}
+use Rattle.words.specs.Laws.{header_fits-facts}
 use borrow.Author.Rules.{rules}
 use Rattle.programs.proofs.kernel.run_translation.Statement.{statement}
 use Rattle.programs.proofs.kernel.run_translation.Tie as tie
@@ -18,7 +18,7 @@ store-size-requires : tie.Need-store-size-requires
 store-size-requires c κs = accepted-header Kernel c.before.args.header.now c.before.args.rows.now c.before.requires
 
 array-borrow-prefix-store : tie.Need-array-borrow-prefix-store
-array-borrow-prefix-store c = omega (arith, c.before.header-store.ensures, kernel-words c.before.before.args.header.now c.before.before.args.rows.now c.before.before.requires)
+array-borrow-prefix-store c = omega (arith, c.before.header-store.ensures, kernel_words c.before.before.args.header.now c.before.before.args.rows.now c.before.before.requires)
 
 slice-aggregate-run-from : tie.Need-slice-aggregate-run-from
 slice-aggregate-run-from c = sym (length-take-le _ _ (array-borrow-prefix-store c.before))
@@ -29,7 +29,7 @@ enough-requires c κs = accepted-rows Kernel c.before.before.before.args.header.
 run-from-requires : tie.Need-run-from-requires
 run-from-requires c κs =
     let s = c.before.before.before.before in
-    let few = (headerFits-facts Kernel s.args.header.now (accepted-header Kernel s.args.header.now s.args.rows.now s.requires)).small-store in
+    let few = (header_fits-facts Kernel s.args.header.now (accepted-header Kernel s.args.header.now s.args.rows.now s.requires)).small_store in
     let inside = size-least Kernel s.args.header.now s.args.rows.now in
     let whole = kernel-store s.args.header.now s.args.rows.now in
     (omega (arith, c.before.before.store-size.ensures, few), omega (arith, c.before.before.store-size.ensures, c.before.before.before.header-store.ensures, inside, whole, slice-aggregate-run-from c.before))

@@ -3,8 +3,8 @@ use mathlib.Core.Path.{sym}
 use native.Mathlib.Omega.{arith}
 use lib.Seq.{length-take-le}
 use Rattle.words.specs.declared.Form.TheVariants.{Source}
-use Rattle.program_runs.specs.AcceptedLaws.{accepted-header}
-use Rattle.program_runs.specs.AcceptedLaws.{source-words}
+use Rattle.program_runs.proofs.AcceptedLaws.{accepted-header}
+use Rattle.program_runs.proofs.AcceptedLaws.{source_words}
 use borrow.Author.Rules.{rules}
 use Rattle.programs.proofs.source.answer_accepted.Statement.{statement}
 use Rattle.programs.proofs.source.answer_accepted.Tie as tie
@@ -16,7 +16,7 @@ slice-aggregate-start-size : tie.Need-slice-aggregate-start-size
 slice-aggregate-start-size c = search rules
 
 start-size-requires : tie.Need-start-size-requires
-start-size-requires c κs = omega (arith, c.before.store_words_lem.ensures, source-words c.before.before.before.before.args.header.now c.before.before.before.before.args.rows.now c.before.before.before.before.requires)
+start-size-requires c κs = omega (arith, c.before.store_words_lem.ensures, source_words c.before.before.before.before.args.header.now c.before.before.before.before.args.rows.now c.before.before.before.before.requires)
 
 store-size-requires : tie.Need-store-size-requires
 store-size-requires c κs = accepted-header Source c.before.before.before.before.before.before.args.header.now c.before.before.before.before.before.before.args.rows.now c.before.before.before.before.before.before.requires

@@ -6,7 +6,7 @@ use native.Mathlib.Nat.{le_of_lt}
 use native.Mathlib.Omega.{arith}
 use lib.ListN.{length, take, drop}
 use lib.Seq.{length-take-le}
-use Rattle.text_lines.specs.Reader.{pieceEnd}
+use Rattle.text_lines.specs.Reader.{piece_end}
 use Rattle.text_lines.proofs.Pieces.{piece_of}
 use borrow.Author.Rules.{rules}
 use Rattle.programs.proofs.stream.find_case.Statement.{statement}
@@ -14,7 +14,7 @@ use Rattle.programs.proofs.stream.find_case.Tie as tie
 
 -- A line that ends within the input, and a field that ends before the line does: the next field ends within the line.
 second-inside : (input : List ℕ) (line first second : ℕ) → line < length input → first < line
-    → second ≡ first + 1 + pieceEnd 9 (drop (first + 1) (take line input)) → second ≤ line
+    → second ≡ first + 1 + piece_end 9 (drop (first + 1) (take line input)) → second ≤ line
 second-inside input line first second h k e =
     let size : length (take line input) ≡ line = length-take-le line input (omega arith) in
     let inside = (piece_of 9 (take line input) (first + 1) second (omega arith) e).inside in

@@ -2,7 +2,7 @@
 use mathlib.Core.Path.{sym}
 use native.Mathlib.Omega.{arith}
 use lib.Seq.{length-take-le}
-use Rattle.translator.specs.TranslationLaws.{translation-made}
+use Rattle.translator.proofs.TranslationLaws.{translation-made}
 use borrow.Author.Rules.{rules}
 use Rattle.side_by_side.proofs.forms.show_program.Statement.{statement}
 use Rattle.side_by_side.proofs.forms.show_program.Tie as tie
@@ -26,13 +26,13 @@ enum-known-answer-2 : tie.Need-enum-known-answer-2
 enum-known-answer-2 c = search rules
 
 array-share-prefix-kernel-header : tie.Need-array-share-prefix-kernel-header
-array-share-prefix-kernel-header c = omega (arith, (translation-made _ _ _ _ _ _ _ _ (rw c.before.answer2.given.1 at c.before.before.before.before.before.translate.ensures.0)).header-room, c.before.before.before.before.before.translate.auto.1.1.0)
+array-share-prefix-kernel-header c = omega (arith, (translation-made _ _ _ _ _ _ _ _ (rw c.before.answer2.given.1 at c.before.before.before.before.before.translate.ensures.0)).header_room, c.before.before.before.before.before.translate.auto.1.1.0)
 
 slice-aggregate-show-forms : tie.Need-slice-aggregate-show-forms
 slice-aggregate-show-forms c = sym (length-take-le _ _ (array-share-prefix-kernel-header c.before))
 
 array-share-prefix-kernel-rows : tie.Need-array-share-prefix-kernel-rows
-array-share-prefix-kernel-rows c = omega (arith, (translation-made _ _ _ _ _ _ _ _ (rw c.before.before.answer2.given.1 at c.before.before.before.before.before.before.translate.ensures.0)).rows-room, c.before.before.before.before.before.before.translate.auto.1.1.1.0)
+array-share-prefix-kernel-rows c = omega (arith, (translation-made _ _ _ _ _ _ _ _ (rw c.before.before.answer2.given.1 at c.before.before.before.before.before.before.translate.ensures.0)).rows_room, c.before.before.before.before.before.before.translate.auto.1.1.1.0)
 
 slice-aggregate-show-forms-2 : tie.Need-slice-aggregate-show-forms-2
 slice-aggregate-show-forms-2 c = sym (length-take-le _ _ (array-share-prefix-kernel-rows c.before))

@@ -2,7 +2,7 @@
 use mathlib.Core.Path.{sym}
 use native.Mathlib.Omega.{arith}
 use lib.Seq.{length-take-le}
-use Rattle.text_form.specs.SizeLaws.{read_fits}
+use Rattle.text_form.proofs.SizeLaws.{read_fits}
 use borrow.Author.Rules.{rules}
 use Rattle.side_by_side.proofs.forms.show_text.Statement.{statement}
 use Rattle.side_by_side.proofs.forms.show_text.Tie as tie

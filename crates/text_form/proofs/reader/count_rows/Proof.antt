@@ -64,7 +64,7 @@ loop-again : tie.Need-loop-preserved invariant-loop decreases-loop
 loop-again c = let r = found-row _ (sym c.before.is_row.ensures ∙ not-false _ c.if2.false) in walked_next c.before.before.before.before.before.before.loop.invariant (line-ends c.before.before.before.before) c.before.before.before.before.before.loop-test.true (let other = c.before.before.before.if1.false in omega (arith, (line-ends c.before.before.before.before).inside)) r.row r.is
 
 mul-t14 : tie.Need-overflow-mul-t14 invariant-loop decreases-loop
-mul-t14 c = omega (arith, c.before.loop.invariant.fewer, c.before.loop.invariant.inside, c.before.before.before.well-formed)
+mul-t14 c = omega (arith, c.before.loop.invariant.fewer, c.before.loop.invariant.inside, c.before.before.before.well_formed)
 
 returns-3 : tie.Need-returns-3 invariant-loop decreases-loop
 returns-3 c = walked-says c.before.loop.invariant c.loop-test.false

@@ -2,10 +2,10 @@
 use mathlib.Core.Path.{sym, ap, ◌∙◌}
 use native.Mathlib.Omega.{arith}
 use Rattle.words.specs.Laws.{leading-limits}
-use Rattle.text_lines.specs.Line.{fields_of, numbersOf}
-use Rattle.text_lines.specs.Reader.{countSays}
+use Rattle.text_lines.specs.Line.{fields_of, numbers_of}
+use Rattle.text_lines.specs.Reader.{count_says}
 use Rattle.text_lines.specs.CountLaws.{Sized, size_none, size-some}
-use Rattle.text_form.proofs.Rows.{header-none, header-few, header-many, header-sized}
+use Rattle.text_form.proofs.Rows.{header-none, header_few, header-many, header-sized}
 use borrow.Author.Rules.{rules}
 use Rattle.text_form.proofs.reader.header_numbers.Statement.{statement}
 use Rattle.text_form.proofs.reader.header_numbers.Tie as tie
@@ -20,17 +20,17 @@ enum_told : tie.Need-enum-told
 enum_told c = search rules
 
 returns : tie.Need-returns
-returns c = header-none _ _ (size_none _ (ap countSays (sym c.enum_told.given.1) ∙ c.before.before.count-numbers.ensures))
+returns c = header-none _ _ (size_none _ (ap count_says (sym c.enum_told.given.1) ∙ c.before.before.count-numbers.ensures))
 
 -- how many numbers the line has
-counted : (c : tie.After-known-told) → Sized (numbersOf (fields_of c.before.before.before.before.before.args.line.now)) c.before.counted.given.0.0
-counted c = size-some _ _ (ap countSays (sym c.before.counted.given.1) ∙ c.before.before.before.count-numbers.ensures)
+counted : (c : tie.After-known-told) → Sized (numbers_of (fields_of c.before.before.before.before.before.args.line.now)) c.before.counted.given.0.0
+counted c = size-some _ _ (ap count_says (sym c.before.counted.given.1) ∙ c.before.before.before.count-numbers.ensures)
 
 leading-requires : tie.Need-leading-requires
 leading-requires c κs = search rules
 
 returns-2 : tie.Need-returns-2
-returns-2 c = header-few _ _ (counted c.before.before) (omega (arith, c.if1.true, c.before.leading.ensures))
+returns-2 c = header_few _ _ (counted c.before.before) (omega (arith, c.if1.true, c.before.leading.ensures))
 
 add-if2 : tie.Need-overflow-add-if2
 add-if2 c = omega (arith, c.before.leading.ensures, leading-limits c.before.before.before.before.before.before.before.args.form)

@@ -1,6 +1,6 @@
 -- `read_lines`: causes 1 and 2, and then what `store_text` does.
 use native.Mathlib.Omega.{arith}
-use Rattle.text_form.specs.ReaderLaws.{line-exactly, line-cause}
+use Rattle.text_form.proofs.ReaderLaws.{line-exactly, line-cause}
 use Rattle.text_form.proofs.Shapes.{reads-by}
 use borrow.Author.Rules.{rules}
 use Rattle.text_form.proofs.reader.read_lines.Statement.{statement}

@@ -2,9 +2,9 @@
 use mathlib.Core.Path.{sym, ap, ◌∙◌}
 use native.Mathlib.Omega.{arith}
 use Rattle.text_lines.specs.Line.{ended}
-use Rattle.text_form.specs.Text.{headerLine}
-use Rattle.text_lines.specs.Reader.{countSays}
-use Rattle.text_form.specs.Reader.{rowsSay}
+use Rattle.text_form.specs.Text.{header_line}
+use Rattle.text_lines.specs.Reader.{count_says}
+use Rattle.text_form.specs.Reader.{rows_say}
 use lib.ListN.{length, take}
 use Prim.Native.Nat.{◌+◌, ◌-◌, ◌<◌}
 use Rattle.text_lines.proofs.Pieces.{Piece, piece_of}
@@ -22,8 +22,8 @@ has-newline : (c : tie.Else1) → c.before.piece-end.result < length c.before.be
 has-newline c = let other = c.if1.false in omega (arith, (line-ends c.before).inside)
 
 -- how many numbers the first line has
-header : (c : tie.After-known-told) → Sized (headerLine c.before.before.before.before.before.before.before.before.args.form (ended (take (c.before.before.before.before.before.before.piece-end.result - 0) c.before.before.before.before.before.before.before.before.args.text.now))) c.before.counted.given.0.0
-header c = size-some _ _ (ap countSays (sym c.before.counted.given.1) ∙ c.before.before.before.header-numbers.ensures)
+header : (c : tie.After-known-told) → Sized (header_line c.before.before.before.before.before.before.before.before.args.form (ended (take (c.before.before.before.before.before.before.piece-end.result - 0) c.before.before.before.before.before.before.before.before.args.text.now))) c.before.counted.given.0.0
+header c = size-some _ _ (ap count_says (sym c.before.counted.given.1) ∙ c.before.before.before.header-numbers.ensures)
 
 piece-end-requires : tie.Need-piece-end-requires
 piece-end-requires c κs = search rules
@@ -50,7 +50,7 @@ enum_told : tie.Need-enum-told
 enum_told c = search rules
 
 returns-2 : tie.Need-returns-2
-returns-2 c = shape-bad _ _ (line-ends c.before.before.before.before.before) (has-newline c.before.before.before.before) (size_none _ (ap countSays (sym c.enum_told.given.1) ∙ c.before.before.header-numbers.ensures))
+returns-2 c = shape-bad _ _ (line-ends c.before.before.before.before.before) (has-newline c.before.before.before.before) (size_none _ (ap count_says (sym c.enum_told.given.1) ∙ c.before.before.header-numbers.ensures))
 
 add-next : tie.Need-overflow-add-next
 add-next c = omega (arith, has-newline c.before.before.before.before.before)
@@ -74,10 +74,10 @@ enum-known-rows-2 : tie.Need-enum-known-rows-2
 enum-known-rows-2 c = search rules
 
 returns-3 : tie.Need-returns-3
-returns-3 c = shape-rows _ _ (line-ends c.before.before.before.before.before.before.before.before.before.before.before) (has-newline c.before.before.before.before.before.before.before.before.before.before) (header c.before.before.before.before.before) _ (words-malformed _ _ (ap rowsSay (sym c.before.rows.given.1) ∙ rows_behind _ c.before.before.before.before.before.before.before.before.before.before.before.before.before.args.text.now (c.before.before.before.before.before.before.before.before.before.before.before.piece-end.result + 1) _ c.before.before.before.count-rows.ensures))
+returns-3 c = shape-rows _ _ (line-ends c.before.before.before.before.before.before.before.before.before.before.before) (has-newline c.before.before.before.before.before.before.before.before.before.before) (header c.before.before.before.before.before) _ (words-malformed _ _ (ap rows_say (sym c.before.rows.given.1) ∙ rows_behind _ c.before.before.before.before.before.before.before.before.before.before.before.before.before.args.text.now (c.before.before.before.before.before.before.before.before.before.before.before.piece-end.result + 1) _ c.before.before.before.count-rows.ensures))
 
 returns-4 : tie.Need-returns-4
-returns-4 c = shape-lines _ _ (line-ends c.before.before.before.before.before.before.before.before.before.before.before) (has-newline c.before.before.before.before.before.before.before.before.before.before) (header c.before.before.before.before.before) (words-parsed _ _ (ap rowsSay (sym c.before.rows2.given.1) ∙ rows_behind _ c.before.before.before.before.before.before.before.before.before.before.before.before.before.args.text.now (c.before.before.before.before.before.before.before.before.before.before.before.piece-end.result + 1) _ c.before.before.before.count-rows.ensures))
+returns-4 c = shape-lines _ _ (line-ends c.before.before.before.before.before.before.before.before.before.before.before) (has-newline c.before.before.before.before.before.before.before.before.before.before) (header c.before.before.before.before.before) (words-parsed _ _ (ap rows_say (sym c.before.rows2.given.1) ∙ rows_behind _ c.before.before.before.before.before.before.before.before.before.before.before.before.before.args.text.now (c.before.before.before.before.before.before.before.before.before.before.before.piece-end.result + 1) _ c.before.before.before.count-rows.ensures))
 
 pub shape-of-spec : {M : Type 1} → statement M
 shape-of-spec =

@@ -28,7 +28,7 @@ is_row : (c : tie.After-piece-end invariant-loop decreases-loop) → NextRow c.b
 is_row c = filled_row c.before.before.loop.invariant (line-ends c) c.before.loop-test.true
 
 mul-start : tie.Need-overflow-mul-start invariant-loop decreases-loop
-mul-start c = omega (arith, c.before.before.loop.invariant.few, c.before.before.before.before.well-formed)
+mul-start c = omega (arith, c.before.before.loop.invariant.few, c.before.before.before.before.well_formed)
 
 sub-store-numbers : tie.Need-overflow-sub-store-numbers invariant-loop decreases-loop
 sub-store-numbers c = (line-ends c).from
@@ -40,7 +40,7 @@ part-store-numbers-end : tie.Need-slice-bounds-store-numbers-end invariant-loop 
 part-store-numbers-end c = omega (arith, (line-ends c).inside)
 
 mul-store-numbers : tie.Need-overflow-mul-store-numbers invariant-loop decreases-loop
-mul-store-numbers c = omega (arith, c.before.before.before.loop.invariant.few, c.before.before.before.before.before.well-formed)
+mul-store-numbers c = omega (arith, c.before.before.before.loop.invariant.few, c.before.before.before.before.before.well_formed)
 
 sub-store-numbers-2 : tie.Need-overflow-sub-store-numbers-2 invariant-loop decreases-loop
 sub-store-numbers-2 c = omega (arith, c.before.before.before.loop.invariant.few, filled-length c.before.before.before.loop.invariant)
@@ -55,7 +55,7 @@ store-numbers-requires : tie.Need-store-numbers-requires invariant-loop decrease
 store-numbers-requires c κs = row-holds c.before.before.before.before.loop.invariant (line-ends c.before.before) c.before.before.before.loop-test.true (is_row c.before.before)
 
 add-count : tie.Need-overflow-add-count invariant-loop decreases-loop
-add-count c = omega (arith, c.before.before.before.before.before.before.loop.invariant.walked.many, c.before.before.before.before.before.loop-test.true, c.before.before.before.before.before.before.before.before.well-formed)
+add-count c = omega (arith, c.before.before.before.before.before.before.loop.invariant.walked.many, c.before.before.before.before.before.loop-test.true, c.before.before.before.before.before.before.before.before.well_formed)
 
 add_at : tie.Need-overflow-add-at invariant-loop decreases-loop
 add_at c = omega (arith, (is_row c.before.before.before.before).inside)

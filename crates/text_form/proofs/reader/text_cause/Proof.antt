@@ -4,8 +4,8 @@ use native.Mathlib.Omega.{arith}
 use mathlib.Core.Bool.{true}
 use mathlib.Core.List.{List}
 use lib.IntN.{ℤ}
-use Rattle.text_form.specs.Answers.{causeOf}
-use Rattle.text_form.specs.ReaderLaws.{scratch-holds, scratch-part}
+use Rattle.text_form.specs.Answers.{cause_of}
+use Rattle.text_form.proofs.ReaderLaws.{scratch-holds, scratch-part}
 use borrow.Author.Rules.{rules}
 use Rattle.text_form.proofs.reader.text_cause.Statement.{statement}
 use Rattle.text_form.proofs.reader.text_cause.Tie as tie
@@ -29,7 +29,7 @@ first-cause-requires : tie.Need-first-cause-requires
 first-cause-requires c κs = search rules
 
 returns : tie.Need-returns
-returns c = c.first-cause.ensures ∙ ap (λ (l : List ℤ). causeOf c.before.before.before.before.before.before.before.args.form l c.before.before.before.before.before.before.before.args.words true) (scratch-part c.before.before.before.before.before.before.before.requires _ _ c.before.before.before.before.store-numbers.ensures)
+returns c = c.first-cause.ensures ∙ ap (λ (l : List ℤ). cause_of c.before.before.before.before.before.before.before.args.form l c.before.before.before.before.before.before.before.args.words true) (scratch-part c.before.before.before.before.before.before.before.requires _ _ c.before.before.before.before.store-numbers.ensures)
 
 pub text-cause-spec : {M : Type 1} → statement M
 text-cause-spec =

@@ -16,13 +16,13 @@ loop-holds : tie.Need-loop-init invariant-loop decreases-loop
 loop-holds c = rowed-start _ _ _ _ c.before.requires.0 c.before.requires.1.0 c.before.requires.1.1
 
 mul-start : tie.Need-overflow-mul-start invariant-loop decreases-loop
-mul-start c = omega (arith, row_inside c.before.loop.invariant c.loop-test.true, c.before.before.before.well-formed)
+mul-start c = omega (arith, row_inside c.before.loop.invariant c.loop-test.true, c.before.before.before.well_formed)
 
 add-end : tie.Need-overflow-add-end invariant-loop decreases-loop
-add-end c = omega (arith, row_inside c.before.loop.invariant c.loop-test.true, c.before.before.before.well-formed)
+add-end c = omega (arith, row_inside c.before.loop.invariant c.loop-test.true, c.before.before.before.well_formed)
 
 mul-put-line : tie.Need-overflow-mul-put-line invariant-loop decreases-loop
-mul-put-line c = omega (arith, row_inside c.before.loop.invariant c.loop-test.true, c.before.before.before.well-formed)
+mul-put-line c = omega (arith, row_inside c.before.loop.invariant c.loop-test.true, c.before.before.before.well_formed)
 
 sub-put-line : tie.Need-overflow-sub-put-line invariant-loop decreases-loop
 sub-put-line c = omega arith
@@ -46,7 +46,7 @@ put-line-requires : tie.Need-put-line-requires invariant-loop decreases-loop
 put-line-requires c κs = (row-filled c.before.before.before.loop.invariant c.before.before.loop-test.true, row_room c.before.before.before.loop.invariant c.before.before.loop-test.true)
 
 add_at : tie.Need-overflow-add-at invariant-loop decreases-loop
-add_at c = let next = rowed-next c.before.before.before.before.before.before.loop.invariant c.before.before.before.before.before.loop-test.true _ _ c.before.before.put-line.ensures in omega (arith, rowed-inside next, rowed-length next, c.before.before.before.before.before.before.before.before.well-formed)
+add_at c = let next = rowed-next c.before.before.before.before.before.before.loop.invariant c.before.before.before.before.before.loop-test.true _ _ c.before.before.put-line.ensures in omega (arith, rowed-inside next, rowed-length next, c.before.before.before.before.before.before.before.before.well_formed)
 
 add_row : tie.Need-overflow-add-row invariant-loop decreases-loop
 add_row c = omega (arith, c.before.before.before.before.before.loop-test.true)

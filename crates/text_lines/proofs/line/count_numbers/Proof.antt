@@ -4,8 +4,8 @@ use Prim.Native.Nat.{◌-◌, ◌+◌}
 use native.Mathlib.Omega.{arith}
 use borrow.Author.Rules.{rules}
 use lib.ListN.{length}
-use Rattle.text_numbers.specs.Reader.{fieldNumber}
-use Rattle.text_lines.specs.Reader.{numberCount}
+use Rattle.text_numbers.specs.Reader.{field_number}
+use Rattle.text_lines.specs.Reader.{number_count}
 use Rattle.text_lines.proofs.Pieces.{Piece, piece_of, Counted, counted_start, counted-says, counted-bad, counted_next}
 use Rattle.text_lines.proofs.line.count_numbers.Statement.{statement}
 use Rattle.text_lines.proofs.line.count_numbers.Tie as tie
@@ -45,7 +45,7 @@ enum-told-2 : tie.Need-enum-told-2 invariant-loop decreases-loop
 enum-told-2 c = search rules
 
 returns : tie.Need-returns invariant-loop decreases-loop
-returns c = sym (ap numberCount (counted-bad c.before.before.before.before.before.before.loop.invariant (field-ends c.before.before.before.before) (sym c.before.before.number.ensures ∙ ap fieldNumber c.enum-told2.given.1)))
+returns c = sym (ap number_count (counted-bad c.before.before.before.before.before.before.loop.invariant (field-ends c.before.before.before.before) (sym c.before.before.number.ensures ∙ ap field_number c.enum-told2.given.1)))
 
 add-count : tie.Need-overflow-add-count invariant-loop decreases-loop
 add-count c = omega (arith, c.before.before.before.before.before.before.loop.invariant.fewer, c.before.before.before.before.before.loop-test.true)
@@ -57,7 +57,7 @@ loop-less : tie.Need-loop-smaller invariant-loop decreases-loop
 loop-less c = omega (arith, c.before.before.before.before.before.loop-test.true, (field-ends c.before.before.before.before).from)
 
 loop-again : tie.Need-loop-preserved invariant-loop decreases-loop
-loop-again c = counted_next c.before.before.before.before.before.before.loop.invariant (field-ends c.before.before.before.before) _ (sym c.before.before.number.ensures ∙ ap fieldNumber c.enum_told.given.1)
+loop-again c = counted_next c.before.before.before.before.before.before.loop.invariant (field-ends c.before.before.before.before) _ (sym c.before.before.number.ensures ∙ ap field_number c.enum_told.given.1)
 
 returns-2 : tie.Need-returns-2 invariant-loop decreases-loop
 returns-2 c = counted-says c.before.loop.invariant c.loop-test.false

@@ -4,7 +4,7 @@ use Prim.Native.Nat.{◌-◌, ◌+◌}
 use native.Mathlib.Omega.{arith}
 use borrow.Author.Rules.{rules}
 use lib.ListN.{length}
-use Rattle.text_numbers.specs.Reader.{fieldNumber}
+use Rattle.text_numbers.specs.Reader.{field_number}
 use Rattle.text_lines.proofs.Pieces.{Piece, piece_of}
 use Rattle.text_lines.proofs.Storing.{Stored, stored-start, stored-length, stored-end, stored-never, stored-room, stored_next}
 use Rattle.text_lines.proofs.line.store_numbers.Statement.{statement}
@@ -45,19 +45,19 @@ enum_told : tie.Need-enum-told invariant-loop decreases-loop
 enum_told c = search rules
 
 same_length : tie.Need-same-length invariant-loop decreases-loop
-same_length c = stored-never c.before.before.before.before.before.before.loop.invariant (field-ends c.before.before.before.before) (sym c.before.before.number.ensures ∙ ap fieldNumber c.enum_told.given.1)
+same_length c = stored-never c.before.before.before.before.before.before.loop.invariant (field-ends c.before.before.before.before) (sym c.before.before.number.ensures ∙ ap field_number c.enum_told.given.1)
 
 returns : tie.Need-returns invariant-loop decreases-loop
-returns c = stored-never c.before.before.before.before.before.before.loop.invariant (field-ends c.before.before.before.before) (sym c.before.before.number.ensures ∙ ap fieldNumber c.enum_told.given.1)
+returns c = stored-never c.before.before.before.before.before.before.loop.invariant (field-ends c.before.before.before.before) (sym c.before.before.number.ensures ∙ ap field_number c.enum_told.given.1)
 
 mul-value : tie.Need-overflow-mul-value invariant-loop decreases-loop
-mul-value c = omega (arith, c.before.before.before.before.before.before.before.loop.invariant.few, c.before.before.before.before.before.before.before.before.before.well-formed)
+mul-value c = omega (arith, c.before.before.before.before.before.before.before.loop.invariant.few, c.before.before.before.before.before.before.before.before.before.well_formed)
 
 slice-set-from-value : tie.Need-slice-set-from-value invariant-loop decreases-loop
-slice-set-from-value c = stored-room c.before.before.before.before.before.before.before.loop.invariant (field-ends c.before.before.before.before.before) _ (sym c.before.before.before.number.ensures ∙ ap fieldNumber c.before.field.given.1)
+slice-set-from-value c = stored-room c.before.before.before.before.before.before.before.loop.invariant (field-ends c.before.before.before.before.before) _ (sym c.before.before.before.number.ensures ∙ ap field_number c.before.field.given.1)
 
 add-count : tie.Need-overflow-add-count invariant-loop decreases-loop
-add-count c = omega (arith, stored-room c.before.before.before.before.before.before.before.loop.invariant (field-ends c.before.before.before.before.before) _ (sym c.before.before.before.number.ensures ∙ ap fieldNumber c.before.field.given.1), stored-length c.before.before.before.before.before.before.before.loop.invariant, c.before.before.before.before.before.before.before.before.before.well-formed)
+add-count c = omega (arith, stored-room c.before.before.before.before.before.before.before.loop.invariant (field-ends c.before.before.before.before.before) _ (sym c.before.before.before.number.ensures ∙ ap field_number c.before.field.given.1), stored-length c.before.before.before.before.before.before.before.loop.invariant, c.before.before.before.before.before.before.before.before.before.well_formed)
 
 add_at : tie.Need-overflow-add-at invariant-loop decreases-loop
 add_at c = omega (arith, (field-ends c.before.before.before.before.before).inside)
@@ -66,7 +66,7 @@ loop-less : tie.Need-loop-smaller invariant-loop decreases-loop
 loop-less c = omega (arith, c.before.before.before.before.before.before.loop-test.true, (field-ends c.before.before.before.before.before).from)
 
 loop-again : tie.Need-loop-preserved invariant-loop decreases-loop
-loop-again c = stored_next c.before.before.before.before.before.before.before.loop.invariant (field-ends c.before.before.before.before.before) _ (sym c.before.before.before.number.ensures ∙ ap fieldNumber c.before.field.given.1)
+loop-again c = stored_next c.before.before.before.before.before.before.before.loop.invariant (field-ends c.before.before.before.before.before) _ (sym c.before.before.before.number.ensures ∙ ap field_number c.before.field.given.1)
 
 same-length-2 : tie.Need-same-length-2 invariant-loop decreases-loop
 same-length-2 c = stored-length c.before.loop.invariant

@@ -3,7 +3,7 @@ use mathlib.Core.Path.{◌≡◌, sym}
 use native.Mathlib.Omega.{arith}
 use mathlib.Core.List.{◌∷◌}
 use lib.ListN.{length-set}
-use Rattle.text_numbers.specs.Number.{digits, numberBytes}
+use Rattle.text_numbers.specs.Number.{digits, number_bytes}
 use Rattle.text_numbers.specs.PutLaws.{put_as, LedRoom, led-room, led-back, led-put}
 use Rattle.text_numbers.proofs.Signs.{bytes-negative, bytes-positive}
 use borrow.Author.Rules.{rules}
@@ -11,13 +11,13 @@ use Rattle.text_numbers.proofs.digits.put_number.Statement.{statement}
 use Rattle.text_numbers.proofs.digits.put_number.Tie as tie
 
 -- the bytes of a negative number, and their room
-signed : (c : tie.Then1) → numberBytes c.before.before.before.args.number ≡ 45 ∷ digits c.before.magnitude.result
+signed : (c : tie.Then1) → number_bytes c.before.before.before.args.number ≡ 45 ∷ digits c.before.magnitude.result
 signed c = bytes-negative _ _ c.before.before.before.ranges.number c.before.magnitude.ensures c.if1.true
 
 room : (c : tie.Then1) → LedRoom 45 (digits c.before.magnitude.result) c.before.before.before.args.text.now
 room c = record { room = rw (signed c) at c.before.before.before.requires }
 
-unsigned : (c : tie.Else1) → numberBytes c.before.before.before.args.number ≡ digits c.before.magnitude.result
+unsigned : (c : tie.Else1) → number_bytes c.before.before.before.args.number ≡ digits c.before.magnitude.result
 unsigned c = bytes-positive _ _ c.before.before.before.ranges.number c.before.magnitude.ensures c.if1.false
 
 magnitude-requires : tie.Need-magnitude-requires

@@ -3,13 +3,13 @@ use mathlib.Core.Path.{sym, ap, ◌∙◌}
 use native.Mathlib.Omega.{arith}
 use Rattle.text_numbers.specs.NumberLaws.{natural-is}
 use Rattle.text_numbers.specs.Reader.{at_most}
-use Rattle.text_numbers.proofs.Decimal.{atMost-none, natural-none, natural-one, natural-zero}
+use Rattle.text_numbers.proofs.Decimal.{at_most-none, natural-none, natural-one, natural-zero}
 use borrow.Author.Rules.{rules}
 use Rattle.text_numbers.proofs.number.natural_of.Statement.{statement}
 use Rattle.text_numbers.proofs.number.natural_of.Tie as tie
 
 returns : tie.Need-returns
-returns c = sym (ap (at_most _) (natural-none _ c.if1.true) ∙ atMost-none _)
+returns c = sym (ap (at_most _) (natural-none _ c.if1.true) ∙ at_most-none _)
 
 decimal-requires : tie.Need-decimal-requires
 decimal-requires c κs = search rules
@@ -21,7 +21,7 @@ shared-slice-read-if3 : tie.Need-shared-slice-read-if3
 shared-slice-read-if3 c = search rules
 
 returns-3 : tie.Need-returns-3
-returns-3 c = sym (ap (at_most _) (natural-zero _ c.before.before.before.if1.false c.before.before.if2.false c.if3.true) ∙ atMost-none _)
+returns-3 c = sym (ap (at_most _) (natural-zero _ c.before.before.before.if1.false c.before.before.if2.false c.if3.true) ∙ at_most-none _)
 
 decimal-requires-2 : tie.Need-decimal-requires-2
 decimal-requires-2 c κs = search rules

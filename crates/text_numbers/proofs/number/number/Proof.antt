@@ -2,7 +2,7 @@
 use mathlib.Core.Path.{sym, ap, ◌∙◌}
 use mathlib.Core.List.{List}
 use Prim.Native.Nat.{ℕ}
-use Rattle.text_numbers.specs.Number.{naturalOf, positive, negative}
+use Rattle.text_numbers.specs.Number.{natural_of, positive, negative}
 use Rattle.words.specs.OverLaws.{rest_of}
 use Rattle.text_numbers.proofs.Decimal.{number-none, number-minus, number-plain, positive-within, negative-within}
 use borrow.Author.Rules.{rules}
@@ -31,7 +31,7 @@ negative-requires : tie.Need-negative-requires
 negative-requires c κs = search rules
 
 returns-2 : tie.Need-returns-2
-returns-2 c = c.negative.ensures ∙ ap negative c.before.natural-of.ensures ∙ negative-within _ ∙ ap (λ (l : List ℕ). negative (naturalOf l)) (rest_of c.before.before.before.before.before.before.before.args.field.now 1) ∙ sym (number-minus _ c.before.before.before.before.before.if1.false c.before.before.before.if2.true)
+returns-2 c = c.negative.ensures ∙ ap negative c.before.natural-of.ensures ∙ negative-within _ ∙ ap (λ (l : List ℕ). negative (natural_of l)) (rest_of c.before.before.before.before.before.before.before.args.field.now 1) ∙ sym (number-minus _ c.before.before.before.before.before.if1.false c.before.before.before.if2.true)
 
 natural-of-requires-2 : tie.Need-natural-of-requires-2
 natural-of-requires-2 c κs = search rules

@@ -4,7 +4,7 @@ use mathlib.Core.List.{List}
 use Prim.Native.Nat.{ℕ, ◌≤◌}
 use lib.ListN.{length, set, length-set, length-drop}
 use Rattle.text_report.specs.Lines.{blank}
-use Rattle.words.specs.Answers.{endingName}
+use Rattle.words.specs.Answers.{ending_name}
 use Rattle.words.specs.OverLaws.{part, part-is}
 use Rattle.text_numbers.specs.PutLaws.{LedRoom, led-back, led-put}
 use Rattle.text_report.proofs.Spacing.{ending-few}
@@ -13,10 +13,10 @@ use Rattle.text_report.proofs.field.put_ending.Statement.{statement}
 use Rattle.text_report.proofs.field.put_ending.Tie as tie
 
 -- the bytes, and their room
-few : (c : tie.Start) → length (endingName c.args.ending) ≤ 8
+few : (c : tie.Start) → length (ending_name c.args.ending) ≤ 8
 few c = omega (arith, ending-few c.args.ending)
 
-room : (c : tie.Start) → LedRoom blank (endingName c.args.ending) c.args.text.now
+room : (c : tie.Start) → LedRoom blank (ending_name c.args.ending) c.args.text.now
 room c = record { room = omega (arith, few c, c.requires) }
 
 behind-blank : (text : List ℕ) → 9 ≤ length text → 8 ≤ length (part 1 (set text 0 blank))

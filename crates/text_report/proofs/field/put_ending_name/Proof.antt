@@ -4,7 +4,7 @@ use mathlib.Core.List.{List}
 use Prim.Native.Nat.{ℕ, ◌≤◌}
 use native.Mathlib.Omega.{arith}
 use lib.ListN.{length, take, length-take}
-use Rattle.words.specs.Answers.{Names, endingName}
+use Rattle.words.specs.Answers.{Names, ending_name}
 use Rattle.words.specs.AnswerLaws.{names-short}
 use Rattle.words.specs.declared.Name.{Name}
 use Rattle.text_numbers.specs.PutLaws.{Put-as}

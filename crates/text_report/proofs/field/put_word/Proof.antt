@@ -3,7 +3,7 @@ use native.Mathlib.Omega.{arith}
 use Prim.Native.Nat.{◌≤◌}
 use lib.ListN.{length, length-set}
 use Rattle.text_report.specs.Lines.{blank}
-use Rattle.text_numbers.specs.Number.{numberBytes}
+use Rattle.text_numbers.specs.Number.{number_bytes}
 use Rattle.text_numbers.specs.PutLaws.{number-eleven, Put-as, LedRoom, led-room, led-back, led-put}
 use mathlib.Core.Path.{◌≡◌, ap}
 use mathlib.Core.List.{◌∷◌}
@@ -23,10 +23,10 @@ same : (c : tie.Start) → again c.args.word ≡ c.args.word
 same c = back _ c.ranges.word.sfits
 
 -- the bytes, and their room
-few : (c : tie.Start) → length (numberBytes (again c.args.word)) ≤ 11
+few : (c : tie.Start) → length (number_bytes (again c.args.word)) ≤ 11
 few c = rw (same c) (number-eleven _ c.ranges.word.sfits)
 
-room : (c : tie.Start) → LedRoom blank (numberBytes (again c.args.word)) c.args.text.now
+room : (c : tie.Start) → LedRoom blank (number_bytes (again c.args.word)) c.args.text.now
 room c = record { room = omega (arith, few c, c.requires) }
 
 slice-write-text : tie.Need-slice-write-text
@@ -51,7 +51,7 @@ same_length : tie.Need-same-length
 same_length c = led-back (room c.before.before.before.before.before) c.before.before.put-number.new.1.0 c.before.before.put-number.auto.1.0
 
 returns : tie.Need-returns
-returns c = Put-as (ap (λ (z : ℤ). blank ∷ numberBytes z) (same c.before.before.before.before.before)) (led-put (room c.before.before.before.before.before) _ _ c.before.before.put-number.ensures)
+returns c = Put-as (ap (λ (z : ℤ). blank ∷ number_bytes z) (same c.before.before.before.before.before)) (led-put (room c.before.before.before.before.before) _ _ c.before.before.put-number.ensures)
 
 pub put-word-spec : {M : Type 1} → statement M
 put-word-spec =

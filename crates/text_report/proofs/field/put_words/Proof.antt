@@ -18,7 +18,7 @@ loop-holds : tie.Need-loop-init invariant-loop decreases-loop
 loop-holds c = worded-start _ _ c.before.requires
 
 mul-put-word : tie.Need-overflow-mul-put-word invariant-loop decreases-loop
-mul-put-word c = omega (arith, c.loop-test.true, c.before.before.before.well-formed)
+mul-put-word c = omega (arith, c.loop-test.true, c.before.before.before.well_formed)
 
 shared-slice-copy-out-put-word : tie.Need-shared-slice-copy-out-put-word invariant-loop decreases-loop
 shared-slice-copy-out-put-word c = c.loop-test.true
@@ -40,7 +40,7 @@ next : (c : tie.After-slice-known2 invariant-loop decreases-loop) → Worded c.b
 next c = worded-next c.before.before.before.before.before.before.loop.invariant c.before.before.before.before.before.loop-test.true c.before.before.before.before.put-word-arg.given _ _ c.before.before.put_word.ensures
 
 add_at : tie.Need-overflow-add-at invariant-loop decreases-loop
-add_at c = omega (arith, worded-inside (next c), worded-length (next c), c.before.before.before.before.before.before.before.before.well-formed)
+add_at c = omega (arith, worded-inside (next c), worded-length (next c), c.before.before.before.before.before.before.before.before.well_formed)
 
 add-i : tie.Need-overflow-add-i invariant-loop decreases-loop
 add-i c = omega (arith, c.before.before.before.before.before.loop-test.true)

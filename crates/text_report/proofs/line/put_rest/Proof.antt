@@ -12,7 +12,7 @@ slice-write-text : tie.Need-slice-write-text
 slice-write-text c = omega (arith, c.before.before.put-words.ensures.1, c.before.before.put-words.auto.1.0, c.before.before.before.before.before.requires)
 
 add-result : tie.Need-overflow-add-result
-add-result c = omega (arith, c.before.before.put-words.ensures.1, c.before.before.before.before.before.requires, c.before.before.before.before.before.well-formed)
+add-result c = omega (arith, c.before.before.put-words.ensures.1, c.before.before.before.before.before.requires, c.before.before.before.before.before.well_formed)
 
 same_length : tie.Need-same-length
 same_length c = simp length-set c.before.before.put-words.auto.1.0

@@ -7,7 +7,7 @@ use Rattle.words.specs.OverLaws.{back_in}
 use Rattle.text_numbers.specs.Number.{digits}
 use Rattle.text_numbers.specs.PutLaws.{put_byte}
 use Rattle.text_report.specs.Lines.{blank}
-use Rattle.text_report.proofs.Spacing.{SoFar, spacedWords, far-below, far-length, far-inside, far-space, far-next, count-few}
+use Rattle.text_report.proofs.Spacing.{SoFar, spaced_words, far-below, far-length, far-inside, far-space, far-next, count-few}
 use borrow.Author.Rules.{rules}
 use Rattle.text_report.proofs.line.put_written.Statement.{statement}
 use Rattle.text_report.proofs.line.put_written.Tie as tie
@@ -16,7 +16,7 @@ put-words-requires : tie.Need-put-words-requires
 put-words-requires c κs = omega (arith, c.before.before.requires)
 
 -- the words, then the number, and their room
-worded : (c : tie.After-slice-known2) → SoFar (12 * length c.before.before.before.before.before.args.words.now) (spacedWords c.before.before.before.before.before.args.words.now) c.before.before.before.before.before.args.text.now c.before.before.put-words.result c.before.before.put-words.new.1.0
+worded : (c : tie.After-slice-known2) → SoFar (12 * length c.before.before.before.before.before.args.words.now) (spaced_words c.before.before.before.before.before.args.words.now) c.before.before.before.before.before.args.text.now c.before.before.put-words.result c.before.before.put-words.new.1.0
 worded c = record { put = c.before.before.put-words.ensures.0; few = omega (arith, c.before.before.put-words.ensures.0.size, c.before.before.put-words.ensures.1); room = omega (arith, c.before.before.before.before.before.requires) }
 
 sub-put-count : tie.Need-overflow-sub-put-count
@@ -31,17 +31,17 @@ part-put-count-end c = search rules
 put-count-requires : tie.Need-put-count-requires
 put-count-requires c κs = far-space (worded c.before) 21 (omega (arith, c.before.before.before.before.before.before.requires))
 
-numbered : (c : tie.After-slice-known3) → SoFar (12 * length c.before.before.before.before.before.before.before.before.before.args.words.now + 11) (spacedWords c.before.before.before.before.before.before.before.before.before.args.words.now ++ (blank ∷ digits c.before.before.before.before.before.before.before.before.before.args.written)) c.before.before.before.before.before.before.before.before.before.args.text.now (c.before.before.before.before.before.before.put-words.result + c.before.before.put_count.result) (back_in c.before.before.before.before.before.before.put-words.result c.before.before.before.before.before.before.put-words.new.1.0 c.before.before.put_count.new.1.0)
+numbered : (c : tie.After-slice-known3) → SoFar (12 * length c.before.before.before.before.before.before.before.before.before.args.words.now + 11) (spaced_words c.before.before.before.before.before.before.before.before.before.args.words.now ++ (blank ∷ digits c.before.before.before.before.before.before.before.before.before.args.written)) c.before.before.before.before.before.before.before.before.before.args.text.now (c.before.before.before.before.before.before.put-words.result + c.before.before.put_count.result) (back_in c.before.before.before.before.before.before.put-words.result c.before.before.before.before.before.before.put-words.new.1.0 c.before.before.put_count.new.1.0)
 numbered c = far-next (worded c.before.before.before.before) _ 11 (count-few _ c.before.before.before.before.before.before.before.before.before.ranges.written.fits) (omega (arith, c.before.before.before.before.before.before.before.before.before.requires)) _ _ c.before.before.put_count.ensures
 
 add-end : tie.Need-overflow-add-end
-add-end c = omega (arith, far-below (numbered c), c.before.before.before.before.before.before.before.before.before.requires, c.before.before.before.before.before.before.before.before.before.well-formed)
+add-end c = omega (arith, far-below (numbered c), c.before.before.before.before.before.before.before.before.before.requires, c.before.before.before.before.before.before.before.before.before.well_formed)
 
 slice-write-text : tie.Need-slice-write-text
 slice-write-text c = omega (arith, far-below (numbered c), far-length (numbered c), c.before.before.before.before.before.before.before.before.before.requires)
 
 add-result : tie.Need-overflow-add-result
-add-result c = omega (arith, far-below (numbered c), c.before.before.before.before.before.before.before.before.before.requires, c.before.before.before.before.before.before.before.before.before.well-formed)
+add-result c = omega (arith, far-below (numbered c), c.before.before.before.before.before.before.before.before.before.requires, c.before.before.before.before.before.before.before.before.before.well_formed)
 
 same_length : tie.Need-same-length
 same_length c = simp length-set (far-length (numbered c))

@@ -6,7 +6,7 @@ use Rattle.text_numbers.specs.Number.{digits}
 use Rattle.words.specs.OverLaws.{back_in}
 use lib.ListN.{length-set}
 use Rattle.text_numbers.specs.PutLaws.{Put-as, put_byte}
-use Rattle.text_report.specs.Lines.{blank, refusedName}
+use Rattle.text_report.specs.Lines.{blank, refused_name}
 use Rattle.text_report.proofs.Spacing.{SoFar, far-below, far-length, far-inside, far-space, far-next, count-few, place-few, refused-is}
 use borrow.Author.Rules.{rules}
 use Rattle.text_report.proofs.line.refused_line.Statement.{statement}
@@ -18,7 +18,7 @@ slice-aggregate-put-bytes c = search rules
 put-bytes-requires : tie.Need-put-bytes-requires
 put-bytes-requires c κs = omega (arith, c.before.before.before.requires)
 
-named : (c : tie.After-struct-known) → SoFar 7 refusedName c.before.before.before.before.before.before.before.args.text.now c.before.before.before.put-bytes.result c.before.before.before.put-bytes.new.1.0
+named : (c : tie.After-struct-known) → SoFar 7 refused_name c.before.before.before.before.before.before.before.args.text.now c.before.before.before.put-bytes.result c.before.before.before.put-bytes.new.1.0
 named c = record { put = c.before.before.before.put-bytes.ensures; few = omega arith; room = omega (arith, c.before.before.before.before.before.before.before.requires) }
 
 cast-put-count : tie.Need-overflow-cast-put-count
@@ -36,7 +36,7 @@ part-put-count-end c = search rules
 put-count-requires : tie.Need-put-count-requires
 put-count-requires c κs = far-space (named c.before) 21 (omega (arith, c.before.before.before.before.before.before.before.before.requires))
 
-numbered : (c : tie.After-slice-known3) → SoFar 18 (refusedName ++ (blank ∷ digits c.before.before.before.before.before.before.before.before.before.before.before.args.refusal.number)) c.before.before.before.before.before.before.before.before.before.before.before.args.text.now (c.before.before.before.before.before.before.before.put-bytes.result + c.before.before.put_count.result) (back_in c.before.before.before.before.before.before.before.put-bytes.result c.before.before.before.before.before.before.before.put-bytes.new.1.0 c.before.before.put_count.new.1.0)
+numbered : (c : tie.After-slice-known3) → SoFar 18 (refused_name ++ (blank ∷ digits c.before.before.before.before.before.before.before.before.before.before.before.args.refusal.number)) c.before.before.before.before.before.before.before.before.before.before.before.args.text.now (c.before.before.before.before.before.before.before.put-bytes.result + c.before.before.put_count.result) (back_in c.before.before.before.before.before.before.before.put-bytes.result c.before.before.before.before.before.before.before.put-bytes.new.1.0 c.before.before.put_count.new.1.0)
 numbered c = far-next (named c.before.before.before.before) _ 11 (count-few _ (omega (arith, c.before.before.before.before.struct_known.given))) (omega (arith, c.before.before.before.before.before.before.before.before.before.before.before.requires)) _ _ c.before.before.put_count.ensures
 
 add-numbered : tie.Need-overflow-add-numbered
@@ -54,7 +54,7 @@ part-put-count-end-2 c = search rules
 put-count-requires-2 : tie.Need-put-count-requires-2
 put-count-requires-2 c κs = far-space (numbered c.before) 21 (omega (arith, c.before.before.before.before.before.before.before.before.before.before.before.before.requires))
 
-placed : (c : tie.After-slice-known4) → SoFar 39 ((refusedName ++ (blank ∷ digits c.before.before.before.before.before.before.before.before.before.before.before.before.before.before.before.args.refusal.number)) ++ (blank ∷ digits c.before.before.before.before.before.before.before.before.before.before.before.before.before.before.before.args.refusal.place)) c.before.before.before.before.before.before.before.before.before.before.before.before.before.before.before.args.text.now (c.before.before.before.before.before.before.before.before.before.before.before.put-bytes.result + c.before.before.before.before.before.before.put_count.result + c.before.before.put-count2.result) (back_in (c.before.before.before.before.before.before.before.before.before.before.before.put-bytes.result + c.before.before.before.before.before.before.put_count.result) (back_in c.before.before.before.before.before.before.before.before.before.before.before.put-bytes.result c.before.before.before.before.before.before.before.before.before.before.before.put-bytes.new.1.0 c.before.before.before.before.before.before.put_count.new.1.0) c.before.before.put-count2.new.1.0)
+placed : (c : tie.After-slice-known4) → SoFar 39 ((refused_name ++ (blank ∷ digits c.before.before.before.before.before.before.before.before.before.before.before.before.before.before.before.args.refusal.number)) ++ (blank ∷ digits c.before.before.before.before.before.before.before.before.before.before.before.before.before.before.before.args.refusal.place)) c.before.before.before.before.before.before.before.before.before.before.before.before.before.before.before.args.text.now (c.before.before.before.before.before.before.before.before.before.before.before.put-bytes.result + c.before.before.before.before.before.before.put_count.result + c.before.before.put-count2.result) (back_in (c.before.before.before.before.before.before.before.before.before.before.before.put-bytes.result + c.before.before.before.before.before.before.put_count.result) (back_in c.before.before.before.before.before.before.before.before.before.before.before.put-bytes.result c.before.before.before.before.before.before.before.before.before.before.before.put-bytes.new.1.0 c.before.before.before.before.before.before.put_count.new.1.0) c.before.before.put-count2.new.1.0)
 placed c = far-next (numbered c.before.before.before.before) _ 21 (place-few _ (omega (arith, c.before.before.before.before.before.before.before.before.struct_known.given))) (omega (arith, c.before.before.before.before.before.before.before.before.before.before.before.before.before.before.before.requires)) _ _ c.before.before.put-count2.ensures
 
 add-end : tie.Need-overflow-add-end

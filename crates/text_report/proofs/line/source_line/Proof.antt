@@ -2,11 +2,11 @@
 use native.Mathlib.Omega.{arith}
 use mathlib.Core.List.{◌∷◌, ◌++◌}
 use Prim.Native.Nat.{◌+◌}
-use Rattle.words.specs.Answers.{endingName}
+use Rattle.words.specs.Answers.{ending_name}
 use Rattle.text_numbers.specs.Number.{digits}
 use Rattle.words.specs.OverLaws.{back_in}
 use Rattle.text_numbers.specs.PutLaws.{Put-as, put_next, put_back}
-use Rattle.text_report.specs.Lines.{blank, sourceName}
+use Rattle.text_report.specs.Lines.{blank, source_name}
 use Rattle.text_report.proofs.Spacing.{SoFar, far-below, far-inside, far-space, far-next, far-total, ending-few, count-few, source_is}
 use borrow.Author.Rules.{rules}
 use Rattle.text_report.proofs.line.source_line.Statement.{statement}
@@ -18,7 +18,7 @@ slice-aggregate-put-bytes c = search rules
 put-bytes-requires : tie.Need-put-bytes-requires
 put-bytes-requires c κs = omega (arith, c.before.before.before.requires)
 
-named : (c : tie.After-slice-known2) → SoFar 6 (sourceName) c.before.before.before.before.before.before.args.text.now c.before.before.put-bytes.result c.before.before.put-bytes.new.1.0
+named : (c : tie.After-slice-known2) → SoFar 6 (source_name) c.before.before.before.before.before.before.args.text.now c.before.before.put-bytes.result c.before.before.put-bytes.new.1.0
 named c = record { put = c.before.before.put-bytes.ensures; few = omega arith; room = omega (arith, c.before.before.before.before.before.before.requires) }
 
 sub-put-ending : tie.Need-overflow-sub-put-ending
@@ -33,7 +33,7 @@ part-put-ending-end c = search rules
 put-ending-requires : tie.Need-put-ending-requires
 put-ending-requires c κs = far-space (named c.before) 9 (omega (arith, c.before.before.before.before.before.before.before.requires))
 
-ended : (c : tie.After-slice-known3) → SoFar 15 (sourceName ++ (blank ∷ endingName c.before.before.before.before.before.before.before.before.before.before.args.ending)) c.before.before.before.before.before.before.before.before.before.before.args.text.now (c.before.before.before.before.before.before.put-bytes.result + c.before.before.put-ending.result) (back_in c.before.before.before.before.before.before.put-bytes.result c.before.before.before.before.before.before.put-bytes.new.1.0 c.before.before.put-ending.new.1.0)
+ended : (c : tie.After-slice-known3) → SoFar 15 (source_name ++ (blank ∷ ending_name c.before.before.before.before.before.before.before.before.before.before.args.ending)) c.before.before.before.before.before.before.before.before.before.before.args.text.now (c.before.before.before.before.before.before.put-bytes.result + c.before.before.put-ending.result) (back_in c.before.before.before.before.before.before.put-bytes.result c.before.before.before.before.before.before.put-bytes.new.1.0 c.before.before.put-ending.new.1.0)
 ended c = far-next (named c.before.before.before.before) _ 9 (ending-few c.before.before.before.before.before.before.before.before.before.before.args.ending) (omega (arith, c.before.before.before.before.before.before.before.before.before.before.requires)) _ _ c.before.before.put-ending.ensures
 
 add-ended : tie.Need-overflow-add-ended
@@ -51,7 +51,7 @@ part-put-count-end c = search rules
 put-count-requires : tie.Need-put-count-requires
 put-count-requires c κs = far-space (ended c.before) 21 (omega (arith, c.before.before.before.before.before.before.before.before.before.before.before.requires))
 
-counted : (c : tie.After-slice-known4) → SoFar 26 ((sourceName ++ (blank ∷ endingName c.before.before.before.before.before.before.before.before.before.before.before.before.before.before.args.ending)) ++ (blank ∷ digits c.before.before.before.before.before.before.before.before.before.before.before.before.before.before.args.count)) c.before.before.before.before.before.before.before.before.before.before.before.before.before.before.args.text.now (c.before.before.before.before.before.before.before.before.before.before.put-bytes.result + c.before.before.before.before.before.before.put-ending.result + c.before.before.put_count.result) (back_in (c.before.before.before.before.before.before.before.before.before.before.put-bytes.result + c.before.before.before.before.before.before.put-ending.result) (back_in c.before.before.before.before.before.before.before.before.before.before.put-bytes.result c.before.before.before.before.before.before.before.before.before.before.put-bytes.new.1.0 c.before.before.before.before.before.before.put-ending.new.1.0) c.before.before.put_count.new.1.0)
+counted : (c : tie.After-slice-known4) → SoFar 26 ((source_name ++ (blank ∷ ending_name c.before.before.before.before.before.before.before.before.before.before.before.before.before.before.args.ending)) ++ (blank ∷ digits c.before.before.before.before.before.before.before.before.before.before.before.before.before.before.args.count)) c.before.before.before.before.before.before.before.before.before.before.before.before.before.before.args.text.now (c.before.before.before.before.before.before.before.before.before.before.put-bytes.result + c.before.before.before.before.before.before.put-ending.result + c.before.before.put_count.result) (back_in (c.before.before.before.before.before.before.before.before.before.before.put-bytes.result + c.before.before.before.before.before.before.put-ending.result) (back_in c.before.before.before.before.before.before.before.before.before.before.put-bytes.result c.before.before.before.before.before.before.before.before.before.before.put-bytes.new.1.0 c.before.before.before.before.before.before.put-ending.new.1.0) c.before.before.put_count.new.1.0)
 counted c = far-next (ended c.before.before.before.before) _ 11 (count-few _ c.before.before.before.before.before.before.before.before.before.before.before.before.before.before.ranges.count.fits) (omega (arith, c.before.before.before.before.before.before.before.before.before.before.before.before.before.before.requires)) _ _ c.before.before.put_count.ensures
 
 add-counted : tie.Need-overflow-add-counted
@@ -70,7 +70,7 @@ put-written-requires : tie.Need-put-written-requires
 put-written-requires c κs = far-space (counted c.before) _ (omega (arith, c.before.before.before.before.before.before.before.before.before.before.before.before.before.before.before.requires))
 
 add-result : tie.Need-overflow-add-result
-add-result c = omega (arith, far-total (counted c.before.before.before.before) c.before.before.Put-written.ensures.0 c.before.before.Put-written.auto.1.1.0, c.before.before.before.before.before.before.before.before.before.before.before.before.before.before.before.before.before.before.well-formed)
+add-result c = omega (arith, far-total (counted c.before.before.before.before) c.before.before.Put-written.ensures.0 c.before.before.Put-written.auto.1.1.0, c.before.before.before.before.before.before.before.before.before.before.before.before.before.before.before.before.before.before.well_formed)
 
 same_length : tie.Need-same-length
 same_length c = put_back (counted c.before.before.before.before).put c.before.before.Put-written.new.1.1.0 (omega (arith, (counted c.before.before.before.before).few, (counted c.before.before.before.before).room)) c.before.before.Put-written.auto.1.1.0

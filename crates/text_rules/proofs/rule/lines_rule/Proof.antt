@@ -1,7 +1,7 @@
 -- `lines_rule`: causes 1 and 2 by the first line in a scratch array, the rest by `program_rule`.
 use mathlib.Core.Path.{refl, ap, ◌∙◌}
-use Rattle.text_form.specs.Reader.{causeSays}
-use Rattle.text_form.specs.ReaderLaws.{line-exactly, scratch-holds}
+use Rattle.text_form.specs.Reader.{cause_says}
+use Rattle.text_form.proofs.ReaderLaws.{line-exactly, scratch-holds}
 use Rattle.text_rules.proofs.Within.{lines-cause, lines-refused, lines-within}
 use borrow.Author.Rules.{rules}
 use Rattle.text_rules.proofs.rule.lines_rule.Statement.{statement}
@@ -42,7 +42,7 @@ returns : tie.Need-returns
 returns c =
     let s = c.before.before.before.before.before.before.before.before.before.before.before in
     let cause = lines-cause s.requires.0 _ _ _ c.before.before.before.before.before.before.before.store-numbers.ensures c.before.before.before.trial-cause.ensures in
-    lines-refused s.requires.0 _ (cause ∙ ap causeSays c.before.cause.given.1)
+    lines-refused s.requires.0 _ (cause ∙ ap cause_says c.before.cause.given.1)
 
 enum_told : tie.Need-enum-told
 enum_told c = search rules
@@ -51,7 +51,7 @@ program-rule-requires : tie.Need-program-rule-requires
 program-rule-requires c κs =
     let s = c.before.before.before.before.before.before.before.before.before.before.before.before in
     let cause = lines-cause s.requires.0 _ _ _ c.before.before.before.before.before.before.before.before.store-numbers.ensures c.before.before.before.before.trial-cause.ensures in
-    (lines-within s.requires.0 (cause ∙ ap causeSays c.before.before.enum_told.given.1), s.requires.1)
+    (lines-within s.requires.0 (cause ∙ ap cause_says c.before.before.enum_told.given.1), s.requires.1)
 
 same_length : tie.Need-same-length
 same_length c = search rules

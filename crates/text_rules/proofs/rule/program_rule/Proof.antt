@@ -22,7 +22,7 @@ part-check-end : tie.Need-slice-bounds-check-end
 part-check-end c =
     let s = c.before.before.before.before.before.before.before.before.before.before in
     let tables = within-read s.requires.0 _ _ _ _ s.requires.1.0 s.requires.1.1 _ _ (rw c.before.before.answer.given.1 at c.before.before.before.before.before.before.read.ensures) in
-    omega (arith, c.before.before.before.before.before.before.read.auto.1.1.0, s.requires.1.0, tables.header-inside)
+    omega (arith, c.before.before.before.before.before.before.read.auto.1.1.0, s.requires.1.0, tables.header_inside)
 
 sub-check-2 : tie.Need-overflow-sub-check-2
 sub-check-2 c = search rules

@@ -4,7 +4,7 @@ use native.Mathlib.Omega.{arith}
 use borrow.Author.Rules.{rules}
 use mir.Syntax.{w32}
 use mir.Facts.{to_z_pos}
-use Rattle.words.specs.Laws.{headerFits-facts, back}
+use Rattle.words.specs.Laws.{header_fits-facts, back}
 use Rattle.words.specs.declared.Form.TheVariants.{Source}
 use Rattle.words.specs.OverLaws.{length_over}
 use Rattle.translator.specs.HeaderLaws.{header-over}
@@ -12,7 +12,7 @@ use Rattle.translator.proofs.header.write_header.Statement.{statement}
 use Rattle.translator.proofs.header.write_header.Tie as tie
 
 shared-slice-copy-out-t7 : tie.Need-shared-slice-copy-out-t7
-shared-slice-copy-out-t7 c = omega (arith, (headerFits-facts Source c.args.header.now c.requires.0).least)
+shared-slice-copy-out-t7 c = omega (arith, (header_fits-facts Source c.args.header.now c.requires.0).least)
 
 cast-t8 : tie.Need-overflow-cast-t8
 cast-t8 c = search rules
@@ -26,17 +26,17 @@ slice-aggregate-put c = search rules
 put-requires : tie.Need-put-requires
 put-requires c κs =
     let start = c.before.before.before in
-    omega (arith, start.requires.3, (headerFits-facts Source start.args.header.now start.requires.0).least)
+    omega (arith, start.requires.3, (header_fits-facts Source start.args.header.now start.requires.0).least)
 
 sub-put : tie.Need-overflow-sub-put
 sub-put c =
     let start = c.before.before.before.before.before in
-    omega (arith, (headerFits-facts Source start.args.header.now start.requires.0).least)
+    omega (arith, (header_fits-facts Source start.args.header.now start.requires.0).least)
 
 part-put-start : tie.Need-slice-bounds-put-start
 part-put-start c =
     let start = c.before.before.before.before.before in
-    omega (arith, (headerFits-facts Source start.args.header.now start.requires.0).least)
+    omega (arith, (header_fits-facts Source start.args.header.now start.requires.0).least)
 
 part-put-end : tie.Need-slice-bounds-put-end
 part-put-end c = search rules
@@ -44,14 +44,14 @@ part-put-end c = search rules
 sub-put-2 : tie.Need-overflow-sub-put-2
 sub-put-2 c =
     let start = c.before.before.before.before.before.before in
-    let kept = length_over _ start.args.out.now _ c.before.before.put.ensures (omega (arith, start.requires.3, (headerFits-facts Source start.args.header.now start.requires.0).least)) in
-    omega (arith, kept, start.requires.3, (headerFits-facts Source start.args.header.now start.requires.0).least)
+    let kept = length_over _ start.args.out.now _ c.before.before.put.ensures (omega (arith, start.requires.3, (header_fits-facts Source start.args.header.now start.requires.0).least)) in
+    omega (arith, kept, start.requires.3, (header_fits-facts Source start.args.header.now start.requires.0).least)
 
 part-put-start-2 : tie.Need-slice-bounds-put-start-2
 part-put-start-2 c =
     let start = c.before.before.before.before.before.before in
-    let kept = length_over _ start.args.out.now _ c.before.before.put.ensures (omega (arith, start.requires.3, (headerFits-facts Source start.args.header.now start.requires.0).least)) in
-    omega (arith, kept, start.requires.3, (headerFits-facts Source start.args.header.now start.requires.0).least)
+    let kept = length_over _ start.args.out.now _ c.before.before.put.ensures (omega (arith, start.requires.3, (header_fits-facts Source start.args.header.now start.requires.0).least)) in
+    omega (arith, kept, start.requires.3, (header_fits-facts Source start.args.header.now start.requires.0).least)
 
 part-put-end-2 : tie.Need-slice-bounds-put-end-2
 part-put-end-2 c = search rules

@@ -27,7 +27,7 @@ part-run-source-start c = search rules
 part-run-source-end : tie.Need-slice-bounds-run-source-end
 part-run-source-end c =
     let h = rw c.before.before.answer.given.1 at c.before.before.before.before.before.before.read-rule.ensures in
-    omega (arith, c.before.before.before.before.before.before.read-rule.auto.1.0, h.header-inside)
+    omega (arith, c.before.before.before.before.before.before.read-rule.auto.1.0, h.header_inside)
 
 sub-run-source-2 : tie.Need-overflow-sub-run-source-2
 sub-run-source-2 c = search rules

@@ -2,7 +2,7 @@
 use mathlib.Core.Path.{ap, ◌∙◌}
 use native.Mathlib.Omega.{arith}
 use Rattle.words.specs.declared.Form.TheVariants.{Kernel}
-use Rattle.program_runs.specs.AcceptedLaws.{accepted-header}
+use Rattle.program_runs.proofs.AcceptedLaws.{accepted-header}
 use Rattle.words.specs.Layout.{zeros}
 use Rattle.words.specs.Laws.{zeros-part}
 use borrow.Author.Rules.{rules}

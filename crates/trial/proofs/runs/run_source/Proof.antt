@@ -4,7 +4,7 @@ use Prim.Native.Nat.{◌≤◌}
 use native.Mathlib.Omega.{arith}
 use Rattle.words.specs.Layout.{zeros}
 use Rattle.words.specs.Laws.{zeros-part}
-use Rattle.text_rules.specs.Rules.{IsAccepted, storeRoom}
+use Rattle.text_rules.specs.Rules.{IsAccepted, store_room}
 use Rattle.text_rules.specs.RuleLaws.{rule-store}
 use borrow.Author.Rules.{rules}
 use lib.IntN.{pos}
@@ -12,11 +12,11 @@ use lib.ListN.{length-replicate}
 use Rattle.trial.proofs.runs.run_source.Statement.{statement}
 use Rattle.trial.proofs.runs.run_source.Tie as tie
 
-few : (c : tie.After-store-words) → c.store_words_lem.result ≤ storeRoom
+few : (c : tie.After-store-words) → c.store_words_lem.result ≤ store_room
 few c =
     let start = c.before.before in
     let f = start.requires.0 in
-    let allowed : IsAccepted start.args.header.now start.args.rows.now = record { header-fits = f.header-fits; few_words = f.few_words; few-rows = f.few-rows; checked = start.requires.1 } in
+    let allowed : IsAccepted start.args.header.now start.args.rows.now = record { header-fits = f.header-fits; few_words = f.few_words; few_rows = f.few_rows; checked = start.requires.1 } in
     omega (arith, c.store_words_lem.ensures, rule-store allowed)
 
 store-words-requires : tie.Need-store-words-requires

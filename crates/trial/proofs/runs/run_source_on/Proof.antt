@@ -4,7 +4,7 @@ use native.Mathlib.Omega.{arith}
 use Rattle.words.specs.declared.Form.TheVariants.{Source}
 use Rattle.text_numbers.specs.PutLaws.{Put-as, put_next}
 use Rattle.text_report.proofs.Spacing.{far-inside, far-total}
-use Rattle.trial.proofs.Started.{started-length, run-made, both-lines, first-inside, first-room, first-put, first-translates}
+use Rattle.trial.proofs.Started.{started-length, run-made, both_lines, first_inside, first-room, first-put, first-translates}
 use borrow.Author.Rules.{rules}
 use Rattle.trial.proofs.runs.run_source_on.Statement.{statement}
 use Rattle.trial.proofs.runs.run_source_on.Tie as tie
@@ -27,7 +27,7 @@ part-source-line-start : tie.Need-slice-bounds-source-line-start
 part-source-line-start c = search rules
 
 part-source-line-end : tie.Need-slice-bounds-source-line-end
-part-source-line-end c = first-inside c.before.before.before.before.before.before.before.requires c.before.before.before.before.run-accepted.new.1.1.1.0 c.before.before.before.before.run-accepted.auto.1.1.1.0 c.before.before.store-size.ensures
+part-source-line-end c = first_inside c.before.before.before.before.before.before.before.requires c.before.before.before.before.run-accepted.new.1.1.1.0 c.before.before.before.before.run-accepted.auto.1.1.1.0 c.before.before.store-size.ensures
 
 source-line-requires : tie.Need-source-line-requires
 source-line-requires c κs = first-room c.before.before.before.before.before.before.before.before.before.requires c.before.before.before.before.before.before.run-accepted.new.1.1.1.0 c.before.before.before.before.before.before.run-accepted.auto.1.1.1.0 c.before.before.before.before.store-size.ensures
@@ -47,7 +47,7 @@ run-translation-requires c κs =
 
 add-result : tie.Need-overflow-add-result
 add-result c =
-    omega (arith, far-total (first-put c.before.before.before.before.before.before.before.before.before.before.before.before.before.before.before.before.requires c.before.before.before.before.before.before.before.before.before.before.before.before.before.run-accepted.new.1.1.1.0 c.before.before.before.before.before.before.before.before.before.before.before.before.before.run-accepted.auto.1.1.1.0 c.before.before.before.before.before.before.before.before.before.before.before.store-size.ensures c.before.before.before.before.before.before.source-line.ensures.0 c.before.before.before.before.before.before.source-line.ensures.1 refl) c.before.before.run-translation.ensures c.before.before.run-translation.auto.1.1.0, c.before.before.before.before.before.before.before.before.before.before.before.before.before.before.before.before.well-formed)
+    omega (arith, far-total (first-put c.before.before.before.before.before.before.before.before.before.before.before.before.before.before.before.before.requires c.before.before.before.before.before.before.before.before.before.before.before.before.before.run-accepted.new.1.1.1.0 c.before.before.before.before.before.before.before.before.before.before.before.before.before.run-accepted.auto.1.1.1.0 c.before.before.before.before.before.before.before.before.before.before.before.store-size.ensures c.before.before.before.before.before.before.source-line.ensures.0 c.before.before.before.before.before.before.source-line.ensures.1 refl) c.before.before.run-translation.ensures c.before.before.run-translation.auto.1.1.0, c.before.before.before.before.before.before.before.before.before.before.before.before.before.before.before.before.well_formed)
 
 same_length : tie.Need-same-length
 same_length c = search rules
@@ -59,7 +59,7 @@ returns : tie.Need-returns
 returns c =
     let s = c.before.before.before.before.before.before.before.before.before.before.before.before.before.before.before.before in
     let made = run-made Source s.args.header.now s.args.rows.now s.args.store.now s.requires.starts _ _ c.before.before.before.before.before.before.before.before.before.before.before.before.before.run-accepted.ensures in
-    Put-as (both-lines made c.before.before.before.before.before.before.before.before.before.before.before.store-size.ensures c.before.before.before.before.before.before.before.before.before.before.accepted-count.ensures) (put_next c.before.before.before.before.before.before.source-line.ensures.0 _ _ _ c.before.before.run-translation.ensures)
+    Put-as (both_lines made c.before.before.before.before.before.before.before.before.before.before.before.store-size.ensures c.before.before.before.before.before.before.before.before.before.before.accepted-count.ensures) (put_next c.before.before.before.before.before.before.source-line.ensures.0 _ _ _ c.before.before.run-translation.ensures)
 
 pub run-source-on-spec : {M : Type 1} → statement M
 run-source-on-spec =

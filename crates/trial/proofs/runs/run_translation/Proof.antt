@@ -3,8 +3,8 @@ use mathlib.Core.Path.{refl}
 use native.Mathlib.Omega.{arith}
 use Rattle.words.specs.declared.Form.TheVariants.{Source}
 use Rattle.text_numbers.specs.PutLaws.{Put-as}
-use Rattle.program_runs.specs.AcceptedLaws.{accepted-header}
-use Rattle.translator.specs.TranslationLaws.{translation-made}
+use Rattle.program_runs.proofs.AcceptedLaws.{accepted-header}
+use Rattle.translator.proofs.TranslationLaws.{translation-made}
 use Rattle.trial.proofs.Translated.{read_fits, read-output, translated-accepted}
 use borrow.Author.Rules.{rules}
 use Rattle.trial.proofs.runs.run_translation.Statement.{statement}
@@ -35,7 +35,7 @@ part-run-kernel-end : tie.Need-slice-bounds-run-kernel-end
 part-run-kernel-end c =
     let s = c.before.before.before.before.before.before.before.before.before.before.before in
     let made = translation-made _ _ _ _ _ _ _ _ (rw c.before.before.answer.given.1 at c.before.before.before.before.before.before.translate-accepted.ensures.0) in
-    omega (arith, c.before.before.before.before.before.before.translate-accepted.auto.1.1.0, made.header-room)
+    omega (arith, c.before.before.before.before.before.before.translate-accepted.auto.1.1.0, made.header_room)
 
 sub-run-kernel-2 : tie.Need-overflow-sub-run-kernel-2
 sub-run-kernel-2 c = search rules
@@ -47,7 +47,7 @@ part-run-kernel-end-2 : tie.Need-slice-bounds-run-kernel-end-2
 part-run-kernel-end-2 c =
     let s = c.before.before.before.before.before.before.before.before.before.before.before.before.before in
     let made = translation-made _ _ _ _ _ _ _ _ (rw c.before.before.before.before.answer.given.1 at c.before.before.before.before.before.before.before.before.translate-accepted.ensures.0) in
-    omega (arith, c.before.before.before.before.before.before.before.before.translate-accepted.auto.1.1.1.0, made.rows-room)
+    omega (arith, c.before.before.before.before.before.before.before.before.translate-accepted.auto.1.1.1.0, made.rows_room)
 
 run-kernel-requires : tie.Need-run-kernel-requires
 run-kernel-requires c κs =

@@ -4,21 +4,21 @@ use Prim.Native.Nat.{ℕ, ◌-◌, ◌/◌, ◌≤◌}
 use native.Mathlib.Omega.{arith}
 use native.Mathlib.Numerals.{add-one}
 use lib.ListN.{length}
-use Rattle.words.specs.Declarations.{declarationsBefore, declarationCount}
+use Rattle.words.specs.Declarations.{declarations_before, declaration_count}
 use Rattle.words.specs.StoreLaws.{before-few}
 use Rattle.words.proofs.declarations.declaration_count.Statement.{statement}
 use Rattle.words.proofs.declarations.declaration_count.Tie as tie
 
 abbrev invariant-loop : tie.invariant-loop
 invariant-loop rows count₀ row₀ row-end count row =
-    (row ≤ row-end) × (row-end ≡ length rows / 6) × (count ≡ declarationsBefore rows row)
+    (row ≤ row-end) × (row-end ≡ length rows / 6) × (count ≡ declarations_before rows row)
 
 abbrev decreases-loop : tie.decreases-loop
 decreases-loop rows count₀ row₀ row-end count row =
     row-end - row
 
 loop-holds : tie.Need-loop-init invariant-loop decreases-loop
-unfolding declarationsBefore
+unfolding declarations_before
 loop-holds c =
     (omega arith, refl, refl)
 
@@ -35,14 +35,14 @@ loop-less c =
     omega arith
 
 loop-again : tie.Need-loop-preserved invariant-loop decreases-loop
-unfolding declarationsBefore
+unfolding declarations_before
 loop-again c =
     (omega arith, refl, rw (add-one, ← c.before.before.loop.invariant.2) c.counted.ensures)
 
 returns : tie.Need-returns invariant-loop decreases-loop
-unfolding declarationCount
+unfolding declaration_count
 returns c =
-    let e : c.before.loop.row ≡ length c.before.before.args.rows.now / 6 = omega arith in c.before.loop.invariant.2 ∙ ap (declarationsBefore c.before.before.args.rows.now) e
+    let e : c.before.loop.row ≡ length c.before.before.args.rows.now / 6 = omega arith in c.before.loop.invariant.2 ∙ ap (declarations_before c.before.before.args.rows.now) e
 
 pub declaration-count-spec : {M : Type 1} → statement M
 declaration-count-spec =

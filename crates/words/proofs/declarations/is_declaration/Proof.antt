@@ -1,5 +1,5 @@
 -- `is_declaration` asks for the number of the row's kind.
-use Rattle.words.specs.Declarations.{isDeclaration}
+use Rattle.words.specs.Declarations.{is_declaration}
 use borrow.Author.Rules.{rules}
 use Rattle.words.proofs.declarations.is_declaration.Statement.{statement}
 use Rattle.words.proofs.declarations.is_declaration.Tie as tie
@@ -8,7 +8,7 @@ number-at-requires : tie.Need-number-at-requires
 number-at-requires c κs = search rules
 
 returns : tie.Need-returns
-unfolding isDeclaration
+unfolding is_declaration
 returns c =
     rw (← c.number_at.ensures)
 

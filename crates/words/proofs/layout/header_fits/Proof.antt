@@ -6,7 +6,7 @@ use lib.ListN.{get_or}
 use borrow.Author.Rules.{rules}
 use borrow.Author.Tests.{le-leb, lt-leb}
 use Rattle.words.specs.Word.{natural}
-use Rattle.words.specs.Layout.{layout_of, storeSize, headerFits}
+use Rattle.words.specs.Layout.{layout_of, store_size, header_fits}
 use Rattle.words.specs.Laws.{leading-limits}
 use Rattle.words.proofs.Signed.{natural-again}
 use Rattle.words.proofs.Lengths.{part}
@@ -20,14 +20,14 @@ leading-requires : tie.Need-leading-requires
 leading-requires c κs = search rules
 
 returns : tie.Need-returns
-unfolding headerFits
+unfolding header_fits
 returns c = rw (← c.before.leading.ensures, lt-leb _ _ c.if1.true)
 
 add-if2 : tie.Need-overflow-add-if2
 add-if2 c = search rules
 
 returns-2 : tie.Need-returns-2
-unfolding headerFits
+unfolding header_fits
 returns-2 c =
     let p = c.before in
     rw (← p.before.leading.ensures, le-leb _ _ p.if1.false, lt-leb _ _ c.if2.true)
@@ -39,7 +39,7 @@ natural-requires : tie.Need-natural-requires
 natural-requires c κs = search rules
 
 returns-3 : tie.Need-returns-3
-unfolding headerFits layout_of
+unfolding header_fits layout_of
 returns-3 c =
     let two = c.before.before.before in
     let one = two.before in
@@ -49,7 +49,7 @@ declared-requires : tie.Need-declared-requires
 declared-requires c κs = search rules
 
 returns-4 : tie.Need-returns-4
-unfolding headerFits layout_of
+unfolding header_fits layout_of
 returns-4 c =
     let three = c.before.before in
     let two = three.before.before.before in
@@ -60,7 +60,7 @@ temporaries-requires : tie.Need-temporaries-requires
 temporaries-requires c κs = search rules
 
 returns-5 : tie.Need-returns-5
-unfolding headerFits layout_of
+unfolding header_fits layout_of
 returns-5 c =
     let four = c.before.before in
     let three = four.before.before in
@@ -84,7 +84,7 @@ lengths-fit-requires : tie.Need-lengths-fit-requires
 lengths-fit-requires c κs = search rules
 
 returns-6 : tie.Need-returns-6
-unfolding headerFits layout_of storeSize
+unfolding header_fits layout_of store_size
 returns-6 c =
     let five = c.before.before in
     let four = five.before.before in

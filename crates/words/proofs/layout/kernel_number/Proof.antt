@@ -3,7 +3,7 @@ use mathlib.Core.Path.{◌≡◌, sym, ap, ◌∙◌}
 use native.Mathlib.Omega.{arith}
 use borrow.Author.Rules.{rules}
 use Rattle.words.specs.Word.{natural}
-use Rattle.words.specs.Layout.{leading, kernelNumber}
+use Rattle.words.specs.Layout.{leading, kernel_number}
 use Rattle.words.specs.Laws.{back}
 use Rattle.words.specs.declared.Form.{Form}
 use Rattle.words.proofs.layout.kernel_number.Statement.{statement}
@@ -28,7 +28,7 @@ returns : tie.Need-returns
 returns c = search rules
 
 returns-2 : tie.Need-returns-2
-returns-2 c = c.natural.ensures ∙ ap natural (back _ c.before.natural-arg.given) ∙ sym (ap (λ (form : Form). kernelNumber form c.before.before.before.before.args.header.now c.before.before.before.before.args.place) c.before.before.enum-told2.given.1)
+returns-2 c = c.natural.ensures ∙ ap natural (back _ c.before.natural-arg.given) ∙ sym (ap (λ (form : Form). kernel_number form c.before.before.before.before.args.header.now c.before.before.before.before.args.place) c.before.before.enum-told2.given.1)
 
 pub kernel-number-spec : {M : Type 1} → statement M
 kernel-number-spec =

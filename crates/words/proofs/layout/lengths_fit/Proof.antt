@@ -6,7 +6,7 @@ use Prim.Native.Nat.{◌+◌, ◌*◌, ◌-◌, ◌≤◌}
 use native.Mathlib.Omega.{arith}
 use lib.ListN.{length}
 use Rattle.words.specs.Word.{natural}
-use Rattle.words.specs.Layout.{sum, allWithin}
+use Rattle.words.specs.Layout.{sum, all_within}
 use Rattle.words.proofs.Lengths.{Read, rest, sum-rest, length_none, length_over, length-within, sum-end, within_end}
 use Rattle.words.proofs.layout.lengths_fit.Statement.{statement}
 use Rattle.words.proofs.layout.lengths_fit.Tie as tie
@@ -15,7 +15,7 @@ abbrev invariant-loop : tie.invariant-loop
 invariant-loop lengths variables total₀ i₀ total i =
     (i ≤ length lengths)
     × (total + sum (rest lengths i) ≡ variables + sum (map natural lengths))
-    × (allWithin 4096 (rest lengths i) ≡ allWithin 4096 (map natural lengths))
+    × (all_within 4096 (rest lengths i) ≡ all_within 4096 (map natural lengths))
     × (total ≤ 256 + 4096 * i)
 
 abbrev decreases-loop : tie.decreases-loop

@@ -3,14 +3,14 @@ use native.Mathlib.Omega.{arith}
 use lib.IntN.{pos}
 use lib.ListN.{get_or}
 use borrow.Author.Rules.{rules}
-use Rattle.words.specs.Laws.{HeaderFits, leading-limits, headerFits-facts}
+use Rattle.words.specs.Laws.{HeaderFits, leading-limits, header_fits-facts}
 use Rattle.words.proofs.Signed.{natural-again}
 use Rattle.words.proofs.Lengths.{size_is}
 use Rattle.words.proofs.layout.store_size.Statement.{statement}
 use Rattle.words.proofs.layout.store_size.Tie as tie
 
 fits : (s : tie.Start) → HeaderFits s.args.form s.args.header.now
-fits s = headerFits-facts s.args.form s.args.header.now s.requires
+fits s = header_fits-facts s.args.form s.args.header.now s.requires
 
 leading-requires : tie.Need-leading-requires
 leading-requires c κs = search rules
@@ -31,7 +31,7 @@ sum-of-requires : tie.Need-sum-of-requires
 sum-of-requires c κs =
     let s = c.before.before in
     let f = c.before.leading in
-    omega (arith, size_is s.args.form s.args.header.now f.result f.ensures, (fits s).small-store)
+    omega (arith, size_is s.args.form s.args.header.now f.result f.ensures, (fits s).small_store)
 
 shared-slice-copy-out-natural : tie.Need-shared-slice-copy-out-natural
 shared-slice-copy-out-natural c =
@@ -49,7 +49,7 @@ returns c =
     omega (arith, c.before.before.sum_of.ensures, size_is s.args.form s.args.header.now f.result f.ensures)
 
 add-result : tie.Need-overflow-add-result
-add-result c = omega (arith, returns c, (fits c.before.before.before.before.before).small-store)
+add-result c = omega (arith, returns c, (fits c.before.before.before.before.before).small_store)
 
 pub store-size-spec : {M : Type 1} → statement M
 store-size-spec =

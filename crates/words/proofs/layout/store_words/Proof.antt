@@ -2,7 +2,7 @@
 use mathlib.Core.Path.{◌≡◌, sym, ap, ◌∙◌}
 use native.Mathlib.Omega.{arith}
 use borrow.Author.Rules.{rules}
-use Rattle.words.specs.Layout.{headerStore, store_words}
+use Rattle.words.specs.Layout.{header_store, store_words}
 use Rattle.words.specs.StoreLaws.{declarations-few, header-store-most}
 use Rattle.words.specs.declared.Form.{Form}
 use Rattle.words.proofs.layout.store_words.Statement.{statement}
@@ -20,7 +20,7 @@ declaration-count-requires c κs = search rules
 add-result : tie.Need-overflow-add-result
 add-result c =
     let s = c.before.before.before.before in
-    omega (arith, c.declaration-count.ensures, c.before.header-store.ensures, header-store-most s.args.form s.args.header.now s.requires, declarations-few s.args.rows.now, s.well-formed.1.1.0)
+    omega (arith, c.declaration-count.ensures, c.before.header-store.ensures, header-store-most s.args.form s.args.header.now s.requires, declarations-few s.args.rows.now, s.well_formed.1.1.0)
 
 enum-told-2 : tie.Need-enum-told-2
 enum-told-2 c = search rules
@@ -33,14 +33,14 @@ unfolding store_words
 returns c =
     let s = c.before.before.before.before in
     let source = c.before.before.enum_told.given.1 in
-    omega (arith, c.declaration-count.ensures, c.before.header-store.ensures, ap (λ (form : Form). headerStore form s.args.header.now) source, ap (λ (form : Form). store_words form s.args.header.now s.args.rows.now) source)
+    omega (arith, c.declaration-count.ensures, c.before.header-store.ensures, ap (λ (form : Form). header_store form s.args.header.now) source, ap (λ (form : Form). store_words form s.args.header.now s.args.rows.now) source)
 
 returns-2 : tie.Need-returns-2
 unfolding store_words
 returns-2 c =
     let s = c.before.before.before in
     let kernel = c.before.enum-told2.given.1 in
-    c.header-store2.ensures ∙ ap (λ (form : Form). headerStore form s.args.header.now) kernel ∙ sym (ap (λ (form : Form). store_words form s.args.header.now s.args.rows.now) kernel)
+    c.header-store2.ensures ∙ ap (λ (form : Form). header_store form s.args.header.now) kernel ∙ sym (ap (λ (form : Form). store_words form s.args.header.now s.args.rows.now) kernel)
 
 pub store-words-spec : {M : Type 1} → statement M
 store-words-spec =

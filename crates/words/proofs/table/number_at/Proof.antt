@@ -15,7 +15,7 @@ natural-requires c κs = search rules
 
 returns : tie.Need-returns
 unfolding number_at
-returns c = c.natural.ensures ∙ ap natural (back c.before.word_at.result c.before.word_at.type-inv ∙ c.before.word_at.ensures)
+returns c = c.natural.ensures ∙ ap natural (back c.before.word-at.result c.before.word-at.type-inv ∙ c.before.word-at.ensures)
 
 pub number-at-spec : {M : Type 1} → statement M
 number-at-spec = tie.close (tie.spec word-at-requires natural-requires returns)

@@ -1,6 +1,6 @@
 -- What a function can write: its parameters, and what its block can.
 use native.Mathlib.Omega.{arith}
-use Rattle.write_sets_functions.proofs.DefinitionLaws.{parameters-inside, body-block, items-inside, function-written}
+use Rattle.write_sets_functions.proofs.DefinitionLaws.{parameters_inside, body-block, items-inside, function-written}
 use borrow.Author.Rules.{rules}
 use Rattle.write_sets_functions.proofs.functions.function_writes.Statement.{statement}
 use Rattle.write_sets_functions.proofs.functions.function_writes.Tie as tie
@@ -9,7 +9,7 @@ number-at-requires : tie.Need-number-at-requires
 number-at-requires c κs = search rules
 
 parameter-words-requires : tie.Need-parameter-words-requires
-parameter-words-requires c κs = let p = c.before.before.requires in (p.0.source, p.0.names, parameters-inside p.0.source p.1.inside p.1.definition c.number_at.ensures)
+parameter-words-requires c κs = let p = c.before.before.requires in (p.0.source, p.0.names, parameters_inside p.0.source p.1.inside p.1.definition c.number_at.ensures)
 
 number-at-requires-2 : tie.Need-number-at-requires-2
 number-at-requires-2 c κs = search rules

@@ -2,9 +2,9 @@
 use mathlib.Core.Path.{◌≡◌, refl, sym, ◌∙◌}
 use native.Mathlib.Omega.{arith}
 use lib.ListN.{length}
-use Rattle.words.specs.Table.{rowCount}
+use Rattle.words.specs.Table.{row_count}
 use Rattle.write_sets_rows.proofs.WriteLaws.{one-function-more}
-use Rattle.write_sets_rows.proofs.ArgumentLaws.{rowsLeft}
+use Rattle.write_sets_rows.proofs.ArgumentLaws.{rows_left}
 use Rattle.write_sets_functions.proofs.DefinitionLaws.{there, Filling, filling-none, function-here, filling-next, filling-walks, filling-all, next-falls}
 use Rattle.write_sets_functions.proofs.functions.gather_functions.Statement.{statement}
 use Rattle.write_sets_functions.proofs.functions.gather_functions.Tie as tie
@@ -13,10 +13,10 @@ abbrev invariant-loop : tie.invariant-loop
 invariant-loop store rows sets₀ row₀ known₀ sets row known = Filling store rows sets known row × (length sets ≡ length sets₀)
 
 abbrev decreases-loop : tie.decreases-loop
-decreases-loop store rows sets₀ row₀ known₀ sets row known = rowsLeft (rowCount rows) row
+decreases-loop store rows sets₀ row₀ known₀ sets row known = rows_left (row_count rows) row
 
 number-at-requires : tie.Need-number-at-requires invariant-loop decreases-loop
-number-at-requires c κs = omega (arith, c.before.requires.0.sound.whole, c.before.requires.0.sound.some-rows)
+number-at-requires c κs = omega (arith, c.before.requires.0.sound.whole, c.before.requires.0.sound.some_rows)
 
 loop-holds : tie.Need-loop-init invariant-loop decreases-loop
 loop-holds c = (filling-none c.before.before.requires.0 c.number_at.ensures, refl)
@@ -31,7 +31,7 @@ put-set-requires : tie.Need-put-set-requires invariant-loop decreases-loop
 put-set-requires c κs = let k = c.before.before.before.before.before.loop.invariant.0.low (there c.before.before.before.before.before.before.before.before.args.rows.now c.before.before.before.before.before.loop.row (sym c.before.before.before.before.is-definition.ensures ∙ c.before.before.before.if1.true)) in omega (arith, k, c.before.before.before.before.before.loop.invariant.0.inside, c.before.before.before.before.before.before.before.before.requires.2, c.before.before.before.before.before.loop.invariant.1)
 
 add-known : tie.Need-overflow-add-known invariant-loop decreases-loop
-add-known c = let k = c.before.before.before.before.before.before.before.before.loop.invariant.0.low (there c.before.before.before.before.before.before.before.before.before.before.before.args.rows.now c.before.before.before.before.before.before.before.before.loop.row (sym c.before.before.before.before.before.before.before.is-definition.ensures ∙ c.before.before.before.before.before.before.if1.true)) in omega (arith, k, c.before.before.before.before.before.before.before.before.loop.invariant.0.inside, c.before.before.before.before.before.before.before.before.before.before.before.requires.0.few-rows)
+add-known c = let k = c.before.before.before.before.before.before.before.before.loop.invariant.0.low (there c.before.before.before.before.before.before.before.before.before.before.before.args.rows.now c.before.before.before.before.before.before.before.before.loop.row (sym c.before.before.before.before.before.before.before.is-definition.ensures ∙ c.before.before.before.before.before.before.if1.true)) in omega (arith, k, c.before.before.before.before.before.before.before.before.loop.invariant.0.inside, c.before.before.before.before.before.before.before.before.before.before.before.requires.0.few_rows)
 
 number-at-requires-2 : tie.Need-number-at-requires-2 invariant-loop decreases-loop
 number-at-requires-2 c κs = omega (arith, c.before.before.before.before.before.before.before.before.before.before.before.requires.0.sound.whole, c.before.before.before.before.before.before.before.before.loop.invariant.0.inside)

@@ -1,6 +1,6 @@
 -- The links of an arm, by what the row is.
 use Rattle.language_shapes.specs.ShapeLaws.{armed}
-use Rattle.write_sets_functions.proofs.StepLaws.{some-arm, no_arm}
+use Rattle.write_sets_functions.proofs.StepLaws.{some-arm, no-arm}
 use borrow.Author.Rules.{rules}
 use Rattle.write_sets_functions.proofs.steps.arm_links.Statement.{statement}
 use Rattle.write_sets_functions.proofs.steps.arm_links.Tie as tie
@@ -21,7 +21,7 @@ returns : tie.Need-returns
 returns c = some-arm (armed c.before.before.before.arm_at.ensures c.before.shape.given.1) c.before.before.before.before.number_at.ensures
 
 returns-2 : tie.Need-returns-2
-returns-2 c = no_arm (armed c.before.before.arm_at.ensures c.enum_told.given.1)
+returns-2 c = no-arm (armed c.before.before.arm_at.ensures c.enum_told.given.1)
 
 pub arm-links-spec : {M : Type 1} → statement M
 arm-links-spec =

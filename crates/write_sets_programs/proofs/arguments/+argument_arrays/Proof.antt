@@ -1,11 +1,11 @@
 -- The arrays of arguments, from those of the first and of the arguments behind it. The measure is the rows that are left.
 use native.Mathlib.Omega.{arith}
 use borrow.Author.Rules.{rules}
-use Rattle.words.specs.Table.{rowCount}
+use Rattle.words.specs.Table.{row_count}
 use Rattle.language_shapes.specs.ShapeLaws.{argued}
-use Rattle.write_sets_rows.proofs.ArgumentLaws.{rowsLeft}
+use Rattle.write_sets_rows.proofs.ArgumentLaws.{rows_left}
 use Rattle.write_sets_functions.proofs.WalkLaws.{read_next}
-use Rattle.write_sets_functions.proofs.DefinitionLaws.{next-inside, next-later, next-falls}
+use Rattle.write_sets_functions.proofs.DefinitionLaws.{next_inside, next-later, next-falls}
 use Rattle.write_sets_programs.proofs.ArrayLaws.{from_less, none_passed, ended-passed, argument-passed}
 use Prim.Native.Nat.{ℕ, ◌<◌}
 use borrow.Fn.Kinds.{In}
@@ -22,7 +22,7 @@ use Rattle.write_sets_programs.proofs.arguments.+argument_arrays.Tie.{close}
 
 abbrev μ-argument-arrays : Measures 2 argument-arrays-kinds.ps ℕ
 μ-argument-arrays κs a =
-    rowsLeft (rowCount a.0.now) a.1.1.0
+    rows_left (row_count a.0.now) a.1.1.0
 
 abbrev argument-arrays-at : ℕ → In 2 argument-arrays-kinds.ps
 argument-arrays-at t =
@@ -70,7 +70,7 @@ argument-arrays-argument-arrays-requires t c κs =
     let m = p.1 there in
     let e = c.before.before.before.before.before.number_at.ensures in
     let less = next-falls m.0.source m.1 there e in
-    (omega (arith, less, p.0), λ h. (from_less _ m.0 (let l = next-later m.0.source m.1 _ e h in omega (arith, l)), next-inside m.0.source m.1 _ e))
+    (omega (arith, less, p.0), λ h. (from_less _ m.0 (let l = next-later m.0.source m.1 _ e h in omega (arith, l)), next_inside m.0.source m.1 _ e))
 
 argument-arrays-join-arrays-requires : (t : ℕ) → argument-arrays-lts.Need-join-arrays-requires (argument-arrays-claims t) (argument-arrays-at t) argument-arrays.Post
 argument-arrays-join-arrays-requires t c κs = search rules

@@ -3,14 +3,14 @@ use mathlib.Core.Path.{◌≡◌, refl, ◌∙◌}
 use Prim.Native.Nat.{ℕ, ◌-◌, ◌≤◌}
 use native.Mathlib.Omega.{arith}
 use lib.ListN.{length, length-set}
-use Rattle.words.specs.Table.{rowCount}
+use Rattle.words.specs.Table.{row_count}
 use Rattle.write_sets_programs.specs.Arrays.{ArraysFrom}
 use Rattle.write_sets_programs.proofs.ArrayLaws.{from_less, from-none, one-row-more}
 use Rattle.write_sets_programs.proofs.arrays.fill_arrays.Statement.{statement}
 use Rattle.write_sets_programs.proofs.arrays.fill_arrays.Tie as tie
 
 abbrev invariant-loop : tie.invariant-loop
-invariant-loop rows arrays₀ row₀ arrays row = (row ≤ rowCount rows) × ArraysFrom rows arrays row × (length arrays ≡ length arrays₀)
+invariant-loop rows arrays₀ row₀ arrays row = (row ≤ row_count rows) × ArraysFrom rows arrays row × (length arrays ≡ length arrays₀)
 
 abbrev decreases-loop : tie.decreases-loop
 decreases-loop rows arrays₀ row₀ arrays row = row
@@ -25,7 +25,7 @@ arrays-of-requires : tie.Need-arrays-of-requires invariant-loop decreases-loop
 arrays-of-requires c κs = (from_less _ c.before.before.loop.invariant.1 (omega arith), omega (arith, c.before.before.loop.invariant.0))
 
 mul-arrays : tie.Need-overflow-mul-arrays invariant-loop decreases-loop
-mul-arrays c = omega (arith, c.before.before.before.loop.invariant.0, c.before.before.before.loop.invariant.1.room, c.before.before.before.loop.invariant.2, c.before.before.before.before.before.well-formed)
+mul-arrays c = omega (arith, c.before.before.before.loop.invariant.0, c.before.before.before.loop.invariant.1.room, c.before.before.before.loop.invariant.2, c.before.before.before.before.before.well_formed)
 
 slice-write-arrays : tie.Need-slice-write-arrays invariant-loop decreases-loop
 slice-write-arrays c = omega (arith, c.before.before.before.loop.invariant.0, c.before.before.before.loop.invariant.1.room)

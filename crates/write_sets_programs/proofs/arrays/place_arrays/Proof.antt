@@ -16,19 +16,19 @@ enum-known-place : tie.Need-enum-known-place
 enum-known-place c = search rules
 
 array-bit-requires : tie.Need-array-bit-requires
-array-bit-requires c κs = (placed c.before.before.before.place_at.ensures c.before.place.given.1).onward.0
+array-bit-requires c κs = (placed c.before.before.before.place-at.ensures c.before.place.given.1).onward.0
 
 linked-requires : tie.Need-linked-requires
-linked-requires c κs = link-held c.before.before.before.before.before.before.requires.0 (λ h. (placed c.before.before.before.before.place_at.ensures c.before.before.place.given.1).onward.1)
+linked-requires c κs = link-held c.before.before.before.before.before.before.requires.0 (λ h. (placed c.before.before.before.before.place-at.ensures c.before.before.place.given.1).onward.1)
 
 join-arrays-requires : tie.Need-join-arrays-requires
 join-arrays-requires c κs = search rules
 
 returns : tie.Need-returns
-returns c = variable-arrays (placed c.before.before.place_at.ensures c.enum_told.given.1)
+returns c = variable-arrays (placed c.before.before.place-at.ensures c.enum_told.given.1)
 
 returns-2 : tie.Need-returns-2
-returns-2 c = element-arrays c.before.before.before.before.before.before.before.before.requires.0 (placed c.before.before.before.before.before.before.place_at.ensures c.before.before.before.before.place.given.1) c.before.before.array-bit.ensures c.before.linked.ensures c.join-arrays.ensures
+returns-2 c = element-arrays c.before.before.before.before.before.before.before.before.requires.0 (placed c.before.before.before.before.before.before.place-at.ensures c.before.before.before.before.place.given.1) c.before.before.array-bit.ensures c.before.linked.ensures c.join-arrays.ensures
 
 pub place-arrays-spec : {M : Type 1} → statement M
 place-arrays-spec =

@@ -1,6 +1,6 @@
 -- `links_of`, a clause each.
 use mathlib.Core.Path.{sym, ap, ◌∙◌}
-use Rattle.write_sets_programs.specs.Links.{linksOf}
+use Rattle.write_sets_programs.specs.Links.{links_of}
 use borrow.Author.Rules.{rules}
 use Rattle.write_sets_programs.proofs.operands.links_of.Statement.{statement}
 use Rattle.write_sets_programs.proofs.operands.links_of.Tie as tie
@@ -33,19 +33,19 @@ enum-known-shape-4 : tie.Need-enum-known-shape-4
 enum-known-shape-4 c = search rules
 
 returns : tie.Need-returns
-returns c = c.links.ensures ∙ sym (ap linksOf c.before.enum_told.given.1)
+returns c = c.links.ensures ∙ sym (ap links_of c.before.enum_told.given.1)
 
 returns-2 : tie.Need-returns-2
-returns-2 c = c.read-links.ensures ∙ sym (ap linksOf c.before.before.shape.given.1)
+returns-2 c = c.read-links.ensures ∙ sym (ap links_of c.before.before.shape.given.1)
 
 returns-3 : tie.Need-returns-3
-returns-3 c = c.operation-links.ensures ∙ sym (ap linksOf c.before.before.shape2.given.1)
+returns-3 c = c.operation-links.ensures ∙ sym (ap links_of c.before.before.shape2.given.1)
 
 returns-4 : tie.Need-returns-4
-returns-4 c = c.choice-links.ensures ∙ sym (ap linksOf c.before.before.shape3.given.1)
+returns-4 c = c.choice-links.ensures ∙ sym (ap links_of c.before.before.shape3.given.1)
 
 returns-5 : tie.Need-returns-5
-returns-5 c = sym (ap linksOf c.before.shape4.given.1)
+returns-5 c = sym (ap links_of c.before.shape4.given.1)
 
 pub links-of-spec : {M : Type 1} → statement M
 links-of-spec =

@@ -1,7 +1,7 @@
 -- The variables and declared words of the rows so far; the invariant is `Variables`.
 use Prim.Native.Nat.{◌-◌}
 use native.Mathlib.Omega.{arith}
-use Rattle.words.specs.Table.{rowCount}
+use Rattle.words.specs.Table.{row_count}
 use Rattle.write_sets_programs.proofs.UnionLaws.{Variables, variables-start, variables-next, variables-end}
 use borrow.Author.Rules.{rules}
 use Rattle.write_sets_programs.proofs.program.any_variables.Statement.{statement}
@@ -11,7 +11,7 @@ abbrev invariant-loop : tie.invariant-loop
 invariant-loop store rows sets any₀ row₀ any row = Variables store rows any row
 
 abbrev decreases-loop : tie.decreases-loop
-decreases-loop store rows sets any₀ row₀ any row = rowCount rows - row
+decreases-loop store rows sets any₀ row₀ any row = row_count rows - row
 
 nothing-requires : tie.Need-nothing-requires invariant-loop decreases-loop
 nothing-requires c κs = search rules
@@ -32,7 +32,7 @@ join-requires-2 : tie.Need-join-requires-2 invariant-loop decreases-loop
 join-requires-2 c κs = search rules
 
 add_row : tie.Need-overflow-add-row invariant-loop decreases-loop
-add_row c = omega (arith, c.before.before.before.before.loop-test.true, c.before.before.before.before.before.before.before.before.well-formed)
+add_row c = omega (arith, c.before.before.before.before.loop-test.true, c.before.before.before.before.before.before.before.before.well_formed)
 
 loop-less : tie.Need-loop-smaller invariant-loop decreases-loop
 loop-less c = omega (arith, c.before.before.before.before.loop-test.true)

@@ -10,7 +10,7 @@ returns : tie.Need-returns
 returns c = search rules
 
 mul-result : tie.Need-overflow-mul-result
-mul-result c = omega (arith, c.before.requires (omega (arith, c.if1.false)), c.before.well-formed)
+mul-result c = omega (arith, c.before.requires (omega (arith, c.if1.false)), c.before.well_formed)
 
 shared-slice-read-result : tie.Need-shared-slice-read-result
 shared-slice-read-result c = c.before.before.requires (omega (arith, c.before.if1.false))

@@ -2,8 +2,8 @@
 use native.Mathlib.Omega.{arith}
 use borrow.Author.Rules.{rules}
 use Rattle.write_sets_rows.proofs.WriteLaws.{sets-less}
-use Rattle.words.specs.Table.{rowCount}
-use Rattle.write_sets_rows.proofs.ArgumentLaws.{Gathered, rowsLeft, left_less, gathered_none, gathered_next, gathered-all}
+use Rattle.words.specs.Table.{row_count}
+use Rattle.write_sets_rows.proofs.ArgumentLaws.{Gathered, rows_left, left_less, gathered_none, gathered_next, gathered-all}
 use Rattle.write_sets_rows.proofs.arguments.arguments_writes.Statement.{statement}
 use Rattle.write_sets_rows.proofs.arguments.arguments_writes.Tie as tie
 use Rattle.write_sets_rows.proofs.arguments.argument_writes.Reads as argument-writes-reads
@@ -15,7 +15,7 @@ abbrev invariant-loop : tie.invariant-loop
 invariant-loop store rows sets row first any₀ argument₀ any argument = Gathered store rows row first any argument
 
 abbrev decreases-loop : tie.decreases-loop
-decreases-loop store rows sets row first any₀ argument₀ any argument = rowsLeft (rowCount rows) argument
+decreases-loop store rows sets row first any₀ argument₀ any argument = rows_left (row_count rows) argument
 
 nothing-requires : tie.Need-nothing-requires invariant-loop decreases-loop
 nothing-requires c κs = search rules
@@ -33,10 +33,10 @@ next-argument-requires : tie.Need-next-argument-requires invariant-loop decrease
 next-argument-requires c κs = (c.before.before.before.before.before.before.requires.0.source, (c.before.before.before.loop.invariant.onward c.before.before.loop-test.true).inside)
 
 loop-less : tie.Need-loop-smaller invariant-loop decreases-loop
-loop-less c = left_less _ _ (c.before.before.before.before.loop.invariant.onward c.before.before.before.loop-test.true).inside c.next-argument.ensures.onward c.before.before.before.loop-test.true
+loop-less c = left_less _ _ (c.before.before.before.before.loop.invariant.onward c.before.before.before.loop-test.true).inside c.next_argument.ensures.onward c.before.before.before.loop-test.true
 
 loop-again : tie.Need-loop-preserved invariant-loop decreases-loop
-loop-again c = gathered_next c.before.before.before.before.loop.invariant c.before.before.before.loop-test.true c.before.before.argument-writes.ensures c.before.join.ensures c.next-argument.ensures
+loop-again c = gathered_next c.before.before.before.before.loop.invariant c.before.before.before.loop-test.true c.before.before.argument-writes.ensures c.before.join.ensures c.next_argument.ensures
 
 returns : tie.Need-returns invariant-loop decreases-loop
 returns c = gathered-all c.before.loop.invariant (omega (arith, c.loop-test.false))

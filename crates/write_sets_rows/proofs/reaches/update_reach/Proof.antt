@@ -27,10 +27,10 @@ reaching-requires-2 : tie.Need-reaching-requires-2
 reaching-requires-2 c κs = search rules
 
 returns : tie.Need-returns
-returns c = variable-update c.before.before.before.before.before.before.requires.1 (placed c.before.before.before.before.before.place_at.ensures c.before.before.before.shape.given.1) c.before.single.ensures c.reaching.ensures
+returns c = variable-update c.before.before.before.before.before.before.requires.1 (placed c.before.before.before.before.before.place-at.ensures c.before.before.before.shape.given.1) c.before.single.ensures c.reaching.ensures
 
 returns-2 : tie.Need-returns-2
-returns-2 c = element-update (placed c.before.before.before.before.before.place_at.ensures c.before.before.before.shape2.given.1) c.before.nothing.ensures c.reaching2.ensures
+returns-2 c = element-update (placed c.before.before.before.before.before.place-at.ensures c.before.before.before.shape2.given.1) c.before.nothing.ensures c.reaching2.ensures
 
 pub update-reach-spec : {M : Type 1} → statement M
 update-reach-spec =

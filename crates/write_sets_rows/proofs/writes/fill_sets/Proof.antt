@@ -3,14 +3,14 @@ use mathlib.Core.Path.{◌≡◌, refl, ◌∙◌}
 use Prim.Native.Nat.{◌≤◌, ◌-◌}
 use native.Mathlib.Omega.{arith}
 use lib.ListN.{length}
-use Rattle.words.specs.Table.{rowCount}
+use Rattle.words.specs.Table.{row_count}
 use Rattle.write_sets_rows.specs.WriteSets.{FunctionSets, SetsFrom}
 use Rattle.write_sets_rows.proofs.WriteLaws.{sets-none, sets-less, functions-less}
 use Rattle.write_sets_rows.proofs.writes.fill_sets.Statement.{statement}
 use Rattle.write_sets_rows.proofs.writes.fill_sets.Tie as tie
 
 abbrev invariant-loop : tie.invariant-loop
-invariant-loop store rows sets₀ row₀ sets row = (row ≤ rowCount rows) × SetsFrom store rows sets row × (length sets ≡ length sets₀) × FunctionSets store rows sets row
+invariant-loop store rows sets₀ row₀ sets row = (row ≤ row_count rows) × SetsFrom store rows sets row × (length sets ≡ length sets₀) × FunctionSets store rows sets row
 
 abbrev decreases-loop : tie.decreases-loop
 decreases-loop store rows sets₀ row₀ sets row = row

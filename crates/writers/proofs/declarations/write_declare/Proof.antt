@@ -23,7 +23,7 @@ add-put-variable c = search rules
 write-expression-requires : tie.Need-write-expression-requires
 write-expression-requires c κs =
     let start = c.before.before.before.before.before in
-    (start.requires.0, record { inside = start.requires.1.inside; level-low = omega (arith, Part-low start.requires.0 start.args.value start.requires.1.inside (stored start.args.number)); use-fits = start.requires.1.low; room = search rules })
+    (start.requires.0, record { inside = start.requires.1.inside; level_low = omega (arith, Part-low start.requires.0 start.args.value start.requires.1.inside (stored start.args.number)); use_fits = start.requires.1.low; room = search rules })
 
 mul-put-variable : tie.Need-overflow-mul-put-variable
 mul-put-variable c = search rules
@@ -49,8 +49,8 @@ put-variable-requires c κs =
     record {
       writing = start.requires.0;
       low = asks.low;
-      value-inside = asks.inside;
-      level-low = omega arith;
+      value_inside = asks.inside;
+      level_low = omega arith;
       room =
           room-behind past-operand-size.result _ past-write-expression.new.1.1.1.1.1.1.1.1.0 asks.room past-write-expression.auto.1.1.1.1.1.1.1.1.0
           (omega (arith, past-operand-size.ensures));

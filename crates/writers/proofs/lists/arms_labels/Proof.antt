@@ -1,7 +1,7 @@
 -- The labels of arms: the table's word; an absent link has none.
 use mathlib.Core.Path.{◌∙◌}
 use native.Mathlib.Omega.{arith}
-use Rattle.measures_table.specs.Measures.{armsLabelsSlot}
+use Rattle.measures_table.specs.Measures.{arms_labels_slot}
 use Rattle.writers.proofs.Tables.{word-asks, labels-of-arms}
 use Rattle.writers.proofs.lists.arms_labels.Statement.{statement}
 use Rattle.writers.proofs.lists.arms_labels.Tie as tie
@@ -9,7 +9,7 @@ use Rattle.writers.proofs.lists.arms_labels.Tie as tie
 measure-at-requires : tie.Need-measure-at-requires
 measure-at-requires c κs =
     let start = c.before in
-    word-asks _ _ start.requires.0 _ armsLabelsSlot start.requires.1 (omega arith)
+    word-asks _ _ start.requires.0 _ arms_labels_slot start.requires.1 (omega arith)
 
 returns : tie.Need-returns
 returns c =

@@ -1,7 +1,7 @@
 -- The kernel rows of arms: the table's word; an absent link has none.
 use mathlib.Core.Path.{◌∙◌}
 use native.Mathlib.Omega.{arith}
-use Rattle.measures_table.specs.Measures.{armsRowsSlot}
+use Rattle.measures_table.specs.Measures.{arms_rows_slot}
 use Rattle.writers.proofs.Tables.{word-asks, rows-of-arms}
 use Rattle.writers.proofs.lists.arms_size.Statement.{statement}
 use Rattle.writers.proofs.lists.arms_size.Tie as tie
@@ -9,7 +9,7 @@ use Rattle.writers.proofs.lists.arms_size.Tie as tie
 measure-at-requires : tie.Need-measure-at-requires
 measure-at-requires c κs =
     let start = c.before in
-    word-asks _ _ start.requires.0 _ armsRowsSlot start.requires.1 (omega arith)
+    word-asks _ _ start.requires.0 _ arms_rows_slot start.requires.1 (omega arith)
 
 returns : tie.Need-returns
 returns c =

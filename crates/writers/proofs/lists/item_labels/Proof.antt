@@ -1,7 +1,7 @@
 -- The labels of an item, by what the row is as an item.
 use mathlib.Core.Path.{sym, ap, ◌∙◌}
-use Rattle.writers.specs.Items.{itemLabels}
-use Rattle.writers.proofs.ListLaws.{item-is}
+use Rattle.writers.specs.Items.{item_labels}
+use Rattle.writers.proofs.ListLaws.{item_is}
 use borrow.Author.Rules.{rules}
 use Rattle.writers.proofs.lists.item_labels.Statement.{statement}
 use Rattle.writers.proofs.lists.item_labels.Tie as tie
@@ -15,7 +15,7 @@ enum_told c = search rules
 statement-labels-requires : tie.Need-statement-labels-requires
 statement-labels-requires c κs =
     let start = c.before.before.before.before in
-    (start.requires.0, start.requires.1, rw (item-is c.before.before.item-at.ensures c.enum_told.given.1) at start.requires.2)
+    (start.requires.0, start.requires.1, rw (item_is c.before.before.item-at.ensures c.enum_told.given.1) at start.requires.2)
 
 enum-told-2 : tie.Need-enum-told-2
 enum-told-2 c = search rules
@@ -24,13 +24,13 @@ enum-told-3 : tie.Need-enum-told-3
 enum-told-3 c = search rules
 
 returns : tie.Need-returns
-returns c = c.statement-labels.ensures ∙ sym (ap itemLabels (item-is c.before.before.before.item-at.ensures c.before.enum_told.given.1))
+returns c = c.statement-labels.ensures ∙ sym (ap item_labels (item_is c.before.before.before.item-at.ensures c.before.enum_told.given.1))
 
 returns-2 : tie.Need-returns-2
-returns-2 c = sym (ap itemLabels (item-is c.before.before.item-at.ensures c.enum-told2.given.1))
+returns-2 c = sym (ap item_labels (item_is c.before.before.item-at.ensures c.enum-told2.given.1))
 
 returns-3 : tie.Need-returns-3
-returns-3 c = sym (ap itemLabels (item-is c.before.before.item-at.ensures c.enum-told3.given.1))
+returns-3 c = sym (ap item_labels (item_is c.before.before.item-at.ensures c.enum-told3.given.1))
 
 pub item-labels-spec : {M : Type 1} → statement M
 item-labels-spec =

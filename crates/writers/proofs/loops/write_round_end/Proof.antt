@@ -48,7 +48,7 @@ part-write-expression-end c = search rules
 write-expression-requires : tie.Need-write-expression-requires
 write-expression-requires c κs =
     let start = c.before.before.before.before.before.before.before.before.before in
-    (start.requires.0, record { inside = start.requires.1.action-inside; level-low = omega (arith, Part-low start.requires.0 start.args.action start.requires.1.action-inside dropped); use-fits = tt; room = search rules })
+    (start.requires.0, record { inside = start.requires.1.action_inside; level_low = omega (arith, Part-low start.requires.0 start.args.action start.requires.1.action_inside dropped); use_fits = tt; room = search rules })
 
 add-write-test : tie.Need-overflow-add-write-test
 add-write-test c = search rules
@@ -79,7 +79,7 @@ write-test-requires c κs =
     let l2 = past-write-expression.new.1.1.1.1.1.1.1.1.0 in
     let kept = back-length 1 l1 l2 past-write-expression.auto.1.1.1.1.1.1.1.1.0 ∙ past-put-label.auto.1.1.1.0 in (
       start.requires.0,
-      record { inside = asks.after-inside; label-low = asks.label-low; room = room-behind (1 + past-operand-size.result) _ (back_in 1 l1 l2) asks.room kept (omega (arith, past-operand-size.ensures)) },
+      record { inside = asks.after_inside; label_low = asks.label_low; room = room-behind (1 + past-operand-size.result) _ (back_in 1 l1 l2) asks.room kept (omega (arith, past-operand-size.ensures)) },
     )
 
 same_length : tie.Need-same-length

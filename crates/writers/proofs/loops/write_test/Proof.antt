@@ -3,29 +3,29 @@ use mathlib.Core.Path.{sym, ap}
 use native.Mathlib.Omega.{arith}
 use Rattle.language.specs.Trees.{none}
 use Rattle.language.specs.Decode.{part_at}
-use Rattle.translation.specs.Translate.{testCode}
-use Rattle.language_emission.specs.Emission.{emitItems}
+use Rattle.translation.specs.Translate.{test_code}
+use Rattle.language_emission.specs.Emission.{emit_items}
 use Rattle.words.specs.Over.{over}
 use Rattle.writers_rows.specs.Chain.{room-less}
-use Rattle.measures_table.specs.Parts.{calledIn}
+use Rattle.measures_table.specs.Parts.{called_in}
 use Rattle.translation.specs.declared.Use.TheVariants.{Wanted as wanted}
 use Rattle.writers_steps.specs.LevelLaws.{Part-low}
 use Rattle.writers.proofs.Sequence.{room-behind}
-use Rattle.writers.proofs.LoopLaws.{test-some, test-most, test-done}
+use Rattle.writers.proofs.LoopLaws.{test_some, test-most, test-done}
 use borrow.Author.Rules.{rules}
 use Rattle.writers.proofs.loops.write_test.Statement.{statement}
 use Rattle.writers.proofs.loops.write_test.Tie as tie
 
 returns : tie.Need-returns
-unfolding emitItems over
+unfolding emit_items over
 returns c =
     let args = c.before.before.args in
-    sym (ap (λ test. over (emitItems args.follows (testCode (calledIn args.rows.now) args.store (part_at args.rows.now test) args.label none) args.base) args.out.now) c.if1.true)
+    sym (ap (λ test. over (emit_items args.follows (test_code (called_in args.rows.now) args.store (part_at args.rows.now test) args.label none) args.base) args.out.now) c.if1.true)
 
 operand-size-requires : tie.Need-operand-size-requires
 operand-size-requires c κs =
     let start = c.before.before in
-    (start.requires.0.measured, start.requires.1.inside, omega (arith, test-most (calledIn start.args.rows.now) (part_at start.args.rows.now start.args.test), start.requires.1.room.low))
+    (start.requires.0.measured, start.requires.1.inside, omega (arith, test-most (called_in start.args.rows.now) (part_at start.args.rows.now start.args.test), start.requires.1.room.low))
 
 atom-at-requires : tie.Need-atom-at-requires
 atom-at-requires c κs = search rules
@@ -34,32 +34,32 @@ write-expression-requires : tie.Need-write-expression-requires
 write-expression-requires c κs =
     let start = c.before.before.before.before.before in
     let asks = start.requires.1 in
-    (start.requires.0, record { inside = asks.inside; level-low = omega (arith, Part-low start.requires.0 start.args.test asks.inside wanted); use-fits = tt; room = room-less _ asks.room (test-most (calledIn start.args.rows.now) (part_at start.args.rows.now start.args.test)) })
+    (start.requires.0, record { inside = asks.inside; level_low = omega (arith, Part-low start.requires.0 start.args.test asks.inside wanted); use_fits = tt; room = room-less _ asks.room (test-most (called_in start.args.rows.now) (part_at start.args.rows.now start.args.test)) })
 
 add-put-exit : tie.Need-overflow-add-put-exit
 add-put-exit c =
     let start = c.before.before.before.before.before.before.before in
-    omega (arith, c.before.before.before.before.operand-size.ensures, test-most (calledIn start.args.rows.now) (part_at start.args.rows.now start.args.test), start.requires.1.room.low)
+    omega (arith, c.before.before.before.before.operand-size.ensures, test-most (called_in start.args.rows.now) (part_at start.args.rows.now start.args.test), start.requires.1.room.low)
 
 mul-put-exit : tie.Need-overflow-mul-put-exit
 mul-put-exit c =
     let start = c.before.before.before.before.before.before.before in
-    omega (arith, c.before.before.before.before.operand-size.ensures, test-most (calledIn start.args.rows.now) (part_at start.args.rows.now start.args.test), start.requires.1.room.low)
+    omega (arith, c.before.before.before.before.operand-size.ensures, test-most (called_in start.args.rows.now) (part_at start.args.rows.now start.args.test), start.requires.1.room.low)
 
 mul-put-exit-2 : tie.Need-overflow-mul-put-exit-2
 mul-put-exit-2 c =
     let start = c.before.before.before.before.before.before.before in
-    omega (arith, c.before.before.before.before.operand-size.ensures, test-most (calledIn start.args.rows.now) (part_at start.args.rows.now start.args.test), start.requires.1.room.low)
+    omega (arith, c.before.before.before.before.operand-size.ensures, test-most (called_in start.args.rows.now) (part_at start.args.rows.now start.args.test), start.requires.1.room.low)
 
 sub-put-exit : tie.Need-overflow-sub-put-exit
 sub-put-exit c =
     let start = c.before.before.before.before.before.before.before in
-    omega (arith, c.before.before.before.before.operand-size.ensures, test-most (calledIn start.args.rows.now) (part_at start.args.rows.now start.args.test), start.requires.1.room.inside, c.before.write-expression.auto.1.1.1.1.1.1.1.1.0)
+    omega (arith, c.before.before.before.before.operand-size.ensures, test-most (called_in start.args.rows.now) (part_at start.args.rows.now start.args.test), start.requires.1.room.inside, c.before.write-expression.auto.1.1.1.1.1.1.1.1.0)
 
 part-put-exit-start : tie.Need-slice-bounds-put-exit-start
 part-put-exit-start c =
     let start = c.before.before.before.before.before.before.before in
-    omega (arith, c.before.before.before.before.operand-size.ensures, test-most (calledIn start.args.rows.now) (part_at start.args.rows.now start.args.test), start.requires.1.room.inside, c.before.write-expression.auto.1.1.1.1.1.1.1.1.0)
+    omega (arith, c.before.before.before.before.operand-size.ensures, test-most (called_in start.args.rows.now) (part_at start.args.rows.now start.args.test), start.requires.1.room.inside, c.before.write-expression.auto.1.1.1.1.1.1.1.1.0)
 
 part-put-exit-end : tie.Need-slice-bounds-put-exit-end
 part-put-exit-end c = search rules
@@ -70,8 +70,8 @@ put-exit-requires c κs =
     let past-operand-size = c.before.before.before.before.before.operand-size in
     let past-write-expression = c.before.before.write-expression in
     let asks = start.requires.1 in (
-      room-behind past-operand-size.result 5 past-write-expression.new.1.1.1.1.1.1.1.1.0 asks.room past-write-expression.auto.1.1.1.1.1.1.1.1.0 (omega (arith, past-operand-size.ensures, test-some start.args.rows.now start.args.test c.before.before.before.before.before.before.if1.false)),
-      omega (arith, asks.label-low),
+      room-behind past-operand-size.result 5 past-write-expression.new.1.1.1.1.1.1.1.1.0 asks.room past-write-expression.auto.1.1.1.1.1.1.1.1.0 (omega (arith, past-operand-size.ensures, test_some start.args.rows.now start.args.test c.before.before.before.before.before.before.if1.false)),
+      omega (arith, asks.label_low),
       c.before.before.before.before.atom-at.ensures.fits,
     )
 

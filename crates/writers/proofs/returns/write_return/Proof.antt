@@ -34,7 +34,7 @@ write-expression-requires : tie.Need-write-expression-requires
 write-expression-requires c κs =
     let start = c.before.before.before.before.before in
     let asks = start.requires.1 in
-    (start.requires.0, record { inside = asks.inside; level-low = omega (arith, Part-low start.requires.0 start.args.value asks.inside wanted); use-fits = tt; room = room-less _ asks.room (omega arith) })
+    (start.requires.0, record { inside = asks.inside; level_low = omega (arith, Part-low start.requires.0 start.args.value asks.inside wanted); use_fits = tt; room = room-less _ asks.room (omega arith) })
 
 add-put-return : tie.Need-overflow-add-put-return
 add-put-return c = search rules

@@ -31,7 +31,7 @@ write-expression-requires c κs =
     let start = c.before.before.before.before in
     let asks = start.requires.1 in (
       start.requires.0,
-      record { inside = asks.inside; level-low = omega (arith, Part-low start.requires.0 start.args.expression asks.inside dropped); use-fits = tt; room = room-less _ asks.room (omega (arith, part-size dropped start.args.rows.now start.args.expression asks.some)) },
+      record { inside = asks.inside; level_low = omega (arith, Part-low start.requires.0 start.args.expression asks.inside dropped); use_fits = tt; room = room-less _ asks.room (omega (arith, part-size dropped start.args.rows.now start.args.expression asks.some)) },
     )
 
 same-length-2 : tie.Need-same-length-2

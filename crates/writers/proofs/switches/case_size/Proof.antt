@@ -2,8 +2,8 @@
 use mathlib.Core.Path.{sym, ap, ◌∙◌}
 use Prim.Native.Nat.{◌*◌}
 use Rattle.language_shapes.specs.declared.Item.TheVariants.{Mark}
-use Rattle.writers.specs.Items.{itemCases}
-use Rattle.writers.proofs.ListLaws.{item-is}
+use Rattle.writers.specs.Items.{item_cases}
+use Rattle.writers.proofs.ListLaws.{item_is}
 use borrow.Author.Rules.{rules}
 use Rattle.writers.proofs.switches.case_size.Statement.{statement}
 use Rattle.writers.proofs.switches.case_size.Tie as tie
@@ -30,19 +30,19 @@ enum-told-5 : tie.Need-enum-told-5
 enum-told-5 c = search rules
 
 returns : tie.Need-returns
-returns c = sym (ap (λ is. 11 * itemCases is) (item-is c.before.before.item-at.ensures c.enum_told.given.1))
+returns c = sym (ap (λ is. 11 * item_cases is) (item_is c.before.before.item-at.ensures c.enum_told.given.1))
 
 returns-2 : tie.Need-returns-2
-returns-2 c = sym (ap (λ is. 11 * itemCases is) (item-is c.before.before.before.before.before.item-at.ensures (c.before.before.before.item.given.1 ∙ ap Mark c.enum-told2.given.1)))
+returns-2 c = sym (ap (λ is. 11 * item_cases is) (item_is c.before.before.before.before.before.item-at.ensures (c.before.before.before.item.given.1 ∙ ap Mark c.enum-told2.given.1)))
 
 returns-3 : tie.Need-returns-3
-returns-3 c = sym (ap (λ is. 11 * itemCases is) (item-is c.before.before.before.before.before.item-at.ensures (c.before.before.before.item.given.1 ∙ ap Mark c.enum-told3.given.1)))
+returns-3 c = sym (ap (λ is. 11 * item_cases is) (item_is c.before.before.before.before.before.item-at.ensures (c.before.before.before.item.given.1 ∙ ap Mark c.enum-told3.given.1)))
 
 returns-4 : tie.Need-returns-4
-returns-4 c = sym (ap (λ is. 11 * itemCases is) (item-is c.before.before.before.before.before.item-at.ensures (c.before.before.before.item.given.1 ∙ ap Mark c.enum-told4.given.1)))
+returns-4 c = sym (ap (λ is. 11 * item_cases is) (item_is c.before.before.before.before.before.item-at.ensures (c.before.before.before.item.given.1 ∙ ap Mark c.enum-told4.given.1)))
 
 returns-5 : tie.Need-returns-5
-returns-5 c = sym (ap (λ is. 11 * itemCases is) (item-is c.before.before.item-at.ensures c.enum-told5.given.1))
+returns-5 c = sym (ap (λ is. 11 * item_cases is) (item_is c.before.before.item-at.ensures c.enum-told5.given.1))
 
 pub case-size-spec : {M : Type 1} → statement M
 case-size-spec =

@@ -2,13 +2,13 @@
 use mir.Syntax.{w32}
 use mir.Facts.{to_z-of_z}
 use Rattle.language_shapes.specs.declared.Item.TheVariants.{Mark}
-use Rattle.writers.specs.Items.{caseTest, itemTest}
+use Rattle.writers.specs.Items.{case_test, item_test}
 use mathlib.Core.Path.{sym, ap, ◌∙◌}
 use mathlib.Core.Bool.{true}
-use Rattle.language_emission.specs.Emission.{emitItems}
+use Rattle.language_emission.specs.Emission.{emit_items}
 use Rattle.words.specs.Over.{over}
-use Rattle.writers_rows.specs.Atoms.{atomTree}
-use Rattle.writers.proofs.ListLaws.{item-is}
+use Rattle.writers_rows.specs.Atoms.{atom_tree}
+use Rattle.writers.proofs.ListLaws.{item_is}
 use borrow.Author.Rules.{rules}
 use Rattle.writers.proofs.switches.put_item_test.Statement.{statement}
 use Rattle.writers.proofs.switches.put_item_test.Tie as tie
@@ -28,8 +28,8 @@ enum-known-mark c = search rules
 put-case-requires : tie.Need-put-case-requires
 put-case-requires c κs =
     let asks = c.before.before.before.before.before.before.before.before.requires in
-    let room = rw (item-is c.before.before.before.before.before.before.before.item-at.ensures (c.before.before.before.before.before.item.given.1 ∙ ap Mark c.before.before.mark.given.1)) at asks.room in
-    (room, asks.atom-fits, asks.number-low, asks.target-low)
+    let room = rw (item_is c.before.before.before.before.before.before.before.item-at.ensures (c.before.before.before.before.before.item.given.1 ∙ ap Mark c.before.before.mark.given.1)) at asks.room in
+    (room, asks.atom_fits, asks.number_low, asks.target_low)
 
 enum-told-2 : tie.Need-enum-told-2
 enum-told-2 c = search rules
@@ -41,10 +41,10 @@ enum-told-4 : tie.Need-enum-told-4
 enum-told-4 c = search rules
 
 returns : tie.Need-returns
-unfolding emitItems over
+unfolding emit_items over
 returns c =
     let args = c.before.before.before.args in
-    sym (ap (λ is. over (emitItems true (itemTest args.store (atomTree args.x) args.level is args.target) args.base) args.out.now) (item-is c.before.before.item-at.ensures c.enum_told.given.1))
+    sym (ap (λ is. over (emit_items true (item_test args.store (atom_tree args.x) args.level is args.target) args.base) args.out.now) (item_is c.before.before.item-at.ensures c.enum_told.given.1))
 
 same_length : tie.Need-same-length
 same_length c = search rules
@@ -54,26 +54,26 @@ returns-2 c =
     let past-mark = c.before.before.before.before.mark in
     let args = c.before.before.before.before.before.before.before.before.before.before.args in
     c.before.put-case.ensures
-    ∙ ap (λ v. over (emitItems true (caseTest args.store (atomTree args.x) args.level v args.target) args.base) args.out.now) (to_z-of_z {w = w32} {z = past-mark.given.0.0} (search rules))
-    ∙ sym (ap (λ is. over (emitItems true (itemTest args.store (atomTree args.x) args.level is args.target) args.base) args.out.now) (item-is c.before.before.before.before.before.before.before.before.before.item-at.ensures (c.before.before.before.before.before.before.before.item.given.1 ∙ ap Mark past-mark.given.1)))
+    ∙ ap (λ v. over (emit_items true (case_test args.store (atom_tree args.x) args.level v args.target) args.base) args.out.now) (to_z-of_z {w = w32} {z = past-mark.given.0.0} (search rules))
+    ∙ sym (ap (λ is. over (emit_items true (item_test args.store (atom_tree args.x) args.level is args.target) args.base) args.out.now) (item_is c.before.before.before.before.before.before.before.before.before.item-at.ensures (c.before.before.before.before.before.before.before.item.given.1 ∙ ap Mark past-mark.given.1)))
 
 returns-3 : tie.Need-returns-3
-unfolding emitItems over
+unfolding emit_items over
 returns-3 c =
     let args = c.before.before.before.before.before.before.args in
-    sym (ap (λ is. over (emitItems true (itemTest args.store (atomTree args.x) args.level is args.target) args.base) args.out.now) (item-is c.before.before.before.before.before.item-at.ensures (c.before.before.before.item.given.1 ∙ ap Mark c.enum-told2.given.1)))
+    sym (ap (λ is. over (emit_items true (item_test args.store (atom_tree args.x) args.level is args.target) args.base) args.out.now) (item_is c.before.before.before.before.before.item-at.ensures (c.before.before.before.item.given.1 ∙ ap Mark c.enum-told2.given.1)))
 
 returns-4 : tie.Need-returns-4
-unfolding emitItems over
+unfolding emit_items over
 returns-4 c =
     let args = c.before.before.before.before.before.before.args in
-    sym (ap (λ is. over (emitItems true (itemTest args.store (atomTree args.x) args.level is args.target) args.base) args.out.now) (item-is c.before.before.before.before.before.item-at.ensures (c.before.before.before.item.given.1 ∙ ap Mark c.enum-told3.given.1)))
+    sym (ap (λ is. over (emit_items true (item_test args.store (atom_tree args.x) args.level is args.target) args.base) args.out.now) (item_is c.before.before.before.before.before.item-at.ensures (c.before.before.before.item.given.1 ∙ ap Mark c.enum-told3.given.1)))
 
 returns-5 : tie.Need-returns-5
-unfolding emitItems over
+unfolding emit_items over
 returns-5 c =
     let args = c.before.before.before.args in
-    sym (ap (λ is. over (emitItems true (itemTest args.store (atomTree args.x) args.level is args.target) args.base) args.out.now) (item-is c.before.before.item-at.ensures c.enum-told4.given.1))
+    sym (ap (λ is. over (emit_items true (item_test args.store (atom_tree args.x) args.level is args.target) args.base) args.out.now) (item_is c.before.before.item-at.ensures c.enum-told4.given.1))
 
 pub put-item-test-spec : {M : Type 1} → statement M
 put-item-test-spec =

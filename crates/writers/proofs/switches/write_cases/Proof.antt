@@ -5,16 +5,16 @@ use mathlib.Core.Bool.{true}
 use Prim.Native.Nat.{◌*◌}
 use native.Mathlib.Omega.{arith}
 use Rattle.language.specs.Trees.{Items}
-use Rattle.language.specs.Decode.{listAt}
-use Rattle.translation.specs.Translate.{caseTests, itemsLabels}
+use Rattle.language.specs.Decode.{list_at}
+use Rattle.translation.specs.Translate.{case_tests, items_labels}
 use Rattle.translation.specs.TranslateSize.{cases}
-use Rattle.writers_rows.specs.Atoms.{atomTree}
+use Rattle.writers_rows.specs.Atoms.{atom_tree}
 use Rattle.writers_steps.specs.AtomLaws.{atom-rows}
 use Rattle.writers.proofs.switches.write_cases.Statement.{statement}
 use Rattle.writers.proofs.switches.write_cases.Tie as tie
 
 abbrev invariant-loop : tie.invariant-loop
-invariant-loop rows table list x store level label base out₀ item₀ target₀ n₀ out item target n = Progress (listAt rows) itemsLabels true (caseTests store (atomTree x) level) (λ is. 11 * cases is) rows list label base out₀ out item target n
+invariant-loop rows table list x store level label base out₀ item₀ target₀ n₀ out item target n = Progress (list_at rows) items_labels true (case_tests store (atom_tree x) level) (λ is. 11 * cases is) rows list label base out₀ out item target n
 
 abbrev decreases-loop : tie.decreases-loop
 decreases-loop rows table list x store level label base out₀ item₀ target₀ n₀ out item target n = above rows item
@@ -55,9 +55,9 @@ put-item-test-requires c κs =
     record {
       source = asks.0.source;
       inside = p.inside;
-      atom-fits = asks.1.atom-fits;
-      number-low = asks.1.number-low;
-      target-low = omega (arith, p.labels-are, asks.1.labels-low);
+      atom_fits = asks.1.atom_fits;
+      number_low = asks.1.number_low;
+      target_low = omega (arith, p.labels_are, asks.1.labels_low);
       room = room-item start.args.rows.now start.args.list past-loop.item past-loop.n (λ is. 11 * cases is) past-loop.out asks.1.room p.kept p.size_is (omega (arith, first-cases first, ap cases same));
     }
 
@@ -80,7 +80,7 @@ item-labels-requires c κs =
     let p = past-loop.invariant in
     let first = first_of _ _ start.requires.0.source p.inside in
     let same = some-list start.args.rows.now past-loop.item (omega arith) in
-    (start.requires.0, p.inside, omega (arith, p.labels-are, start.requires.1.labels-low, first-labels first, ap itemsLabels same))
+    (start.requires.0, p.inside, omega (arith, p.labels_are, start.requires.1.labels_low, first-labels first, ap items_labels same))
 
 add-target : tie.Need-overflow-add-target invariant-loop decreases-loop
 add-target c =
@@ -89,7 +89,7 @@ add-target c =
     let p = past-loop.invariant in
     let first = first_of _ _ start.requires.0.source p.inside in
     let same = some-list start.args.rows.now past-loop.item (omega arith) in
-    omega (arith, c.item-labels.ensures, p.labels-are, start.requires.1.labels-low, first-labels first, ap itemsLabels same)
+    omega (arith, c.item-labels.ensures, p.labels_are, start.requires.1.labels_low, first-labels first, ap items_labels same)
 
 number-at-requires : tie.Need-number-at-requires invariant-loop decreases-loop
 number-at-requires c κs = omega (arith, c.before.before.before.before.before.before.loop.invariant.inside)
@@ -107,11 +107,11 @@ same_length : tie.Need-same-length invariant-loop decreases-loop
 same_length c = c.before.loop.invariant.kept
 
 returns : tie.Need-returns invariant-loop decreases-loop
-unfolding caseTests
+unfolding case_tests
 returns c =
     let past-loop = c.before.loop in
     let args = c.before.before.before.args in
-    finish _ _ _ _ _ _ _ _ _ _ past-loop.invariant (ap (λ (is : Items). caseTests args.store (atomTree args.x) args.level is past-loop.target) (none-at args.rows.now past-loop.item c.loop-test.false))
+    finish _ _ _ _ _ _ _ _ _ _ past-loop.invariant (ap (λ (is : Items). case_tests args.store (atom_tree args.x) args.level is past-loop.target) (none-at args.rows.now past-loop.item c.loop-test.false))
 
 pub write-cases-spec : {M : Type 1} → statement M
 write-cases-spec =

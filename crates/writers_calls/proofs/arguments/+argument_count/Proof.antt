@@ -1,7 +1,7 @@
 -- The number of arguments, from those behind one.
 use mathlib.Core.Path.{◌≡◌, ap}
 use native.Mathlib.Omega.{arith}
-use Rattle.language.specs.Decode.{argumentListAt}
+use Rattle.language.specs.Decode.{argument_list_at}
 use Rattle.language.specs.Trees.{no_more}
 use Rattle.language_shapes.specs.ShapeLaws.{argued}
 use Rattle.writers_calls.specs.Ranks.{rank, rank_falls, rank_most}
@@ -41,7 +41,7 @@ module _ (t : ℕ) where
   returns : lts.Need-returns (claims t) (argument-count-at t) argument-count.Post
   returns c =
       let args = c.before.args in
-      count_none args.rows.now args.argument (ap (argumentListAt args.rows.now) c.if1.true)
+      count_none args.rows.now args.argument (ap (argument_list_at args.rows.now) c.if1.true)
 
   number-at-requires : lts.Need-number-at-requires (claims t) (argument-count-at t) argument-count.Post
   number-at-requires c κs = search rules
@@ -68,7 +68,7 @@ module _ (t : ℕ) where
   add-result : lts.Need-overflow-add-result (claims t) (argument-count-at t) argument-count.Post
   add-result c =
       let start = c.before.before.before.before.before.before in
-      omega (arith, c.argument-count.ensures.low, rank_most start.args.rows.now c.before.before.before.before.number_at.result, start.requires.1.0.few-rows)
+      omega (arith, c.argument-count.ensures.low, rank_most start.args.rows.now c.before.before.before.before.number_at.result, start.requires.1.0.few_rows)
 
   enum-told-2 : lts.Need-enum-told-2 (claims t) (argument-count-at t) argument-count.Post
   enum-told-2 c = search rules

@@ -1,13 +1,13 @@
 -- The temporaries of the arguments, from those behind one and its own.
 use mathlib.Core.Path.{◌≡◌, refl, ap}
 use native.Mathlib.Omega.{arith}
-use Rattle.language.specs.Decode.{expressionAt, argumentListAt}
+use Rattle.language.specs.Decode.{expression_at, argument_list_at}
 use Rattle.language.specs.Trees.{no_more}
-use Rattle.translation.specs.Translate.{atomOf}
-use Rattle.translation.specs.HeldCode.{heldBy}
-use Rattle.translation.specs.TranslateBounds.{taken-most}
+use Rattle.translation.specs.Translate.{atom_of}
+use Rattle.translation.proofs.HeldCode.{held_by}
+use Rattle.translation.proofs.TranslateBounds.{taken_most}
 use Rattle.language_shapes.specs.ShapeLaws.{argued}
-use Rattle.measures_table.specs.Parts.{calledIn}
+use Rattle.measures_table.specs.Parts.{called_in}
 use Rattle.writers_calls.specs.Ranks.{rank, rank_falls, rank_most}
 use Rattle.writers_calls.specs.ArgumentLaws.{passing, passes_none, link-inside, taken_none, taken_more}
 use borrow.Author.Rules.{rules}
@@ -48,7 +48,7 @@ module _ (t : ℕ) where
   returns : arguments-taken-lts.Need-returns (arguments-taken-claims t) (arguments-taken-at t) arguments-taken.Post
   returns c =
       let args = c.before.before.args in
-      let absent : argumentListAt args.rows.now args.argument ≡ no_more = ap (argumentListAt args.rows.now) c.if1.true in
+      let absent : argument_list_at args.rows.now args.argument ≡ no_more = ap (argument_list_at args.rows.now) c.if1.true in
       taken_none args.rows.now args.argument args.copies absent
 
   number-at-requires : arguments-taken-lts.Need-number-at-requires (arguments-taken-claims t) (arguments-taken-at t) arguments-taken.Post
@@ -85,8 +85,8 @@ module _ (t : ℕ) where
       let args = start.args in
       let rows = args.rows.now in
       let behind = c.before.arguments-taken.ensures.low in
-      let held = heldBy (args.copies % 2) (atomOf (calledIn rows) (expressionAt rows c.before.before.before.shape.given.0.0)) in
-      omega (arith, behind, rank_most rows c.before.before.before.before.before.before.number_at.result, start.requires.1.0.source.few-rows, c.held-taken.ensures, taken-most held)
+      let held = held_by (args.copies % 2) (atom_of (called_in rows) (expression_at rows c.before.before.before.shape.given.0.0)) in
+      omega (arith, behind, rank_most rows c.before.before.before.before.before.before.number_at.result, start.requires.1.0.source.few_rows, c.held-taken.ensures, taken_most held)
 
   enum_told : arguments-taken-lts.Need-enum-told (arguments-taken-claims t) (arguments-taken-at t) arguments-taken.Post
   enum_told c = search rules

@@ -17,7 +17,7 @@ shared-slice-read-result : tie.Need-shared-slice-read-result
 shared-slice-read-result c = search rules
 
 returns : tie.Need-returns
-returns c = (whole_row c.before.requires.0 c.before.requires.1).expression.copies-are
+returns c = (whole_row c.before.requires.0 c.before.requires.1).expression.copies_are
 
 pub call-copies-spec : {M : Type 1} → statement M
 call-copies-spec =

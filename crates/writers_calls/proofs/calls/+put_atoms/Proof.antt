@@ -4,13 +4,13 @@ use mathlib.Core.List.{◌++◌}
 use native.Mathlib.Omega.{arith}
 use lib.IntN.{pos}
 use Rattle.words.specs.Word.{pick}
-use Rattle.language.specs.Calls.{argumentCount}
-use Rattle.language.specs.Decode.{argumentListAt}
-use Rattle.language_emission.specs.Emission.{row_of, emitExpression}
-use Rattle.measures_table.specs.Parts.{calledIn}
-use Rattle.writers_rows.specs.Atoms.{atomTree}
+use Rattle.language.specs.Calls.{argument_count}
+use Rattle.language.specs.Decode.{argument_list_at}
+use Rattle.language_emission.specs.Emission.{row_of, emit_expression}
+use Rattle.measures_table.specs.Parts.{called_in}
+use Rattle.writers_rows.specs.Atoms.{atom_tree}
 use Rattle.writers_rows.specs.Chain.{PutWords, Reach, put-reach, put-room, room-less}
-use Rattle.writers_calls.specs.Arguments.{takenBy}
+use Rattle.writers_calls.specs.Arguments.{taken_by}
 use Rattle.writers_calls.specs.Ranks.{rank, rank_falls}
 use Rattle.writers_calls.specs.ArgumentLaws.{link-inside, passing-count, passing-taken, atoms-none, first-put, atoms-done}
 use borrow.Author.Rules.{rules}
@@ -62,8 +62,8 @@ module _ (t : ℕ) where
   returns c =
       let start = c.before.before in
       let args = start.args in
-      let none : argumentCount (argumentListAt args.rows.now args.argument) ≡ 0 = omega (arith, start.requires.1.1.size_is, c.if1.true) in
-      atoms-none (calledIn args.rows.now) args.store (argumentListAt args.rows.now args.argument) args.copies args.level args.base args.out.now none
+      let none : argument_count (argument_list_at args.rows.now args.argument) ≡ 0 = omega (arith, start.requires.1.1.size_is, c.if1.true) in
+      atoms-none (called_in args.rows.now) args.store (argument_list_at args.rows.now args.argument) args.copies args.level args.base args.out.now none
 
   argument-value-requires : lts.Need-argument-value-requires (claims t) (put-atoms-at t) put-atoms.Post
   argument-value-requires c κs =
@@ -89,8 +89,8 @@ module _ (t : ℕ) where
       let start = c.before.before.before.before.before in
       let args = start.args in
       let rows = args.rows.now in
-      let next = ap (λ (n : ℕ). takenBy (calledIn rows) (argumentListAt rows n) (args.copies / 2)) c.before.number_at.ensures in
-      omega (arith, start.requires.1.1.level-low, c.arguments-taken.ensures.is, next, passing-taken args.copies c.before.before.argument-value.ensures)
+      let next = ap (λ (n : ℕ). taken_by (called_in rows) (argument_list_at rows n) (args.copies / 2)) c.before.number_at.ensures in
+      omega (arith, start.requires.1.1.level_low, c.arguments-taken.ensures.is, next, passing-taken args.copies c.before.before.argument-value.ensures)
 
   add-above : lts.Need-overflow-add-above (claims t) (put-atoms-at t) put-atoms.Post
   add-above c = omega (arith, above_low c)
@@ -118,16 +118,16 @@ module _ (t : ℕ) where
   abbrev Headed : Type 0
   Headed = lts.After-out (claims t) (put-atoms-at t) put-atoms.Post
 
-  two-rows : (c : Headed) → 2 + 2 * argumentCount (argumentListAt c.before.before.before.before.before.before.before.before.before.before.args.rows.now c.before.before.before.before.before.before.number_at.result) ≡ c.before.before.before.before.before.before.before.before.before.before.args.size
+  two-rows : (c : Headed) → 2 + 2 * argument_count (argument_list_at c.before.before.before.before.before.before.before.before.before.before.args.rows.now c.before.before.before.before.before.before.number_at.result) ≡ c.before.before.before.before.before.before.before.before.before.before.args.size
   two-rows c =
       let start = c.before.before.before.before.before.before.before.before.before.before in
       let rows = start.args.rows.now in
-      omega (arith, start.requires.1.1.size_is, passing-count c.before.before.before.before.before.before.before.argument-value.ensures, ap (λ (n : ℕ). argumentCount (argumentListAt rows n)) c.before.before.before.before.before.before.number_at.ensures)
+      omega (arith, start.requires.1.1.size_is, passing-count c.before.before.before.before.before.before.before.argument-value.ensures, ap (λ (n : ℕ). argument_count (argument_list_at rows n)) c.before.before.before.before.before.before.number_at.ensures)
 
   written : (c : Headed) →
       let args = c.before.before.before.before.before.before.before.before.before.before.args in
       let value = c.before.before.before.before.held-atom.result in
-      PutWords (row_of 32 (pos (args.base + 1)) 0 0 0 (pick c.before.before.before.more.result (args.base + 2) 0) ++ emitExpression (atomTree value) (args.base + 1)) 2 args.out.now c.before.put-argument.new.1.1.1.0
+      PutWords (row_of 32 (pos (args.base + 1)) 0 0 0 (pick c.before.before.before.more.result (args.base + 2) 0) ++ emit_expression (atom_tree value) (args.base + 1)) 2 args.out.now c.before.put-argument.new.1.1.1.0
   written c =
       let args = c.before.before.before.before.before.before.before.before.before.before.args in
       first-put args.base (pick c.before.before.before.more.result (args.base + 2) 0) c.before.before.before.before.held-atom.result args.out.now c.before.put-argument.new.1.1.1.0 c.before.put-argument.ensures
@@ -158,14 +158,14 @@ module _ (t : ℕ) where
       let asks = start.requires.1.1 in
       let at = headed.before.before.before.before.before.before.before.argument-value.ensures in
       let next = headed.before.before.before.before.before.before.number_at.ensures in
-      let others = ap (λ (n : ℕ). takenBy (calledIn rows) (argumentListAt rows n) (args.copies / 2)) next in (
+      let others = ap (λ (n : ℕ). taken_by (called_in rows) (argument_list_at rows n) (args.copies / 2)) next in (
         omega (arith, start.requires.0, ap (rank rows) next, rank_falls rows args.argument _ at.some asks.inside (λ h. (at.behind h).later)),
         (
           start.requires.1.0,
           record {
             inside = omega (arith, next, link-inside _ asks.inside at.behind);
             size_is = omega (arith, two-rows headed);
-            level-low = omega (arith, asks.level-low, others, passing-taken args.copies at);
+            level_low = omega (arith, asks.level_low, others, passing-taken args.copies at);
             room = put-room _ (written headed) asks.room (omega (arith, two-rows headed));
           },
         ),
@@ -181,7 +181,7 @@ module _ (t : ℕ) where
       let args = start.args in
       let taken = headed.before.before.before.before.before in
       let next = taken.before.number_at.ensures in
-      let rest : args.size - 2 ≡ 2 * argumentCount (argumentListAt args.rows.now taken.before.number_at.result) = omega (arith, two-rows headed) in
+      let rest : args.size - 2 ≡ 2 * argument_count (argument_list_at args.rows.now taken.before.number_at.result) = omega (arith, two-rows headed) in
       atoms-done args.store args.rows.now args.argument args.copies args.level args.base args.out.now taken.before.before.argument-value.ensures next rest
       (ap (λ (n : ℕ). args.level + n) taken.arguments-taken.ensures.is) headed.before.before.before.before.held-atom.ensures headed.before.before.before.more.ensures headed.before.put-argument.ensures c.before.put-atoms.ensures
 

@@ -3,8 +3,8 @@ use mathlib.Core.Path.{refl, ap, ◌∙◌}
 use mathlib.Core.Bool.{Bool}
 use Prim.Native.Nat.{◌+◌}
 use Rattle.words.specs.Word.{pick}
-use Rattle.language.specs.Decode.{argumentListAt}
-use Rattle.measures_table.specs.Parts.{calledIn}
+use Rattle.language.specs.Decode.{argument_list_at}
+use Rattle.measures_table.specs.Parts.{called_in}
 use Rattle.writers_rows.proofs.Words.{pick-most}
 use Rattle.writers_calls.specs.ArgumentLaws.{call-done}
 use borrow.Author.Rules.{rules}
@@ -67,7 +67,7 @@ returns c =
     let start = c.before.before.before.before.before.before.before.before.before.before.before.before in
     let args = start.args in
     let link = c.before.before.before.before.before.before.behind.ensures ∙ ap (λ (b : Bool). pick b (args.base + 4) 0) c.before.before.before.before.before.before.before.more.ensures in
-    call-done (calledIn args.rows.now) args.store (argumentListAt args.rows.now args.first) args.copies args.level args.number args.function args.base args.follows args.out.now start.requires.1.size_is refl link
+    call-done (called_in args.rows.now) args.store (argument_list_at args.rows.now args.first) args.copies args.level args.number args.function args.base args.follows args.out.now start.requires.1.size_is refl link
     c.before.before.before.before.before.before.before.before.before.put-target.ensures c.before.before.before.before.put-row.ensures c.before.put-atoms.ensures
 
 pub put-call-spec : {M : Type 1} → statement M

@@ -16,7 +16,7 @@ use Rattle.language_shapes.proofs.rows.expression_at.Reads as expression-at-read
 at-start : (c : tie.Start) →
     let args = c.args in
     RowAsked args.store args.rows.now args.table.now args.row args.level
-at-start c = record { writing = c.requires.0; inside = c.requires.1; level-low = c.requires.2 }
+at-start c = record { writing = c.requires.0; inside = c.requires.1; level_low = c.requires.2 }
 
 expression-at-requires : tie.Need-expression-at-requires
 expression-at-requires c κs = search rules
@@ -40,13 +40,13 @@ atom-at-requires : tie.Need-atom-at-requires
 atom-at-requires c κs =
     let asked = at-start c.before.before.before.before.before.before.before.before in
     let shape = expressed (expressed c.before.before.before.before.before.before.expression-at.ensures c.before.before.before.before.shape.given.1) (ap expression.Choice c.before.choice.given.1) in
-    (asked.writing, shape.onward.0.inside, omega (arith, asked.level-low))
+    (asked.writing, shape.onward.0.inside, omega (arith, asked.level_low))
 
 atom-at-requires-2 : tie.Need-atom-at-requires-2
 atom-at-requires-2 c κs =
     let asked = at-start c.before.before.before.before.before.before.before.before.before in
     let shape = expressed (expressed c.before.before.before.before.before.before.before.expression-at.ensures c.before.before.before.before.before.shape.given.1) (ap expression.Choice c.before.before.choice.given.1) in
-    (asked.writing, shape.onward.1.inside, omega (arith, asked.level-low))
+    (asked.writing, shape.onward.1.inside, omega (arith, asked.level_low))
 
 number-branch-requires : tie.Need-number-branch-requires
 number-branch-requires c κs = search rules
@@ -58,13 +58,13 @@ atom-at-requires-3 : tie.Need-atom-at-requires-3
 atom-at-requires-3 c κs =
     let asked = at-start c.before.before.before.before.before.before.before.before in
     let shape = expressed (expressed c.before.before.before.before.before.before.expression-at.ensures c.before.before.before.before.shape.given.1) (ap expression.Choice c.before.choice2.given.1) in
-    (asked.writing, shape.onward.0.inside, omega (arith, asked.level-low))
+    (asked.writing, shape.onward.0.inside, omega (arith, asked.level_low))
 
 atom-at-requires-4 : tie.Need-atom-at-requires-4
 atom-at-requires-4 c κs =
     let asked = at-start c.before.before.before.before.before.before.before.before.before in
     let shape = expressed (expressed c.before.before.before.before.before.before.before.expression-at.ensures c.before.before.before.before.before.shape.given.1) (ap expression.Choice c.before.before.choice2.given.1) in
-    (asked.writing, shape.onward.1.inside, omega (arith, asked.level-low))
+    (asked.writing, shape.onward.1.inside, omega (arith, asked.level_low))
 
 number-branch-requires-2 : tie.Need-number-branch-requires-2
 number-branch-requires-2 c κs = search rules
@@ -76,7 +76,7 @@ atom-at-requires-5 : tie.Need-atom-at-requires-5
 atom-at-requires-5 c κs =
     let asked = at-start c.before.before.before.before.before.before.before.before in
     let shape = expressed (expressed c.before.before.before.before.before.before.expression-at.ensures c.before.before.before.before.shape.given.1) (ap expression.Choice c.before.choice3.given.1) in
-    (asked.writing, shape.onward.0.inside, omega (arith, asked.level-low))
+    (asked.writing, shape.onward.0.inside, omega (arith, asked.level_low))
 
 end-at-requires : tie.Need-end-at-requires
 end-at-requires c κs =
@@ -88,7 +88,7 @@ atom-at-requires-6 : tie.Need-atom-at-requires-6
 atom-at-requires-6 c κs =
     let asked = at-start c.before.before.before.before.before.before.before.before.before.before in
     let shape = expressed (expressed c.before.before.before.before.before.before.before.before.expression-at.ensures c.before.before.before.before.before.before.shape.given.1) (ap expression.Choice c.before.before.before.choice3.given.1) in
-    (asked.writing, shape.onward.1.inside, omega (arith, asked.level-low))
+    (asked.writing, shape.onward.1.inside, omega (arith, asked.level_low))
 
 end-at-requires-2 : tie.Need-end-at-requires-2
 end-at-requires-2 c κs =
@@ -100,7 +100,7 @@ atom-at-requires-7 : tie.Need-atom-at-requires-7
 atom-at-requires-7 c κs =
     let asked = at-start c.before.before.before.before.before.before.before.before.before.before.before.before in
     let shape = expressed (expressed c.before.before.before.before.before.before.before.before.before.before.expression-at.ensures c.before.before.before.before.before.before.before.before.shape.given.1) (ap expression.Choice c.before.before.before.before.before.choice3.given.1) in
-    (asked.writing, shape.onward.2.inside, omega (arith, asked.level-low))
+    (asked.writing, shape.onward.2.inside, omega (arith, asked.level_low))
 
 enum-told-4 : tie.Need-enum-told-4
 enum-told-4 c = search rules

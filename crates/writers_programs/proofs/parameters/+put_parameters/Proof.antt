@@ -6,7 +6,7 @@ use Prim.Native.Nat.{◌-◌}
 use lib.IntN.{pos}
 use lib.ListN.{length}
 use Rattle.words.specs.Word.{pick}
-use Rattle.language.specs.Decode.{parameterListAt}
+use Rattle.language.specs.Decode.{parameter_list_at}
 use Rattle.language_emission.specs.Emission.{row_of}
 use Rattle.writers_rows.specs.Chain.{PutWords, put-room}
 use Rattle.writers_rows.proofs.Words.{pick-most}
@@ -56,7 +56,7 @@ module _ (t : ℕ) where
   returns c =
       let start = c.before in
       let args = start.args in
-      parameters-none (parameterListAt args.rows.now args.parameter) args.base args.out.now (omega (arith, start.requires.1.count-is, c.if1.true))
+      parameters-none (parameter_list_at args.rows.now args.parameter) args.base args.out.now (omega (arith, start.requires.1.count_is, c.if1.true))
 
   sub-rest : lts.Need-overflow-sub-rest (claims t) (at t) own.Post
   sub-rest c = search rules
@@ -77,7 +77,7 @@ module _ (t : ℕ) where
   put-row-requires c κs =
       let start = c.before.before.before.before.before in
       let asks = start.requires.1 in
-      let found = counted_is asks.source start.args.parameter asks.inside (omega (arith, asks.count-is, c.before.before.before.before.if1.false)) in
+      let found = counted_is asks.source start.args.parameter asks.inside (omega (arith, asks.count_is, c.before.before.before.before.if1.false)) in
       let low = pick-most c.before.before.more.result (start.args.base + 1) in
       (omega (arith, asks.room.inside, c.before.before.before.before.if1.false), omega arith, omega (arith, c.before.before.before.number_at.ensures, found.low), omega arith, omega arith, omega (arith, c.before.behind.ensures, low, asks.room.low))
 
@@ -102,15 +102,15 @@ module _ (t : ℕ) where
       let args = start.args in
       let rows = args.rows.now in
       let asks = start.requires.1 in
-      let found = counted_is asks.source args.parameter asks.inside (omega (arith, asks.count-is, c.before.before.before.before.before.before.before.before.if1.false)) in
-      let some = parameter-some asks.source args.parameter (omega (arith, asks.count-is, c.before.before.before.before.before.before.before.before.if1.false)) in
+      let found = counted_is asks.source args.parameter asks.inside (omega (arith, asks.count_is, c.before.before.before.before.before.before.before.before.if1.false)) in
+      let some = parameter-some asks.source args.parameter (omega (arith, asks.count_is, c.before.before.before.before.before.before.before.before.if1.false)) in
       let next = c.before.number-at2.ensures in
       let row : PutWords (row_of 58 (pos c.before.before.before.before.before.before.before.number_at.result) 0 0 0 c.before.before.before.before.before.behind.result) 1 args.out.now c.before.before.before.put-row.new.1.1.1.1.1.0 = record { table = c.before.before.before.put-row.ensures; size = refl } in (
         omega (arith, start.requires.0, ap (rank rows) next, rank_falls rows args.parameter _ some asks.inside (λ h. (found.behind h).later)),
         record {
           source = asks.source;
           inside = omega (arith, next, optional-inside rows args.parameter _ asks.inside found.behind);
-          count-is = omega (arith, asks.count-is, c.before.before.before.before.before.before.before.before.if1.false, ap (λ words. length words) found.is, ap (λ (n : ℕ). length (parameterListAt rows n)) next);
+          count_is = omega (arith, asks.count_is, c.before.before.before.before.before.before.before.before.if1.false, ap (λ words. length words) found.is, ap (λ (n : ℕ). length (parameter_list_at rows n)) next);
           room = put-room _ row asks.room (omega (arith, c.before.before.before.before.before.before.before.before.if1.false));
         },
       )
@@ -123,9 +123,9 @@ module _ (t : ℕ) where
       let start = c.before.before.before.before.before.before.before.before.before.before.before in
       let args = start.args in
       let asks = start.requires.1 in
-      let found = counted_is asks.source args.parameter asks.inside (omega (arith, asks.count-is, c.before.before.before.before.before.before.before.before.before.before.if1.false)) in
+      let found = counted_is asks.source args.parameter asks.inside (omega (arith, asks.count_is, c.before.before.before.before.before.before.before.before.before.before.if1.false)) in
       let link = c.before.before.before.before.before.before.before.behind.ensures ∙ ap (λ (b : Bool). pick b (args.base + 1) 0) c.before.before.before.before.before.before.before.before.more.ensures in
-      parameters-done args.rows.now args.parameter args.base (args.count - 1) args.out.now found c.before.before.before.before.before.before.before.before.before.number_at.ensures c.before.before.before.number-at2.ensures (omega (arith, asks.count-is, c.before.before.before.before.before.before.before.before.before.before.if1.false)) link c.before.before.before.before.before.put-row.ensures c.before.put-parameters.ensures
+      parameters-done args.rows.now args.parameter args.base (args.count - 1) args.out.now found c.before.before.before.before.before.before.before.before.before.number_at.ensures c.before.before.before.number-at2.ensures (omega (arith, asks.count_is, c.before.before.before.before.before.before.before.before.before.before.if1.false)) link c.before.before.before.before.before.put-row.ensures c.before.put-parameters.ensures
 
 pub +put-parameters-spec : {M : Type 1} → statement M
 +put-parameters-spec = close μ λ t. lts.spec (claims t) (at t) own.Post

@@ -3,10 +3,10 @@ use mathlib.Core.Path.{sym, ap, ◌∙◌}
 use mathlib.Core.Bool.{Bool}
 use native.Mathlib.Omega.{arith}
 use Rattle.words.specs.Word.{pick}
-use Rattle.language.specs.Decode.{listAt}
-use Rattle.translation.specs.Translate.{programLevels}
-use Rattle.translation.specs.TranslateSize.{programSize}
-use Rattle.measures_table.specs.Parts.{calledIn}
+use Rattle.language.specs.Decode.{list_at}
+use Rattle.translation.specs.Translate.{program_levels}
+use Rattle.translation.specs.TranslateSize.{program_size}
+use Rattle.measures_table.specs.Parts.{called_in}
 use Rattle.writers_rows.proofs.Words.{pick-most}
 use Rattle.writers.proofs.Sequence.{room-behind}
 use Rattle.writers_programs.proofs.ProgramLaws.{program-labels-small, program-numbered, program-done}
@@ -46,7 +46,7 @@ write-front-requires c κs =
     let past-number-at = c.before.before.before.before.before.before.number_at in
     let same = contents-at rows past-number-at.ensures in
     let source = asks.writing.measured.source in
-    let size = ap (programSize (calledIn rows)) same in
+    let size = ap (program_size (called_in rows)) same in
     let past-put-block = c.before.before.put-block in (
       asks.writing,
       record {
@@ -54,9 +54,9 @@ write-front-requires c κs =
         numbers = program-numbered source past-number-at.ensures;
         takes = record {
           size_is = asks.size_is ∙ sym size;
-          levels-are = asks.levels-are ∙ sym (ap (programLevels (calledIn rows)) same);
+          levels_are = asks.levels_are ∙ sym (ap (program_levels (called_in rows)) same);
           store_low = asks.store_low;
-          labels-low = omega (arith, program-labels-small (calledIn rows) (listAt rows past-number-at.result), size, asks.size_is, asks.room.low);
+          labels_low = omega (arith, program-labels-small (called_in rows) (list_at rows past-number-at.result), size, asks.size_is, asks.room.low);
           room = room-behind 1 _ past-put-block.new.1.1.0 asks.room past-put-block.auto.1.1.0 (omega arith);
         };
       },

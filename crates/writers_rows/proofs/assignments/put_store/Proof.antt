@@ -1,7 +1,7 @@
 -- array[atom] := atom: the rows that head it, and two atoms.
 use mathlib.Core.Path.{refl}
 use Rattle.writers_rows.specs.Chain.{put_next, reworded}
-use Rattle.writers_rows.proofs.Words.{rows-put, atom-put, store_words}
+use Rattle.writers_rows.proofs.Words.{rows-put, atom-put, store-words}
 use borrow.Author.Rules.{rules}
 use Rattle.writers_rows.proofs.assignments.put_store.Statement.{statement}
 use Rattle.writers_rows.proofs.assignments.put_store.Tie as tie
@@ -48,7 +48,7 @@ returns c =
     let head = rows-put 3 _ _ _ c.before.before.before.before.before.before.before.put-target.ensures refl in
     let index = atom-put _ _ start.args.index c.before.before.before.before.put-atom.ensures in
     let value = atom-put _ _ start.args.value c.before.put-atom2.ensures in
-    reworded _ (put_next (put_next head index) value) (store_words start.args.base start.args.follows start.args.array start.args.index start.args.value)
+    reworded _ (put_next (put_next head index) value) (store-words start.args.base start.args.follows start.args.array start.args.index start.args.value)
 
 pub put-store-spec : {M : Type 1} → statement M
 put-store-spec =

@@ -4,7 +4,7 @@ use lib.IntN.{ℤ}
 use mir.Syntax.{w32}
 use mir.Facts.{to_z-of_z}
 use Rattle.language_emission.specs.Emission.{row_of}
-use Rattle.writers_rows.specs.Atoms.{atomRow}
+use Rattle.writers_rows.specs.Atoms.{atom_row}
 use Rattle.writers_rows.proofs.Words.{atom-low, worded}
 use borrow.Author.Rules.{rules}
 use Rattle.writers_rows.proofs.rows.put_atom.Statement.{statement}
@@ -30,13 +30,13 @@ same_length c = search rules
 
 returns : tie.Need-returns
 returns c =
-    worded _ _ _ _ c.before.put.ensures (ap (λ (v : ℤ). row_of 1 v 0 0 0 0) (to_z-of_z {w = w32} (search rules)) ∙ ap atomRow (sym c.before.before.before.before.before.atom.given.1))
+    worded _ _ _ _ c.before.put.ensures (ap (λ (v : ℤ). row_of 1 v 0 0 0 0) (to_z-of_z {w = w32} (search rules)) ∙ ap atom_row (sym c.before.before.before.before.before.atom.given.1))
 
 same-length-2 : tie.Need-same-length-2
 same-length-2 c = search rules
 
 returns-2 : tie.Need-returns-2
-returns-2 c = worded _ _ _ _ c.before.put-row.ensures (ap atomRow (sym c.before.before.before.before.atom2.given.1))
+returns-2 c = worded _ _ _ _ c.before.put-row.ensures (ap atom_row (sym c.before.before.before.before.atom2.given.1))
 
 pub put-atom-spec : {M : Type 1} → statement M
 put-atom-spec =

@@ -22,7 +22,7 @@ enum_told : tie.Need-enum-told
 enum_told c = search rules
 
 add-t10 : tie.Need-overflow-add-t10
-add-t10 c = omega (arith, c.before.before.before.before.requires.0.small-store, c.before.before.before.before.requires.2)
+add-t10 c = omega (arith, c.before.before.before.before.requires.0.small_store, c.before.before.before.before.requires.2)
 
 returns : tie.Need-returns
 returns c = atom-number (held-as c.before.before.before.holder-at.ensures c.before.holder.given.1) (to_z-of_z {w = w32} (search rules))
@@ -31,7 +31,7 @@ returns-2 : tie.Need-returns-2
 returns-2 c = atom-variable (held-as c.before.before.before.holder-at.ensures c.before.holder2.given.1)
 
 returns-3 : tie.Need-returns-3
-returns-3 c = atom-temporary (held-as c.before.before.holder-at.ensures c.enum_told.given.1) (omega (arith, c.before.before.before.before.requires.0.small-store, c.before.before.before.before.requires.2))
+returns-3 c = atom-temporary (held-as c.before.before.holder-at.ensures c.enum_told.given.1) (omega (arith, c.before.before.before.before.requires.0.small_store, c.before.before.before.before.requires.2))
 
 pub atom-at-spec : {M : Type 1} → statement M
 atom-at-spec =

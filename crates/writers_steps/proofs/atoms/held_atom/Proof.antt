@@ -10,7 +10,7 @@ add-t8 : tie.Need-overflow-add-t8
 add-t8 c = search rules
 
 returns : tie.Need-returns
-returns c = held-copy c.before.before.args.row c.before.before.args.store c.before.before.args.level (omega arith) (omega (arith, c.before.before.requires.0.small-store, c.before.before.requires.2))
+returns c = held-copy c.before.before.args.row c.before.before.args.store c.before.before.args.level (omega arith) (omega (arith, c.before.before.requires.0.small_store, c.before.before.requires.2))
 
 atom-at-requires : tie.Need-atom-at-requires
 atom-at-requires c κs = search rules

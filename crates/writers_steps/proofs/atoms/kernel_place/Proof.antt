@@ -8,10 +8,10 @@ place-at-requires : tie.Need-place-at-requires
 place-at-requires c κs = search rules
 
 held-place-requires : tie.Need-held-place-requires
-held-place-requires c κs = (c.before.before.requires.0, place_inside _ c.place_at.ensures, c.before.before.requires.2)
+held-place-requires c κs = (c.before.before.requires.0, place_inside _ c.place-at.ensures, c.before.before.requires.2)
 
 returns : tie.Need-returns
-returns c = place_found c.before.place_at.ensures c.held_place.ensures
+returns c = place_found c.before.place-at.ensures c.held_place.ensures
 
 pub kernel-place-spec : {M : Type 1} → statement M
 kernel-place-spec = tie.close (tie.spec place-at-requires held-place-requires returns)

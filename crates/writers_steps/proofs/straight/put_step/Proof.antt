@@ -3,13 +3,13 @@ use mathlib.Core.Path.{ap, ap₂}
 use Prim.Native.Nat.{ℕ, ◌+◌}
 use native.Mathlib.Omega.{arith}
 use Rattle.language.specs.Trees.{Place}
-use Rattle.language.specs.Decode.{place_of, expressionAt}
-use Rattle.translation.specs.Translate.{postfixCode}
-use Rattle.translation.specs.TranslateSize.{postfixRows}
+use Rattle.language.specs.Decode.{place_of, expression_at}
+use Rattle.translation.specs.Translate.{postfix_code}
+use Rattle.translation.specs.TranslateSize.{postfix_rows}
 use Rattle.writers_rows.specs.Chain.{room-less}
 use Rattle.writers_steps.specs.AtomLaws.{postfix-rows}
 use Rattle.writers_rows.specs.LeafLaws.{recoded, place-taken-most}
-use Rattle.measures_table.specs.Parts.{calledIn}
+use Rattle.measures_table.specs.Parts.{called_in}
 use borrow.Author.Rules.{rules}
 use Rattle.writers_steps.proofs.straight.put_step.Statement.{statement}
 use Rattle.writers_steps.proofs.straight.put_step.Tie as tie
@@ -18,7 +18,7 @@ add-kernel-place : tie.Need-overflow-add-kernel-place
 add-kernel-place c = search rules
 
 kernel-place-requires : tie.Need-kernel-place-requires
-kernel-place-requires c κs = (c.before.before.requires.writing, c.before.before.requires.place_inside, omega (arith, c.before.before.requires.level-low))
+kernel-place-requires c κs = (c.before.before.requires.writing, c.before.before.requires.place_inside, omega (arith, c.before.before.requires.level_low))
 
 add-above : tie.Need-overflow-add-above
 add-above c = search rules
@@ -27,16 +27,16 @@ place-taken-requires : tie.Need-place-taken-requires
 place-taken-requires c κs = (c.before.before.before.before.requires.writing.measured, c.before.before.before.before.requires.place_inside)
 
 add-above-2 : tie.Need-overflow-add-above-2
-add-above-2 c = omega (arith, c.before.before.before.before.before.requires.level-low, c.place-taken.ensures, place-taken-most (calledIn c.before.before.before.before.before.args.rows.now) (place_of (expressionAt c.before.before.before.before.before.args.rows.now c.before.before.before.before.before.args.place)), c.before.before.before.before.before.requires.writing.small-store)
+add-above-2 c = omega (arith, c.before.before.before.before.before.requires.level_low, c.place-taken.ensures, place-taken-most (called_in c.before.before.before.before.before.args.rows.now) (place_of (expression_at c.before.before.before.before.before.args.rows.now c.before.before.before.before.before.args.place)), c.before.before.before.before.before.requires.writing.small_store)
 
 put-postfix-requires : tie.Need-put-postfix-requires
-put-postfix-requires c κs = (room-less _ c.before.before.before.before.before.before.requires.room (omega (arith, ap (λ (p : Place). postfixRows p c.before.before.before.before.before.before.args.usage) c.before.before.before.kernel-place.ensures.is, postfix-rows (calledIn c.before.before.before.before.before.before.args.rows.now) c.before.before.before.before.before.before.args.at.store (place_of (expressionAt c.before.before.before.before.before.before.args.rows.now c.before.before.before.before.before.before.args.place)) c.before.before.before.before.before.before.args.usage (c.before.before.before.before.before.before.args.at.level + 1))), c.before.before.before.kernel-place.ensures.fits, omega (arith, c.before.before.before.before.before.before.requires.level-low, c.before.before.before.before.before.before.requires.writing.small-store), omega (arith, c.before.before.before.before.before.before.requires.level-low, c.before.place-taken.ensures, place-taken-most (calledIn c.before.before.before.before.before.before.args.rows.now) (place_of (expressionAt c.before.before.before.before.before.before.args.rows.now c.before.before.before.before.before.before.args.place)), c.before.before.before.before.before.before.requires.writing.small-store))
+put-postfix-requires c κs = (room-less _ c.before.before.before.before.before.before.requires.room (omega (arith, ap (λ (p : Place). postfix_rows p c.before.before.before.before.before.before.args.usage) c.before.before.before.kernel-place.ensures.is, postfix-rows (called_in c.before.before.before.before.before.before.args.rows.now) c.before.before.before.before.before.before.args.at.store (place_of (expression_at c.before.before.before.before.before.before.args.rows.now c.before.before.before.before.before.before.args.place)) c.before.before.before.before.before.before.args.usage (c.before.before.before.before.before.before.args.at.level + 1))), c.before.before.before.kernel-place.ensures.fits, omega (arith, c.before.before.before.before.before.before.requires.level_low, c.before.before.before.before.before.before.requires.writing.small_store), omega (arith, c.before.before.before.before.before.before.requires.level_low, c.before.place-taken.ensures, place-taken-most (called_in c.before.before.before.before.before.before.args.rows.now) (place_of (expression_at c.before.before.before.before.before.before.args.rows.now c.before.before.before.before.before.before.args.place)), c.before.before.before.before.before.before.requires.writing.small_store))
 
 same_length : tie.Need-same-length
 same_length c = search rules
 
 returns : tie.Need-returns
-returns c = recoded _ _ _ _ _ _ c.before.put-postfix.ensures (ap₂ (λ (q : Place) (u : ℕ). postfixCode c.before.before.before.before.before.before.before.before.args.at.store c.before.before.before.before.before.before.before.before.args.operator q c.before.before.before.before.before.before.before.before.args.usage c.before.before.before.before.before.before.before.before.args.at.level u) c.before.before.before.before.before.kernel-place.ensures.is (ap (λ (n : ℕ). c.before.before.before.before.before.before.before.before.args.at.level + 1 + n) c.before.before.before.place-taken.ensures))
+returns c = recoded _ _ _ _ _ _ c.before.put-postfix.ensures (ap₂ (λ (q : Place) (u : ℕ). postfix_code c.before.before.before.before.before.before.before.before.args.at.store c.before.before.before.before.before.before.before.before.args.operator q c.before.before.before.before.before.before.before.before.args.usage c.before.before.before.before.before.before.before.before.args.at.level u) c.before.before.before.before.before.kernel-place.ensures.is (ap (λ (n : ℕ). c.before.before.before.before.before.before.before.before.args.at.level + 1 + n) c.before.before.before.place-taken.ensures))
 
 pub put-step-spec : {M : Type 1} → statement M
 put-step-spec =

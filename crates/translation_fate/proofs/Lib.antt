@@ -1,0 +1,5 @@
+-- Laws of this crate's definitions. A line of comment for each file.
+-- The theorem: every accepted program has such a kernel form.
+pub mod KernelFormLaws
+-- A legal kernel program that shows a temporary: the view hides them in translations, not in every kernel program.
+pub mod ShownTemporary

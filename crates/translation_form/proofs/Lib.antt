@@ -1,0 +1,7 @@
+-- Laws of this crate's definitions. A line of comment for each file.
+-- Every translation is a kernel program's tree.
+pub mod TranslateKernel
+-- Two runs of a translation that start alike but for the temporaries show the same.
+pub mod TemporariesHidden
+-- The calls of a translation are in order.
+pub mod TranslateCalls

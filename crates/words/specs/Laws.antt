@@ -38,7 +38,7 @@ or_right false b e = e
 
 -- a word that went through its bits is itself
 pub back : (z : ℤ) → mag z < 2 ^ 31 → to_z w32 (of_z w32 z) ≡ z
-back z h = to_z-of_z (record { sfits = h })
+back z h = to_z-of_z {w = w32} (record { sfits = h })
 
 pub same_word-refl : (x : ℤ) → same_word x x ≡ true
 unfolding same_word

@@ -1,0 +1,11 @@
+-- `number_at` is the number that the word names.
+use mathlib.Core.Path.{ap, ◌∙◌}
+use borrow.Author.Rules.{rules}
+use Rattle.words.specs.Word.{natural}
+use Rattle.words.specs.Table.{number_at}
+use Rattle.words.specs.Laws.{back}
+use Rattle.words.proofs.table.number_at.Goals as goal
+
+pub returns : goal.returns
+unfolding number_at
+returns c = c.natural.ensures ∙ ap natural (back c.word_at.result c.word_at.type_inv ∙ c.word_at.ensures)

@@ -68,7 +68,7 @@ pub wide_fits : {x : ℤ} → SFits w32 x → SFits w64 (again x)
 wide_fits {x} h = rw (to_z-of_z {z = x} h) (sfits_widen {w = w32} tt h)
 
 wide_is : (x : ℤ) → SFits w32 x → wide x ≡ x
-wide_is x h = ap (λ (z : ℤ). to_z w64 (of_z w64 z)) (to_z-of_z {z = x} h) ∙ to_z-of_z (sfits_widen {w = w32} tt h)
+wide_is x h = ap (λ (z : ℤ). to_z w64 (of_z w64 z)) (to_z-of_z {z = x} h) ∙ to_z-of_z {w = w64} (sfits_widen {w = w32} tt h)
 
 module _ (operation : ℤ → ℤ → ℤ) (holds : Holds64 operation) {x y : ℤ} (h : SFits w32 x) (k : SFits w32 y) where
   pub operation-fits : SFits w64 (operation (wide x) (wide y))
@@ -213,7 +213,7 @@ module _ {x y : ℤ} (h : SFits w32 x) (k : SFits w32 y) where
       unfolding apply remainder_by
       remainder_is =
           rw (to_z-of_z {z = x} h, to_z-of_z {z = y} k, not-false (is_word (quot_z x y)) t)
-          (ap value (to_z-of_z (record { sfits = omega (arith, mag_rem x y, h.sfits) })) ∙ sym (divisor _ k n))
+          (ap value (to_z-of_z {w = w32} (record { sfits = omega (arith, mag_rem x y, h.sfits) })) ∙ sym (divisor _ k n))
 
 -- ---- every operator, on words handed on to the function for it
 

@@ -1,0 +1,19 @@
+-- `divide`: past its tests the quotient is a word.
+use borrow.Author.Rules.{rules}
+use Rattle.arithmetic.proofs.Results.{divide-zero, divide-overflows, quotient-told, divide-fits, divide_is}
+use Rattle.arithmetic.proofs.divide.Goals as goal
+
+pub returns-then-right-eq0 : goal.returns-then-right-eq0
+returns-then-right-eq0 c = let s = c.before in divide-zero s.ranges.left s.ranges.right c.if-right-eq0.true
+
+pub returns-then-quotient_overflows : goal.returns-then-quotient_overflows
+returns-then-quotient_overflows c = let s = c.before.before.before in divide-overflows s.ranges.left s.ranges.right c.if-right-eq0.false
+    (quotient-told s.ranges.left s.ranges.right c.quotient_overflows.ensures c.if-quotient_overflows.true)
+
+pub nonzero_div-result : goal.nonzero_div-result
+nonzero_div-result c = let s = c.before.before.before in divide-fits s.ranges.left s.ranges.right c.if-right-eq0.false
+    (quotient-told s.ranges.left s.ranges.right c.quotient_overflows.ensures c.if-quotient_overflows.false)
+
+pub returns : goal.returns
+returns c = let s = c.before.before.before in divide_is s.ranges.left s.ranges.right c.if-right-eq0.false
+    (quotient-told s.ranges.left s.ranges.right c.quotient_overflows.ensures c.if-quotient_overflows.false)

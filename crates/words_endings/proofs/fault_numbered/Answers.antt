@@ -6,8 +6,7 @@ use borrow.Author.Tests.{ne_eqb}
 use Rattle.words.specs.Answers.{fault_number, fault_among, other_faults, fault_numbered}
 use Rattle.words.specs.declared.FaultSort.{FaultSort}
 use Rattle.words.specs.declared.FaultSort.TheVariants.{Index}
-use Rattle.words_endings.proofs.fault_numbered.Statement.{statement}
-use Rattle.words_endings.proofs.fault_numbered.Tie as tie
+use Rattle.words_endings.proofs.fault_numbered.Goals as goal
 
 -- an arm: the fault with the arm's number
 arm : {number : ℕ} (key : ℕ) → number ≡ key → fault_numbered key ≡ fault_numbered number
@@ -28,6 +27,18 @@ rest : {number : ℕ} (known : Type 0) → NoneOf other_faults number known → 
 unfolding fault_numbered
 rest known r = (none_of other_faults _ known r).0
 
-pub fault-numbered-spec : {M : Type 1} → statement M
+pub returns-in-2 : goal.returns-in-2
 unfolding fault_numbered
-fault-numbered-spec = tie.close (tie.spec (λ c. arm 2 c.match.keys1) (λ c. arm 3 c.match.keys2) (λ c. arm 5 c.match.keys3) (λ c. rest _ c.match.rest))
+returns-in-2 c = arm 2 c.in-2.is
+
+pub returns-in-3 : goal.returns-in-3
+unfolding fault_numbered
+returns-in-3 c = arm 3 c.in-3.is
+
+pub returns-in-5 : goal.returns-in-5
+unfolding fault_numbered
+returns-in-5 c = arm 5 c.in-5.is
+
+pub returns-in_default : goal.returns-in_default
+unfolding fault_numbered
+returns-in_default c = rest _ c.in_default.in_default-own.rest

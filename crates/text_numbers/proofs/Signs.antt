@@ -60,7 +60,7 @@ turned-of (negsuc n) h e =
 pub turned : (z : ℤ) → SFits w32 z → lt_z (again z) (pos 0) ≡ true → Turned z (pos 0 -ℤ again64 (again z))
 turned z f e =
     let b : again z ≡ z = to_z-of_z f in
-    let b64 : again64 z ≡ z = to_z-of_z (record { sfits = omega (arith, f.sfits) }) in
+    let b64 : again64 z ≡ z = to_z-of_z {w = w64} (record { sfits = omega (arith, f.sfits) }) in
     let k : pos 0 -ℤ again64 (again z) ≡ pos 0 -ℤ z = ap (λ (y : ℤ). pos 0 -ℤ again64 y) b ∙ ap (λ (y : ℤ). pos 0 -ℤ y) b64 in
     subst (λ (y : ℤ). Turned z y) (sym k) (turned-of z f.sfits (rw b at e))
 

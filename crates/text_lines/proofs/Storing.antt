@@ -7,6 +7,7 @@ use native.Mathlib.Omega.{arith}
 use lib.IntN.{ℤ}
 use lib.ListN.{length, take, drop, set, length-append}
 use mir.Facts.{to_z-of_z}
+use Rattle.std.specs.Int.{w32}
 use Rattle.text_numbers.specs.Number.{number_of}
 use Rattle.text_lines.specs.Line.{fields_of, numbers_of}
 use Rattle.words.specs.Over.{over}
@@ -57,7 +58,7 @@ module _ {line : List ℕ} {at count : ℕ} {table written : List ℤ} (s : Stor
 
       pub stored_next : Stored line (end + 1) (count + 1) table (set written count (again z))
       stored_next =
-          let same : again z ≡ z = to_z-of_z (record { sfits = (number-reads _ z e).fits }) in
+          let same : again z ≡ z = to_z-of_z {w = w32} (record { sfits = (number-reads _ z e).fits }) in
           record {
             counted = counted_next s.counted p z e;
             holds = s.holds;

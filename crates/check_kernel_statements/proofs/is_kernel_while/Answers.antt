@@ -1,0 +1,17 @@
+-- `is_kernel_while` makes its definition's tests in order.
+use borrow.Author.Tests.{eq-eqb, ne_eqb}
+use Rattle.check_kernel_statements.specs.Statements.{is_kernel_while}
+use borrow.Author.Rules.{rules}
+use Rattle.check_kernel_statements.proofs.is_kernel_while.Goals as goal
+
+pub returns-then-number_or_zero-ne44 : goal.returns-then-number_or_zero-ne44
+unfolding is_kernel_while
+returns-then-number_or_zero-ne44 c = rw (← c.number_or_zero.ensures, ne_eqb _ _ c.if-number_or_zero-ne44.true)
+
+pub returns-then-is_atom : goal.returns-then-is_atom
+unfolding is_kernel_while
+returns-then-is_atom c = rw (← c.number_or_zero.ensures, eq-eqb _ _ c.if-number_or_zero-ne44.false, ← c.number_or_zero-2.ensures, ← c.is_atom.ensures, c.if-is_atom.true, ← c.number_or_zero-then-is_atom.ensures) c.is_block.ensures
+
+pub returns : goal.returns
+unfolding is_kernel_while
+returns c = rw (← c.number_or_zero.ensures, eq-eqb _ _ c.if-number_or_zero-ne44.false, ← c.number_or_zero-2.ensures, ← c.is_atom.ensures, c.if-is_atom.false)

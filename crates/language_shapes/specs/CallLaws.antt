@@ -75,24 +75,24 @@ passed_arguments (postfix operator p) = no_more
 passed_arguments (call f arguments) = arguments
 
 module _ {rows : List ℤ} {row f : ℕ} {arguments : Arguments} (s : Source rows) (inside : row < row_count rows) (is : expression_at rows row ≡ call f arguments) where
-  is_call : kind_at rows row ≡ OfExpression Call
-  is_call = call-kind (kind_at rows row) _ _ _ (sym (ap is_call (expression-at rows s.sound.whole row)) ∙ ap is_call is)
+  is-call : kind_at rows row ≡ OfExpression Call
+  is-call = call-kind (kind_at rows row) _ _ _ (sym (ap is_call (expression-at rows s.sound.whole row)) ∙ ap is_call is)
 
   first-link : 0 < number_at rows row 2 → row < number_at rows row 2
   unfolding sort_in kind_row expression_fields is_link
-  first-link h = (optional-link-of s.sound inside is_call 2 (omega arith) (omega arith) refl h).later
+  first-link h = (optional-link-of s.sound inside is-call 2 (omega arith) (omega arith) refl h).later
 
   read-call : expression_at rows row ≡ call (number_at rows row 1) (argument_list_at rows (number_at rows row 2))
-  read-call = at_call rows s.sound.whole row is_call first-link
+  read-call = at_call rows s.sound.whole row is-call first-link
 
   number_is : f ≡ number_at rows row 1
   number_is = ap called_number (sym is ∙ read-call)
 
   pub call-defined : f < function_count (contents rows)
-  call-defined = rw number_is (s.functions.defined row inside is_call)
+  call-defined = rw number_is (s.functions.defined row inside is-call)
 
   pub call-behind : f < row
-  call-behind = rw number_is (s.functions.behind row inside is_call)
+  call-behind = rw number_is (s.functions.behind row inside is-call)
 
   pub call-arguments : argument_count arguments ≤ 64
-  call-arguments = rw (ap passed_arguments (sym is ∙ read-call)) (s.functions.few_arguments row inside is_call)
+  call-arguments = rw (ap passed_arguments (sym is ∙ read-call)) (s.functions.few_arguments row inside is-call)

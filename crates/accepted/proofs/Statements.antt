@@ -20,7 +20,7 @@ use Rattle.words.specs.declared.MarkKind.TheVariants.{Case, Default, Label}
 use Rattle.words.specs.declared.MemberKind.TheVariants.{Arm, Argument}
 use Rattle.language.specs.Trees.{Expression, absent, present, case, default, label, Statement, empty, express, block, if_then, if_else, while, do_while, for, switch, break, continue, goto, guarded_if, guarded_do, abort, declare, give_back, no_arm, arm, none, ◌then◌, ◌here◌, define}
 use Rattle.language.specs.Decode.{expression_at, parameters_at, block_items, statement_of, statement_at, items_at, arms_at, decode, list_at, arm_list_at, part_at, parameter_list_at}
-use Rattle.language.specs.DecodeLaws.{statement-at, at-empty, at-express, at_block, at-if_then, at-if_else, at-while, at-do_while, at-for, at-switch, at-break, at-continue, at-goto, at-guarded_if, at-guarded_do, at-abort, at-declare, at_return_lem, at_item, at-case, at_default, at_label, at-definition, at-parameter, at-arm, part-some}
+use Rattle.language.specs.DecodeLaws.{statement-at, at-empty, at-express, at_block, at-if_then, at-if_else, at-while, at-do_while, at-for, at-switch, at-break, at-continue, at-goto, at-guarded_if, at-guarded_do, at-abort, at-declare, at_return, at_item, at-case, at_default, at_label, at-definition, at-parameter, at-arm, part-some}
 use Rattle.words.specs.Links.{link, is_statement, is_block, is_arm, fits}
 use Rattle.language.specs.Program.{contents}
 use Rattle.check_structure.specs.StructuredLaws.{structured-tree}
@@ -275,7 +275,7 @@ module _ (form : Form) (bounds : Bounds) (rows : List ℤ) (s : Structured form 
         declare-row k b.leads (rw b.same (at-declare rows whole row k b.later)) (operand b)
     statement-by other (OfStatement Return) k t =
         let a = may_at k optional_expression 1 refl refl in
-        return-row k (rw a.same (at_return_lem rows whole row k a.later)) (part a)
+        return-row k (rw a.same (at_return rows whole row k a.later)) (part a)
     statement-by other (OfMember Arm) k t = absurd (false≢true t)
     statement-by other (OfMember Argument) k t = absurd (false≢true t)
     statement-by other Definition k t = definition-row k (rw (statement-at rows whole row, k))

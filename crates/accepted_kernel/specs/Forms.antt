@@ -16,7 +16,7 @@ use Rattle.words.specs.declared.Kind.TheVariants.{OfStatement}
 use Rattle.words.specs.declared.StatementKind.TheVariants.{Block, If}
 use Rattle.language.specs.Trees.{block, present, Items}
 use Rattle.language.specs.Decode.{expression_at, part_at, statement_of, statement_at, list_at}
-use Rattle.language.specs.DecodeLaws.{statement-at, at-empty, at-express, at_block, at-if_else, at-while, at-goto, at-abort, at_return_lem}
+use Rattle.language.specs.DecodeLaws.{statement-at, at-empty, at-express, at_block, at-if_else, at-while, at-goto, at-abort, at_return}
 use Rattle.words.specs.Links.{is_statement, link, fits}
 use Rattle.check_fields.specs.Fields.{bounds_of}
 use Rattle.words_roles.specs.Roles.{is_parameter}
@@ -175,7 +175,7 @@ module _ (header rows : List ℤ) (legal : Legal header rows) where
         let value = may-link Kernel bounds rows s row n k optional_expression 1 refl refl in
         let there : 0 < number_at rows row 1 = above_zero (number_at rows row 1) (λ q. true≢false (sym atom.0 ∙ ap not (eq-eqb _ _ q))) in
         let inside = return_inside rows tree (block-undefined rows 0 s.block) row (rw e) (legal.returns_inside row n) in
-        rw (at_return_lem rows whole row k value.later, part-some (number_at rows row 1) there, inside) (kernel-return (atom-at bounds rows s (number_at rows row 1) atom.1))
+        rw (at_return rows whole row k value.later, part-some (number_at rows row 1) there, inside) (kernel-return (atom-at bounds rows s (number_at rows row 1) atom.1))
       where
         part-some : (l : ℕ) → 0 < l → part_at rows l ≡ present (expression_at rows l)
         part-some zero p = absurd (omega arith)

@@ -20,7 +20,7 @@ use Rattle.computation.specs.Computation.{Computation, ret, ◌>>=◌, loop}
 use Rattle.computation.proofs.Remaining.{Rest, gives, onward, spend}
 use Rattle.language.specs.Trees.{Part, absent, present, label, Statement, express, block, if_then, if_else, while, do_while, for, switch, declare, give_back}
 use Rattle.language.specs.Decode.{expression_at, statement_at, list_at, part_at}
-use Rattle.language.specs.DecodeLaws.{at-no-statement, at-empty, at-express, at_block, at-if_then, at-if_else, at-while, at-do_while, at-for, at-switch, at-break, at-continue, at-goto, at-declared, at_return_lem, part-some}
+use Rattle.language.specs.DecodeLaws.{at-no-statement, at-empty, at-express, at_block, at-if_then, at-if_else, at-while, at-do_while, at-for, at-switch, at-break, at-continue, at-goto, at-declared, at_return, part-some}
 use Rattle.language.specs.Meaning.{Context, Signal, next, breaking, continuing, seeking, returning, perform, items, after_switch}
 use Rattle.language.specs.Sound.{Link, OptionalLink}
 use Rattle.language.specs.SoundLaws.{root_none, field_of, optional-link-of}
@@ -253,7 +253,7 @@ module _ {rows : List ℤ} {bounds : List ℕ} {words row : ℕ} where
   pub return-row : Entered rows bounds words row (OfStatement Return) → {a : ℕ} → a ≡ number_at rows row 1 → (n : ℕ) (s : List ℤ)
       → spend (perform_at rows bounds row) n s ≡ onward (spend (part_or (pos 0) rows bounds a) n s) (λ v n s. gives (returning v) n s)
   return-row here {a} p n s =
-      known rows bounds row _ n s (at_return_lem rows (whole here) row here.kind_is (λ h. (return-link here h).later) ∙ ap (λ (k : ℕ). give_back (part_at rows k)) (sym p))
+      known rows bounds row _ n s (at_return rows (whole here) row here.kind_is (λ h. (return-link here h).later) ∙ ap (λ (k : ℕ). give_back (part_at rows k)) (sym p))
       ∙ enter-return (context_at rows bounds) n s (part_at rows a)
 
   -- a row whose number no statement has

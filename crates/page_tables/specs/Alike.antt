@@ -20,7 +20,7 @@ use Rattle.words.specs.declared.MarkKind.TheVariants.{Label}
 use Rattle.words_roles.specs.Roles.{is_parameter}
 use Rattle.language.specs.Trees.{Expression, read, minus, binary, assign, element, label, Statement, express, block, if_else, while, give_back, none, ◌then◌, ◌here◌}
 use Rattle.language.specs.Decode.{place_of, expression_at, argument_list_at, statement_at, items_at, list_at, part_at, parameter_list_at}
-use Rattle.language.specs.DecodeLaws.{at_constant, at-variable, at-element, at-minus, at-binary, at-assign, at-no-statement, at-express, at_block, at-if_then, at-if_else, at-while, at-goto, at_return_lem, at_item, at_label, part-some}
+use Rattle.language.specs.DecodeLaws.{at_constant, at-variable, at-element, at-minus, at-binary, at-assign, at-no-statement, at-express, at_block, at-if_then, at-if_else, at-while, at-goto, at_return, at_item, at_label, part-some}
 use Rattle.check_structure.specs.NoteLaws.{above_zero}
 use Rattle.check_fields.specs.declared.Bounds.{Bounds}
 use Rattle.check_structure.specs.Structured.{Leads, Structured}
@@ -403,7 +403,7 @@ module _ (bounds : Bounds) (rows other : List ℤ) (s : Structured Kernel bounds
         let i : kind_at other that ≡ OfStatement Return = j ∙ k in
         let a = may-link Kernel bounds rows s row n k optional_expression 1 refl refl in
         let b = may-link Kernel bounds other t that m i optional_expression 1 refl refl in
-        let f : statement_at other that ≡ give_back (part_at other (link other that 1)) = rw b.same (at_return_lem other whole-other that i b.later) in
+        let f : statement_at other that ≡ give_back (part_at other (link other that 1)) = rw b.same (at_return other whole-other that i b.later) in
         let v : part_at rows (link rows row 1) ≡ part_at other (link other that 1) = cc in
         fields k i refl refl refl refl (plain k i 1 refl (omega arith) (omega arith)) (λ c. absurd (let z : ◌≡◌ {A = ℕ} 0 1 = cc in omega arith))
         (part-child (link rows row 1) (link other that 1) a.fit b.fit v) (no-link k i 2 refl) (no-link k i 3 refl) (no-link k i 4 refl) next

@@ -15,7 +15,7 @@ use Rattle.words.specs.declared.MarkKind.TheVariants.{Label}
 use Rattle.words.specs.declared.MemberKind.TheVariants.{Argument}
 use Rattle.language.specs.Trees.{Expression, constant, read, minus, binary, assign, call, Place, variable, element, Arguments, no_more, ◌also◌, present, label, Statement, express, block, while, goto, give_back, Items, none, ◌then◌, ◌here◌, define}
 use Rattle.language.specs.Decode.{place_of, expression_at, arguments_at, parameters_at, part_at, block_items, statement_at, items_at, decode, Forward, list_at, argument_list_at, parameter_list_at}
-use Rattle.language.specs.DecodeLaws.{part-some, at_constant, at-variable, at-element, at-minus, at-binary, at-assign, at_call, at-empty, at-express, at_block, at-if_else, at-while, at-goto, at-abort, at_return_lem, at_item, at_label, at-definition, at-parameter, at-argument}
+use Rattle.language.specs.DecodeLaws.{part-some, at_constant, at-variable, at-element, at-minus, at-binary, at-assign, at_call, at-empty, at-express, at_block, at-if_else, at-while, at-goto, at-abort, at_return, at_item, at_label, at-definition, at-parameter, at-argument}
 use Rattle.language.specs.Sizes.{statement_rows, items_rows}
 use Rattle.language.specs.TreeLaws.{statement-some}
 use Rattle.language.specs.Program.{contents}
@@ -156,7 +156,7 @@ module _ (rows : List ℤ) (whole : Whole rows) where
     read-statement (goto-at {l} {base} r) = at-goto rows whole base (row-kind (OfStatement Goto) refl r) ∙ ap goto r.a_is
     read-statement (abort-at {base} r) = at-abort rows whole base (row-kind (OfStatement Abort) refl r)
     read-statement (return-at {e} {base} r m) =
-        at_return_lem rows whole base (row-kind (OfStatement Return) refl r) (λ p. omega (arith, r.a_is))
+        at_return rows whole base (row-kind (OfStatement Return) refl r) (λ p. omega (arith, r.a_is))
         ∙ rw r.a_is (ap give_back (part-some rows (base + 1) (omega arith) ∙ ap present (read-expression m)))
 
     -- The list that begins at a list's link.

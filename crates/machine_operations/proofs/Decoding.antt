@@ -41,7 +41,7 @@ abbrev pub handed : ℤ → ℤ
 handed z = to_z w64 (of_z w64 z)
 
 pub handed-is : (z : ℤ) → mag z < 2 ^ 63 → handed z ≡ z
-handed-is z h = to_z-of_z (record { sfits = h })
+handed-is z h = to_z-of_z {w = w64} (record { sfits = h })
 
 pub wide_fits : (z : ℤ) → mag z < 2 ^ 31 → SFits w64 (to_z w32 (of_z w32 z))
 wide_fits z h = rw (back z h) (record { sfits = omega arith })

@@ -7,7 +7,7 @@ use native.Mathlib.Numerals.{add-one}
 use lib.ListN.{length, take, get_or, set}
 use lib.Seq.{take-suc, take-length, length-take-le}
 use Rattle.text_numbers.specs.Writer.{Put}
-use Rattle.text_numbers.specs.PutLaws.{put-none, Put-as, put-length, put_byte}
+use Rattle.text_numbers.specs.PutLaws.{put-none, put_as, put-length, put_byte}
 
 -- so many of the bytes were copied to the start of a buffer
 pub record Copied (bytes : List ℕ) (i : ℕ) (buffer left : List ℕ) : Type 0 where
@@ -29,8 +29,8 @@ module _ {bytes : List ℕ} {i : ℕ} {buffer left : List ℕ} (b : Copied bytes
   copied_next h = record {
     inside = omega arith;
     room = b.room;
-    put = Put-as (sym (ap (λ (n : ℕ). take n bytes) (add-one i) ∙ take-suc bytes i 0 h)) (put_byte b.put (get_or bytes i 0) (omega (arith, copied-size, b.room)));
+    put = put_as (sym (ap (λ (n : ℕ). take n bytes) (add-one i) ∙ take-suc bytes i 0 h)) (put_byte b.put (get_or bytes i 0) (omega (arith, copied-size, b.room)));
   }
 
   pub copied-end : length bytes ≤ i → Put bytes buffer i left
-  copied-end h = let e : i ≡ length bytes = omega (arith, b.inside) in Put-as (ap (λ (n : ℕ). take n bytes) e ∙ take-length bytes) b.put
+  copied-end h = let e : i ≡ length bytes = omega (arith, b.inside) in put_as (ap (λ (n : ℕ). take n bytes) e ∙ take-length bytes) b.put

@@ -18,7 +18,7 @@ use Rattle.text_numbers.specs.Number.{digits, number_bytes}
 use Rattle.text_lines.specs.Line.{newline}
 use Rattle.text_numbers.specs.Writer.{Put}
 use Rattle.words.specs.OverLaws.{part, back_in, part-is}
-use Rattle.text_numbers.specs.PutLaws.{put-none, Put-as, put-length, put-fits, put_next, put-space, put-inside, digits-within, number-eleven}
+use Rattle.text_numbers.specs.PutLaws.{put-none, put_as, put-length, put-fits, put_next, put-space, put-inside, digits-within, number-eleven}
 use Rattle.text_report.specs.Lines.{blank, spaced, line_of, source_name, kernel_name, refused_name, refused_line, source_line, kernel_line}
 
 pub spaced-append : (xs ys : List (List ℕ)) → spaced (xs ++ ys) ≡ spaced xs ++ spaced ys
@@ -80,7 +80,7 @@ module _ {words : List ℤ} {i at : ℕ} {buffer left : List ℕ} (b : Worded wo
   pub worded-end : length words ≤ i → Put (spaced_words words) buffer at left
   worded-end h =
       let e : i ≡ length words = omega (arith, b.inside) in
-      Put-as (ap (λ (n : ℕ). spaced_words (take n words)) e ∙ ap spaced_words (take-length words)) b.put
+      put_as (ap (λ (n : ℕ). spaced_words (take n words)) e ∙ ap spaced_words (take-length words)) b.put
 
   module _ (more : i < length words) where
     pub worded-space : 12 ≤ length (part at left)
@@ -89,12 +89,12 @@ module _ {words : List ℤ} {i at : ℕ} {buffer left : List ℕ} (b : Worded wo
     pub worded-next : mag (word_of i words) < 2 ^ 31 → (size : ℕ) (lent : List ℕ) → Put (blank ∷ number_bytes (to_z w32 (of_z w32 (word_of i words)))) (part at left) size lent
         → Worded words (i + 1) (at + size) buffer (back_in at left lent)
     worded-next f size lent p =
-        let q = Put-as (ap (λ (z : ℤ). blank ∷ number_bytes z) (back (word_of i words) f)) p in
+        let q = put_as (ap (λ (z : ℤ). blank ∷ number_bytes z) (back (word_of i words) f)) p in
         record {
           inside = omega arith;
           few = omega (arith, b.few, q.size, number-eleven (word_of i words) f);
           room = b.room;
-          put = Put-as (words-next words i more) (put_next b.put (blank ∷ number_bytes (word_of i words)) size lent q);
+          put = put_as (words-next words i more) (put_next b.put (blank ∷ number_bytes (word_of i words)) size lent q);
         }
 
 -- ---- a line so far: what was put has at most so many bytes, and they have room

@@ -79,6 +79,9 @@ module _ {Q : ℕ → Type 0} where
   labelled-append none ys labelled_none q = q
   labelled-append (s then xs) ys (labelled_then p) q = labelled_then (labelled-append xs ys p q)
   labelled-append (label l here xs) ys (labelled_here r p) q = labelled_here r (labelled-append xs ys p q)
+  labelled-append (case _ here xs) ys none_such q = elim none_such [ ]
+  labelled-append (default here xs) ys none_such q = elim none_such [ ]
+  labelled-append (define _ _ _ _) ys none_such q = elim none_such [ ]
 
 labelled-more : {P Q : ℕ → Type 0} {xs : Items} → ((l : ℕ) → P l → Q l) → Labelled P xs → Labelled Q xs
 labelled-more h labelled_none = labelled_none
@@ -157,6 +160,9 @@ module _ (Q : ℕ → Type 0) (called : ℕ → ℕ → Bool) (S : ℕ) where
   labelled-empty none labelled_none = labelled-one
   labelled-empty (s then xs) (labelled_then p) = labelled_then p
   labelled-empty (label l here xs) (labelled_here q p) = labelled_here q p
+  labelled-empty (case _ here xs) none_such = elim none_such [ ]
+  labelled-empty (default here xs) none_such = elim none_such [ ]
+  labelled-empty (define _ _ _ _) none_such = elim none_such [ ]
 
   labelled-tests : (x : Expression) (u : ℕ) (is : Items) (l : ℕ) → Labelled Q (case_tests S x u is l)
   unfolding case_tests

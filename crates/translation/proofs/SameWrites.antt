@@ -8,7 +8,7 @@ use Rattle.std.proofs.Math.Nat.{mul-le-mul_left}
 use Rattle.words.specs.Word.{pick}
 use Rattle.words.specs.Layout.{Layout, store_size}
 use Rattle.computation.specs.Run.{Write, State, start, steps, rounds, final}
-use Rattle.computation.proofs.RunLaws.{Timed, timed_none, timed_more, timed-wider, Added, count-never-passes, writes-in-time, Writes-later, writes-wider, enough-rounds, wider-rounds}
+use Rattle.computation.proofs.RunLaws.{Timed, timed_none, timed_more, timed-wider, Added, count-never-passes, writes-in-time, writes_later, writes-wider, enough-rounds, wider-rounds}
 use Rattle.computation.specs.WritesMade.{visible, made, FirstOf}
 use Rattle.computation.proofs.WritesMadeLaws.{visible-append, first-trans}
 use Rattle.language.specs.Trees.{block, Items}
@@ -73,8 +73,8 @@ module _ (L : Layout) (first : ℕ) (inside : store_size L ≤ first) (program :
   kernel-first N =
       let c = suc (N + kernel_steps first program N) in
       let g = runs-logged L first inside program store temporaryWords tree All-words enough c in
-      let s = Writes-later (source_program L program) (start store) N (rounds c) (enough-rounds N c (omega arith)) (omega arith) in
-      let k = Writes-later (kernel_program L first program) (start (store ++ temporaryWords)) (kernel_steps first program N) (rounds c) (enough-rounds (kernel_steps first program N) c (omega arith)) (omega arith) in
+      let s = writes_later (source_program L program) (start store) N (rounds c) (enough-rounds N c (omega arith)) (omega arith) in
+      let k = writes_later (kernel_program L first program) (start (store ++ temporaryWords)) (kernel_steps first program N) (rounds c) (enough-rounds (kernel_steps first program N) c (omega arith)) (omega arith) in
       let early = started (writes-in-time (source_program L program) (start store) (steps N)) (count-never-passes N (source_program L program) (start store) (omega arith)) in
       let logs : Logs g.measured (s.added ++ (final (source_run L program store (steps N))).writes) (k.added ++ (final (kernel_run L first program store temporaryWords (steps (kernel_steps first program N)))).writes) = rw (← s.writes_are, ← k.writes_are) g.logs in
       first_made {μ = g.measured} S (rw g.words_are inside) N (kernel_steps first program N) s.added _ k.added _ (rw g.rate_is (omega arith)) logs k.in_time early
@@ -87,11 +87,11 @@ module _ (L : Layout) (first : ℕ) (inside : store_size L ≤ first) (program :
   source_first N =
       let c = suc N in
       let g = runs-logged L first inside program store temporaryWords tree All-words enough c in
-      let k = Writes-later (kernel_program L first program) (start (store ++ temporaryWords)) N (rounds c) (enough-rounds N c (omega arith)) (omega arith) in
+      let k = writes_later (kernel_program L first program) (start (store ++ temporaryWords)) N (rounds c) (enough-rounds N c (omega arith)) (omega arith) in
       let M = enough_steps N in
       let d = suc (M + c) in
       let w = writes-wider (source_program L program) (start store) (rounds c) (rounds d) (wider-rounds c d (omega arith)) in
-      let u = Writes-later (source_program L program) (start store) M (rounds d) (enough-rounds M d (omega arith)) (omega arith) in
+      let u = writes_later (source_program L program) (start store) M (rounds d) (enough-rounds M d (omega arith)) (omega arith) in
       let early = started (writes-in-time (source_program L program) (start store) (rounds c)) (le_refl M) in
       let same : visible S (final (kernel_run L first program store temporaryWords (rounds c))).writes ≡ visible S (final (source_run L program store (rounds c))).writes = logs-visible {μ = g.measured} S (rw g.words_are inside) g.logs in
       let of-kernel : FirstOf (made S (kernel_run L first program store temporaryWords (steps N))) (made S (source_run L program store (rounds c))) =

@@ -97,19 +97,19 @@ first_code called S (first {e = e} {s = s} {rest = rest}) x target l =
 
 -- What an arm takes of the arms from it on, where `next` is the row behind it.
 module _ (rows : List ℤ) (row next : ℕ) (source : Source rows) (inside : row < row_count rows) (some : 0 < arms_size (called_in rows) (arm_list_at rows row)) (e : next ≡ number_at rows row 5) where
-  pub behind-inside : next < row_count rows
-  behind-inside = rw e (optional-inside rows row (number_at rows row 5) inside (behind-arm rows row source inside))
+  pub arms-behind-inside : next < row_count rows
+  arms-behind-inside = rw e (optional-inside rows row (number_at rows row 5) inside (behind-arm rows row source inside))
 
-  pub behind-size : arms_size (called_in rows) (arm_list_at rows row) ≡ arms_size (called_in rows) (first_only (arms_at rows row)) + arms_size (called_in rows) (arm_list_at rows next)
-  behind-size = rw (e, ← some-arms rows row (arms-some rows row some)) (first-size (called_in rows) (first_of rows row source inside some))
+  pub arms-behind-size : arms_size (called_in rows) (arm_list_at rows row) ≡ arms_size (called_in rows) (first_only (arms_at rows row)) + arms_size (called_in rows) (arm_list_at rows next)
+  arms-behind-size = rw (e, ← some-arms rows row (arms-some rows row some)) (first-size (called_in rows) (first_of rows row source inside some))
 
-  pub behind-labels : arms_labels (arm_list_at rows row) ≡ arms_labels (first_only (arms_at rows row)) + arms_labels (arm_list_at rows next)
-  behind-labels = rw (e, ← some-arms rows row (arms-some rows row some)) (first-labels (first_of rows row source inside some))
+  pub arms-behind-labels : arms_labels (arm_list_at rows row) ≡ arms_labels (first_only (arms_at rows row)) + arms_labels (arm_list_at rows next)
+  arms-behind-labels = rw (e, ← some-arms rows row (arms-some rows row some)) (first-labels (first_of rows row source inside some))
 
   pub behind-less : arms_size (called_in rows) (arm_list_at rows next) < arms_size (called_in rows) (arm_list_at rows row)
   behind-less =
       let own : 0 < arms_size (called_in rows) (first_only (arms_at rows row)) = rw (← some-arms rows row (arms-some rows row some)) (first_some (called_in rows) (first_of rows row source inside some)) in
-      omega (arith, behind-size, own)
+      omega (arith, arms-behind-size, own)
 
 -- One arm more is passed; `from2` and `n2` are where the next one begins.
 module _ (S : ℕ) (x : Exits) (target : ℕ) (rows : List ℤ) (arms label base : ℕ) (out₀ : List ℤ) {out : List ℤ} {row from n : ℕ} (source : Source rows) (some : 0 < arms_size (called_in rows) (arm_list_at rows row)) where
@@ -120,8 +120,8 @@ module _ (S : ℕ) (x : Exits) (target : ℕ) (rows : List ℤ) (arms label base
   arms_step p next from2 n2 out2 e el es t h =
       let inside = p.inside in
       let same : arm_list_at rows row ≡ arms_at rows row = some-arms rows row (arms-some rows row some) in
-      let size = behind-size rows row next source inside some e in
-      let marks = behind-labels rows row next source inside some e in
+      let size = arms-behind-size rows row next source inside some e in
+      let marks = arms-behind-labels rows row next source inside some e in
       let own = first_only (arms_at rows row) in
       let code : arms_code (called_in rows) S (arm_list_at rows row) x target from ≡ arms_code (called_in rows) S own x target from ⧺ arms_code (called_in rows) S (arm_list_at rows next) x target (from + arms_labels own) =
       rw (e, ← same) (first_code (called_in rows) S (first_of rows row source inside some) x target from) in
@@ -132,7 +132,7 @@ module _ (S : ℕ) (x : Exits) (target : ℕ) (rows : List ℤ) (arms label base
       rw (at_from, at_n) (
       step (arm_list_at rows) arms_labels true (λ a. arms_code (called_in rows) S a x target) (arms_size (called_in rows)) rows arms label base out₀ p next (arms_labels own) (arms_size (called_in rows) own)
       (arms_code (called_in rows) S own x target from) out2
-      (behind-inside rows row next source inside some e) less code marks size
+      (arms-behind-inside rows row next source inside some e) less code marks size
       (record { table = rw (more-true (arms_code (called_in rows) S (arm_list_at rows next) x target (from + arms_labels own))) t; size = rows-arms (called_in rows) S own x target from })
       h
       )

@@ -157,8 +157,8 @@ module _ {S : ℕ} {rows : List ℤ} {table : List ℕ} {argument count copies l
   pub value-reach : Reach (rest + own) base (back_in rest restTable value_words)
   value-reach = put-reach 0 (wrote-put value-wrote) found.asked.asks.room (omega (arith, size_is found, written.behind.rest_is))
 
-  pub hold-room : Room (4 * (copies % 2)) (base + (rest + own)) (length (part (rest + own) (back_in rest restTable value_words)))
-  hold-room = put-room _ (wrote-put value-wrote) found.asked.asks.room (omega (arith, size_is found, written.behind.rest_is))
+  pub argument-room : Room (4 * (copies % 2)) (base + (rest + own)) (length (part (rest + own) (back_in rest restTable value_words)))
+  argument-room = put-room _ (wrote-put value-wrote) found.asked.asks.room (omega (arith, size_is found, written.behind.rest_is))
 
   -- ---- the copy is written: `holdWords` is the part behind the code
 

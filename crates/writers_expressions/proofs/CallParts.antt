@@ -40,8 +40,8 @@ pub record CallAsked (S : ℕ) (rows : List ℤ) (table : List ℕ) (row : ℕ) 
   pub asks : CalledAsks rows row u level base (length out)
 
 module _ {S : ℕ} {rows : List ℤ} {table : List ℕ} {row : ℕ} {u : Use} {level base : ℕ} {out : List ℤ} (asked : CallAsked S rows table row u level base out) where
-  pub all_small : operand_size (called_in rows) (part_at rows row) u ≤ 40980
-  all_small = omega (arith, ap (λ p. operand_size (called_in rows) p u) (part-some rows row asked.asks.some), asked.asks.room.low)
+  pub call-small : operand_size (called_in rows) (part_at rows row) u ≤ 40980
+  call-small = omega (arith, ap (λ p. operand_size (called_in rows) p u) (part-some rows row asked.asks.some), asked.asks.room.low)
 
   pub target_low : S + level < 65536
   target_low = omega (arith, asked.writing.small_store, asked.asks.level_low)

@@ -37,54 +37,53 @@ claims t = (
   argument-count.Post,
 )
 
-module _ (t : ℕ) where
-  returns : lts.Need-returns (claims t) (argument-count-at t) argument-count.Post
-  returns c =
-      let args = c.before.args in
-      count_none args.rows.now args.argument (ap (argument_list_at args.rows.now) c.if1.true)
+returns : (t : ℕ) → lts.Need-returns (claims t) (argument-count-at t) argument-count.Post
+returns t c =
+    let args = c.before.args in
+    count_none args.rows.now args.argument (ap (argument_list_at args.rows.now) c.if1.true)
 
-  number-at-requires : lts.Need-number-at-requires (claims t) (argument-count-at t) argument-count.Post
-  number-at-requires c κs = search rules
+number-at-requires : (t : ℕ) → lts.Need-number-at-requires (claims t) (argument-count-at t) argument-count.Post
+number-at-requires t c κs = search rules
 
-  argument-at-requires : lts.Need-argument-at-requires (claims t) (argument-count-at t) argument-count.Post
-  argument-at-requires c κs = search rules
+argument-at-requires : (t : ℕ) → lts.Need-argument-at-requires (claims t) (argument-count-at t) argument-count.Post
+argument-at-requires t c κs = search rules
 
-  enum_told : lts.Need-enum-told (claims t) (argument-count-at t) argument-count.Post
-  enum_told c = search rules
+enum_told : (t : ℕ) → lts.Need-enum-told (claims t) (argument-count-at t) argument-count.Post
+enum_told t c = search rules
 
-  argument-count-requires : lts.Need-argument-count-requires (claims t) (argument-count-at t) argument-count.Post
-  argument-count-requires c κs =
-      let start = c.before.before.before.before.before in
-      let args = start.args in
-      let rows = args.rows.now in
-      let some : 0 < args.argument = omega (arith, c.before.before.before.before.if1.false) in
-      let at = passing args.argument some (argued c.before.before.argument-at.ensures c.enum_told.given.1) in
-      let inside = start.requires.1.1 in
-      let next = c.before.before.before.number_at.ensures in (
-        omega (arith, start.requires.0, next, ap (rank rows) next, rank_falls rows args.argument _ some inside (λ h. (at.behind h).later)),
-        (start.requires.1.0, omega (arith, next, link-inside _ inside at.behind)),
-      )
+argument-count-requires : (t : ℕ) → lts.Need-argument-count-requires (claims t) (argument-count-at t) argument-count.Post
+argument-count-requires t c κs =
+    let start = c.before.before.before.before.before in
+    let args = start.args in
+    let rows = args.rows.now in
+    let some : 0 < args.argument = omega (arith, c.before.before.before.before.if1.false) in
+    let at = passing args.argument some (argued c.before.before.argument-at.ensures c.enum_told.given.1) in
+    let inside = start.requires.1.1 in
+    let next = c.before.before.before.number_at.ensures in (
+      omega (arith, start.requires.0, next, ap (rank rows) next, rank_falls rows args.argument _ some inside (λ h. (at.behind h).later)),
+      (start.requires.1.0, omega (arith, next, link-inside _ inside at.behind)),
+    )
 
-  add-result : lts.Need-overflow-add-result (claims t) (argument-count-at t) argument-count.Post
-  add-result c =
-      let start = c.before.before.before.before.before.before in
-      omega (arith, c.argument-count.ensures.low, rank_most start.args.rows.now c.before.before.before.before.number_at.result, start.requires.1.0.few_rows)
+add-result : (t : ℕ) → lts.Need-overflow-add-result (claims t) (argument-count-at t) argument-count.Post
+add-result t c =
+    let start = c.before.before.before.before.before.before in
+    omega (arith, c.argument-count.ensures.low, rank_most start.args.rows.now c.before.before.before.before.number_at.result, start.requires.1.0.few_rows)
 
-  enum-told-2 : lts.Need-enum-told-2 (claims t) (argument-count-at t) argument-count.Post
-  enum-told-2 c = search rules
+enum-told-2 : (t : ℕ) → lts.Need-enum-told-2 (claims t) (argument-count-at t) argument-count.Post
+enum-told-2 t c = search rules
 
-  returns-2 : lts.Need-returns-2 (claims t) (argument-count-at t) argument-count.Post
-  returns-2 c =
-      let start = c.before.before.before.before.before.before in
-      let args = start.args in
-      let some : 0 < args.argument = omega (arith, c.before.before.before.before.before.if1.false) in
-      let at = passing args.argument some (argued c.before.before.before.argument-at.ensures c.before.enum_told.given.1) in
-      count-more args.rows.now args.argument at start.requires.1.1 c.before.before.before.before.number_at.ensures c.argument-count.ensures
+returns-2 : (t : ℕ) → lts.Need-returns-2 (claims t) (argument-count-at t) argument-count.Post
+returns-2 t c =
+    let start = c.before.before.before.before.before.before in
+    let args = start.args in
+    let some : 0 < args.argument = omega (arith, c.before.before.before.before.before.if1.false) in
+    let at = passing args.argument some (argued c.before.before.before.argument-at.ensures c.before.enum_told.given.1) in
+    count-more args.rows.now args.argument at start.requires.1.1 c.before.before.before.before.number_at.ensures c.argument-count.ensures
 
-  returns-3 : lts.Need-returns-3 (claims t) (argument-count-at t) argument-count.Post
-  returns-3 c =
-      let args = c.before.before.before.before.before.args in
-      count_none args.rows.now args.argument (passes_none args.argument (argued c.before.before.argument-at.ensures c.enum-told2.given.1))
+returns-3 : (t : ℕ) → lts.Need-returns-3 (claims t) (argument-count-at t) argument-count.Post
+returns-3 t c =
+    let args = c.before.before.before.before.before.args in
+    count_none args.rows.now args.argument (passes_none args.argument (argued c.before.before.argument-at.ensures c.enum-told2.given.1))
 
 pub +argument-count-spec : {M : Type 1} → statement M
 +argument-count-spec = close μ-argument-count λ t. lts.spec (claims t) (argument-count-at t) argument-count.Post

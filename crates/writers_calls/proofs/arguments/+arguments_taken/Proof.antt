@@ -44,65 +44,64 @@ arguments-taken-claims t = (
   held-taken-reads.Learnt,
 )
 
-module _ (t : ℕ) where
-  returns : arguments-taken-lts.Need-returns (arguments-taken-claims t) (arguments-taken-at t) arguments-taken.Post
-  returns c =
-      let args = c.before.before.args in
-      let absent : argument_list_at args.rows.now args.argument ≡ no_more = ap (argument_list_at args.rows.now) c.if1.true in
-      taken_none args.rows.now args.argument args.copies absent
+returns : (t : ℕ) → arguments-taken-lts.Need-returns (arguments-taken-claims t) (arguments-taken-at t) arguments-taken.Post
+returns t c =
+    let args = c.before.before.args in
+    let absent : argument_list_at args.rows.now args.argument ≡ no_more = ap (argument_list_at args.rows.now) c.if1.true in
+    taken_none args.rows.now args.argument args.copies absent
 
-  number-at-requires : arguments-taken-lts.Need-number-at-requires (arguments-taken-claims t) (arguments-taken-at t) arguments-taken.Post
-  number-at-requires c κs = search rules
+number-at-requires : (t : ℕ) → arguments-taken-lts.Need-number-at-requires (arguments-taken-claims t) (arguments-taken-at t) arguments-taken.Post
+number-at-requires t c κs = search rules
 
-  argument-at-requires : arguments-taken-lts.Need-argument-at-requires (arguments-taken-claims t) (arguments-taken-at t) arguments-taken.Post
-  argument-at-requires c κs = search rules
+argument-at-requires : (t : ℕ) → arguments-taken-lts.Need-argument-at-requires (arguments-taken-claims t) (arguments-taken-at t) arguments-taken.Post
+argument-at-requires t c κs = search rules
 
-  enum-known-shape : arguments-taken-lts.Need-enum-known-shape (arguments-taken-claims t) (arguments-taken-at t) arguments-taken.Post
-  enum-known-shape c = search rules
+enum-known-shape : (t : ℕ) → arguments-taken-lts.Need-enum-known-shape (arguments-taken-claims t) (arguments-taken-at t) arguments-taken.Post
+enum-known-shape t c = search rules
 
-  arguments-taken-requires : arguments-taken-lts.Need-arguments-taken-requires (arguments-taken-claims t) (arguments-taken-at t) arguments-taken.Post
-  arguments-taken-requires c κs =
-      let start = c.before.before.before.before.before.before.before in
-      let args = start.args in
-      let rows = args.rows.now in
-      let some : 0 < args.argument = omega (arith, c.before.before.before.before.before.if1.false) in
-      let at = passing args.argument some (argued c.before.before.before.argument-at.ensures c.before.shape.given.1) in
-      let inside = start.requires.1.1 in
-      let next = c.before.before.before.before.number_at.ensures in (
-        omega (arith, start.requires.0, next, ap (rank rows) next, rank_falls rows args.argument _ some inside (λ h. (at.behind h).later)),
-        (start.requires.1.0, omega (arith, next, link-inside _ inside at.behind)),
-      )
+arguments-taken-requires : (t : ℕ) → arguments-taken-lts.Need-arguments-taken-requires (arguments-taken-claims t) (arguments-taken-at t) arguments-taken.Post
+arguments-taken-requires t c κs =
+    let start = c.before.before.before.before.before.before.before in
+    let args = start.args in
+    let rows = args.rows.now in
+    let some : 0 < args.argument = omega (arith, c.before.before.before.before.before.if1.false) in
+    let at = passing args.argument some (argued c.before.before.before.argument-at.ensures c.before.shape.given.1) in
+    let inside = start.requires.1.1 in
+    let next = c.before.before.before.before.number_at.ensures in (
+      omega (arith, start.requires.0, next, ap (rank rows) next, rank_falls rows args.argument _ some inside (λ h. (at.behind h).later)),
+      (start.requires.1.0, omega (arith, next, link-inside _ inside at.behind)),
+    )
 
-  held-taken-requires : arguments-taken-lts.Need-held-taken-requires (arguments-taken-claims t) (arguments-taken-at t) arguments-taken.Post
-  held-taken-requires c κs =
-      let start = c.before.before.before.before.before.before.before.before in
-      let at = argued c.before.before.before.before.argument-at.ensures c.before.before.shape.given.1 in
-      (start.requires.1.0, at.onward.inside)
+held-taken-requires : (t : ℕ) → arguments-taken-lts.Need-held-taken-requires (arguments-taken-claims t) (arguments-taken-at t) arguments-taken.Post
+held-taken-requires t c κs =
+    let start = c.before.before.before.before.before.before.before.before in
+    let at = argued c.before.before.before.before.argument-at.ensures c.before.before.shape.given.1 in
+    (start.requires.1.0, at.onward.inside)
 
-  add-result : arguments-taken-lts.Need-overflow-add-result (arguments-taken-claims t) (arguments-taken-at t) arguments-taken.Post
-  add-result c =
-      let start = c.before.before.before.before.before.before.before.before.before in
-      let args = start.args in
-      let rows = args.rows.now in
-      let behind = c.before.arguments-taken.ensures.low in
-      let held = held_by (args.copies % 2) (atom_of (called_in rows) (expression_at rows c.before.before.before.shape.given.0.0)) in
-      omega (arith, behind, rank_most rows c.before.before.before.before.before.before.number_at.result, start.requires.1.0.source.few_rows, c.held-taken.ensures, taken_most held)
+add-result : (t : ℕ) → arguments-taken-lts.Need-overflow-add-result (arguments-taken-claims t) (arguments-taken-at t) arguments-taken.Post
+add-result t c =
+    let start = c.before.before.before.before.before.before.before.before.before in
+    let args = start.args in
+    let rows = args.rows.now in
+    let behind = c.before.arguments-taken.ensures.low in
+    let held = held_by (args.copies % 2) (atom_of (called_in rows) (expression_at rows c.before.before.before.shape.given.0.0)) in
+    omega (arith, behind, rank_most rows c.before.before.before.before.before.before.number_at.result, start.requires.1.0.source.few_rows, c.held-taken.ensures, taken_most held)
 
-  enum_told : arguments-taken-lts.Need-enum-told (arguments-taken-claims t) (arguments-taken-at t) arguments-taken.Post
-  enum_told c = search rules
+enum_told : (t : ℕ) → arguments-taken-lts.Need-enum-told (arguments-taken-claims t) (arguments-taken-at t) arguments-taken.Post
+enum_told t c = search rules
 
-  returns-2 : arguments-taken-lts.Need-returns-2 (arguments-taken-claims t) (arguments-taken-at t) arguments-taken.Post
-  returns-2 c =
-      let start = c.before.before.before.before.before.before.before.before.before in
-      let args = start.args in
-      let some : 0 < args.argument = omega (arith, c.before.before.before.before.before.before.before.if1.false) in
-      let at = passing args.argument some (argued c.before.before.before.before.before.argument-at.ensures c.before.before.before.shape.given.1) in
-      taken_more args.rows.now args.argument args.copies at start.requires.1.1 c.before.before.before.before.before.before.number_at.ensures c.before.arguments-taken.ensures c.held-taken.ensures
+returns-2 : (t : ℕ) → arguments-taken-lts.Need-returns-2 (arguments-taken-claims t) (arguments-taken-at t) arguments-taken.Post
+returns-2 t c =
+    let start = c.before.before.before.before.before.before.before.before.before in
+    let args = start.args in
+    let some : 0 < args.argument = omega (arith, c.before.before.before.before.before.before.before.if1.false) in
+    let at = passing args.argument some (argued c.before.before.before.before.before.argument-at.ensures c.before.before.before.shape.given.1) in
+    taken_more args.rows.now args.argument args.copies at start.requires.1.1 c.before.before.before.before.before.before.number_at.ensures c.before.arguments-taken.ensures c.held-taken.ensures
 
-  returns-3 : arguments-taken-lts.Need-returns-3 (arguments-taken-claims t) (arguments-taken-at t) arguments-taken.Post
-  returns-3 c =
-      let args = c.before.before.before.before.before.before.args in
-      taken_none args.rows.now args.argument args.copies (passes_none args.argument (argued c.before.before.argument-at.ensures c.enum_told.given.1))
+returns-3 : (t : ℕ) → arguments-taken-lts.Need-returns-3 (arguments-taken-claims t) (arguments-taken-at t) arguments-taken.Post
+returns-3 t c =
+    let args = c.before.before.before.before.before.before.args in
+    taken_none args.rows.now args.argument args.copies (passes_none args.argument (argued c.before.before.argument-at.ensures c.enum_told.given.1))
 
 pub +arguments-taken-spec : {M : Type 1} → statement M
 +arguments-taken-spec = close μ-arguments-taken λ t. arguments-taken-lts.spec (arguments-taken-claims t) (arguments-taken-at t) arguments-taken.Post

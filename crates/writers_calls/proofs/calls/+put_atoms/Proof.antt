@@ -56,134 +56,126 @@ claims t = (
   put-atoms.Post,
 )
 
--- `t` is the measure of the call.
-module _ (t : ℕ) where
-  returns : lts.Need-returns (claims t) (put-atoms-at t) put-atoms.Post
-  returns c =
-      let start = c.before.before in
-      let args = start.args in
-      let none : argument_count (argument_list_at args.rows.now args.argument) ≡ 0 = omega (arith, start.requires.1.1.size_is, c.if1.true) in
-      atoms-none (called_in args.rows.now) args.store (argument_list_at args.rows.now args.argument) args.copies args.level args.base args.out.now none
+returns : (t : ℕ) → lts.Need-returns (claims t) (put-atoms-at t) put-atoms.Post
+returns t c =
+    let start = c.before.before in
+    let args = start.args in
+    let none : argument_count (argument_list_at args.rows.now args.argument) ≡ 0 = omega (arith, start.requires.1.1.size_is, c.if1.true) in
+    atoms-none (called_in args.rows.now) args.store (argument_list_at args.rows.now args.argument) args.copies args.level args.base args.out.now none
 
-  argument-value-requires : lts.Need-argument-value-requires (claims t) (put-atoms-at t) put-atoms.Post
-  argument-value-requires c κs =
-      let start = c.before.before in
-      let asks = start.requires.1.1 in
-      (start.requires.1.0.measured.source, asks.inside, omega (arith, asks.size_is, c.if1.false))
+argument-value-requires : (t : ℕ) → lts.Need-argument-value-requires (claims t) (put-atoms-at t) put-atoms.Post
+argument-value-requires t c κs =
+    let start = c.before.before in
+    let asks = start.requires.1.1 in
+    (start.requires.1.0.measured.source, asks.inside, omega (arith, asks.size_is, c.if1.false))
 
-  number-at-requires : lts.Need-number-at-requires (claims t) (put-atoms-at t) put-atoms.Post
-  number-at-requires c κs = search rules
+number-at-requires : (t : ℕ) → lts.Need-number-at-requires (claims t) (put-atoms-at t) put-atoms.Post
+number-at-requires t c κs = search rules
 
-  arguments-taken-requires : lts.Need-arguments-taken-requires (claims t) (put-atoms-at t) put-atoms.Post
-  arguments-taken-requires c κs =
-      let start = c.before.before.before.before in
-      let asks = start.requires.1.1 in
-      (start.requires.1.0.measured, omega (arith, c.number_at.ensures, link-inside _ asks.inside c.before.argument-value.ensures.behind))
+arguments-taken-requires : (t : ℕ) → lts.Need-arguments-taken-requires (claims t) (put-atoms-at t) put-atoms.Post
+arguments-taken-requires t c κs =
+    let start = c.before.before.before.before in
+    let asks = start.requires.1.1 in
+    (start.requires.1.0.measured, omega (arith, c.number_at.ensures, link-inside _ asks.inside c.before.argument-value.ensures.behind))
 
-  -- what is worked out above the arguments behind is low
-  abbrev Taken : Type 0
-  Taken = lts.After-arguments-taken (claims t) (put-atoms-at t) put-atoms.Post
+-- what is worked out above the arguments behind is low
+above_low : (t : ℕ) (c : lts.After-arguments-taken (claims t) (put-atoms-at t) put-atoms.Post) → c.before.before.before.before.before.args.level + c.arguments-taken.result ≤ 4096
+above_low t c =
+    let start = c.before.before.before.before.before in
+    let args = start.args in
+    let rows = args.rows.now in
+    let next = ap (λ (n : ℕ). taken_by (called_in rows) (argument_list_at rows n) (args.copies / 2)) c.before.number_at.ensures in
+    omega (arith, start.requires.1.1.level_low, c.arguments-taken.ensures.is, next, passing-taken args.copies c.before.before.argument-value.ensures)
 
-  above_low : (c : Taken) → c.before.before.before.before.before.args.level + c.arguments-taken.result ≤ 4096
-  above_low c =
-      let start = c.before.before.before.before.before in
-      let args = start.args in
-      let rows = args.rows.now in
-      let next = ap (λ (n : ℕ). taken_by (called_in rows) (argument_list_at rows n) (args.copies / 2)) c.before.number_at.ensures in
-      omega (arith, start.requires.1.1.level_low, c.arguments-taken.ensures.is, next, passing-taken args.copies c.before.before.argument-value.ensures)
+add-above : (t : ℕ) → lts.Need-overflow-add-above (claims t) (put-atoms-at t) put-atoms.Post
+add-above t c = omega (arith, above_low t c)
 
-  add-above : lts.Need-overflow-add-above (claims t) (put-atoms-at t) put-atoms.Post
-  add-above c = omega (arith, above_low c)
+held-atom-requires : (t : ℕ) → lts.Need-held-atom-requires (claims t) (put-atoms-at t) put-atoms.Post
+held-atom-requires t c κs =
+    let start = c.before.before.before.before.before in
+    (start.requires.1.0, c.before.before.argument-value.ensures.onward.inside, above_low t c)
 
-  held-atom-requires : lts.Need-held-atom-requires (claims t) (put-atoms-at t) put-atoms.Post
-  held-atom-requires c κs =
-      let start = c.before.before.before.before.before in
-      (start.requires.1.0, c.before.before.argument-value.ensures.onward.inside, above_low c)
+sub-rest : (t : ℕ) → lts.Need-overflow-sub-rest (claims t) (put-atoms-at t) put-atoms.Post
+sub-rest t c =
+    let start = c.before.before.before.before.before.before in
+    omega (arith, start.requires.1.1.size_is, passing-count c.before.before.before.argument-value.ensures)
 
-  sub-rest : lts.Need-overflow-sub-rest (claims t) (put-atoms-at t) put-atoms.Post
-  sub-rest c =
-      let start = c.before.before.before.before.before.before in
-      omega (arith, start.requires.1.1.size_is, passing-count c.before.before.before.argument-value.ensures)
+more-requires : (t : ℕ) → lts.Need-more-requires (claims t) (put-atoms-at t) put-atoms.Post
+more-requires t c κs = tt
 
-  more-requires : lts.Need-more-requires (claims t) (put-atoms-at t) put-atoms.Post
-  more-requires c κs = tt
+put-argument-requires : (t : ℕ) → lts.Need-put-argument-requires (claims t) (put-atoms-at t) put-atoms.Post
+put-argument-requires t c κs =
+    let start = c.before.before.before.before.before.before.before.before in
+    let asks = start.requires.1.1 in
+    (room-less 2 asks.room (omega (arith, asks.size_is, passing-count c.before.before.before.before.before.argument-value.ensures)), c.before.before.held-atom.ensures.fits)
 
-  put-argument-requires : lts.Need-put-argument-requires (claims t) (put-atoms-at t) put-atoms.Post
-  put-argument-requires c κs =
-      let start = c.before.before.before.before.before.before.before.before in
-      let asks = start.requires.1.1 in
-      (room-less 2 asks.room (omega (arith, asks.size_is, passing-count c.before.before.before.before.before.argument-value.ensures)), c.before.before.held-atom.ensures.fits)
+-- The first argument is written.
+two-rows : (t : ℕ) (c : lts.After-out (claims t) (put-atoms-at t) put-atoms.Post) → 2 + 2 * argument_count (argument_list_at c.before.before.before.before.before.before.before.before.before.before.args.rows.now c.before.before.before.before.before.before.number_at.result) ≡ c.before.before.before.before.before.before.before.before.before.before.args.size
+two-rows t c =
+    let start = c.before.before.before.before.before.before.before.before.before.before in
+    let rows = start.args.rows.now in
+    omega (arith, start.requires.1.1.size_is, passing-count c.before.before.before.before.before.before.before.argument-value.ensures, ap (λ (n : ℕ). argument_count (argument_list_at rows n)) c.before.before.before.before.before.before.number_at.ensures)
 
-  -- The first argument is written.
-  abbrev Headed : Type 0
-  Headed = lts.After-out (claims t) (put-atoms-at t) put-atoms.Post
+written : (t : ℕ) (c : lts.After-out (claims t) (put-atoms-at t) put-atoms.Post) →
+    let args = c.before.before.before.before.before.before.before.before.before.before.args in
+    let value = c.before.before.before.before.held-atom.result in
+    PutWords (row_of 32 (pos (args.base + 1)) 0 0 0 (pick c.before.before.before.more.result (args.base + 2) 0) ++ emit_expression (atom_tree value) (args.base + 1)) 2 args.out.now c.before.put-argument.new.1.1.1.0
+written t c =
+    let args = c.before.before.before.before.before.before.before.before.before.before.args in
+    first-put args.base (pick c.before.before.before.more.result (args.base + 2) 0) c.before.before.before.before.held-atom.result args.out.now c.before.put-argument.new.1.1.1.0 c.before.put-argument.ensures
 
-  two-rows : (c : Headed) → 2 + 2 * argument_count (argument_list_at c.before.before.before.before.before.before.before.before.before.before.args.rows.now c.before.before.before.before.before.before.number_at.result) ≡ c.before.before.before.before.before.before.before.before.before.before.args.size
-  two-rows c =
-      let start = c.before.before.before.before.before.before.before.before.before.before in
-      let rows = start.args.rows.now in
-      omega (arith, start.requires.1.1.size_is, passing-count c.before.before.before.before.before.before.before.argument-value.ensures, ap (λ (n : ℕ). argument_count (argument_list_at rows n)) c.before.before.before.before.before.before.number_at.ensures)
+reach : (t : ℕ) (c : lts.After-out (claims t) (put-atoms-at t) put-atoms.Post) → Reach 2 c.before.before.before.before.before.before.before.before.before.before.args.base c.before.put-argument.new.1.1.1.0
+reach t c =
+    let start = c.before.before.before.before.before.before.before.before.before.before in
+    put-reach 0 (written t c) start.requires.1.1.room (omega (arith, two-rows t c))
 
-  written : (c : Headed) →
-      let args = c.before.before.before.before.before.before.before.before.before.before.args in
-      let value = c.before.before.before.before.held-atom.result in
-      PutWords (row_of 32 (pos (args.base + 1)) 0 0 0 (pick c.before.before.before.more.result (args.base + 2) 0) ++ emit_expression (atom_tree value) (args.base + 1)) 2 args.out.now c.before.put-argument.new.1.1.1.0
-  written c =
-      let args = c.before.before.before.before.before.before.before.before.before.before.args in
-      first-put args.base (pick c.before.before.before.more.result (args.base + 2) 0) c.before.before.before.before.held-atom.result args.out.now c.before.put-argument.new.1.1.1.0 c.before.put-argument.ensures
+add-put-atoms : (t : ℕ) → lts.Need-overflow-add-put-atoms (claims t) (put-atoms-at t) put-atoms.Post
+add-put-atoms t c = omega (arith, reach t c)
 
-  reach : (c : Headed) → Reach 2 c.before.before.before.before.before.before.before.before.before.before.args.base c.before.put-argument.new.1.1.1.0
-  reach c =
-      let start = c.before.before.before.before.before.before.before.before.before.before in
-      put-reach 0 (written c) start.requires.1.1.room (omega (arith, two-rows c))
+sub-put-atoms : (t : ℕ) → lts.Need-overflow-sub-put-atoms (claims t) (put-atoms-at t) put-atoms.Post
+sub-put-atoms t c = omega (arith, reach t c)
 
-  add-put-atoms : lts.Need-overflow-add-put-atoms (claims t) (put-atoms-at t) put-atoms.Post
-  add-put-atoms c = omega (arith, reach c)
+part-put-atoms-start : (t : ℕ) → lts.Need-slice-bounds-put-atoms-start (claims t) (put-atoms-at t) put-atoms.Post
+part-put-atoms-start t c = omega (arith, reach t c)
 
-  sub-put-atoms : lts.Need-overflow-sub-put-atoms (claims t) (put-atoms-at t) put-atoms.Post
-  sub-put-atoms c = omega (arith, reach c)
+part-put-atoms-end : (t : ℕ) → lts.Need-slice-bounds-put-atoms-end (claims t) (put-atoms-at t) put-atoms.Post
+part-put-atoms-end t c = omega (arith, reach t c)
 
-  part-put-atoms-start : lts.Need-slice-bounds-put-atoms-start (claims t) (put-atoms-at t) put-atoms.Post
-  part-put-atoms-start c = omega (arith, reach c)
+put-atoms-requires : (t : ℕ) → lts.Need-put-atoms-requires (claims t) (put-atoms-at t) put-atoms.Post
+put-atoms-requires t c κs =
+    let headed = c.before in
+    let start = headed.before.before.before.before.before.before.before.before.before.before in
+    let args = start.args in
+    let rows = args.rows.now in
+    let asks = start.requires.1.1 in
+    let at = headed.before.before.before.before.before.before.before.argument-value.ensures in
+    let next = headed.before.before.before.before.before.before.number_at.ensures in
+    let others = ap (λ (n : ℕ). taken_by (called_in rows) (argument_list_at rows n) (args.copies / 2)) next in (
+      omega (arith, start.requires.0, ap (rank rows) next, rank_falls rows args.argument _ at.some asks.inside (λ h. (at.behind h).later)),
+      (
+        start.requires.1.0,
+        record {
+          inside = omega (arith, next, link-inside _ asks.inside at.behind);
+          size_is = omega (arith, two-rows t headed);
+          level_low = omega (arith, asks.level_low, others, passing-taken args.copies at);
+          room = put-room _ (written t headed) asks.room (omega (arith, two-rows t headed));
+        },
+      ),
+    )
 
-  part-put-atoms-end : lts.Need-slice-bounds-put-atoms-end (claims t) (put-atoms-at t) put-atoms.Post
-  part-put-atoms-end c = omega (arith, reach c)
+same_length : (t : ℕ) → lts.Need-same-length (claims t) (put-atoms-at t) put-atoms.Post
+same_length t c = search rules
 
-  put-atoms-requires : lts.Need-put-atoms-requires (claims t) (put-atoms-at t) put-atoms.Post
-  put-atoms-requires c κs =
-      let headed = c.before in
-      let start = headed.before.before.before.before.before.before.before.before.before.before in
-      let args = start.args in
-      let rows = args.rows.now in
-      let asks = start.requires.1.1 in
-      let at = headed.before.before.before.before.before.before.before.argument-value.ensures in
-      let next = headed.before.before.before.before.before.before.number_at.ensures in
-      let others = ap (λ (n : ℕ). taken_by (called_in rows) (argument_list_at rows n) (args.copies / 2)) next in (
-        omega (arith, start.requires.0, ap (rank rows) next, rank_falls rows args.argument _ at.some asks.inside (λ h. (at.behind h).later)),
-        (
-          start.requires.1.0,
-          record {
-            inside = omega (arith, next, link-inside _ asks.inside at.behind);
-            size_is = omega (arith, two-rows headed);
-            level_low = omega (arith, asks.level_low, others, passing-taken args.copies at);
-            room = put-room _ (written headed) asks.room (omega (arith, two-rows headed));
-          },
-        ),
-      )
-
-  same_length : lts.Need-same-length (claims t) (put-atoms-at t) put-atoms.Post
-  same_length c = search rules
-
-  returns-2 : lts.Need-returns-2 (claims t) (put-atoms-at t) put-atoms.Post
-  returns-2 c =
-      let headed = c.before.before.before in
-      let start = headed.before.before.before.before.before.before.before.before.before.before in
-      let args = start.args in
-      let taken = headed.before.before.before.before.before in
-      let next = taken.before.number_at.ensures in
-      let rest : args.size - 2 ≡ 2 * argument_count (argument_list_at args.rows.now taken.before.number_at.result) = omega (arith, two-rows headed) in
-      atoms-done args.store args.rows.now args.argument args.copies args.level args.base args.out.now taken.before.before.argument-value.ensures next rest
-      (ap (λ (n : ℕ). args.level + n) taken.arguments-taken.ensures.is) headed.before.before.before.before.held-atom.ensures headed.before.before.before.more.ensures headed.before.put-argument.ensures c.before.put-atoms.ensures
+returns-2 : (t : ℕ) → lts.Need-returns-2 (claims t) (put-atoms-at t) put-atoms.Post
+returns-2 t c =
+    let headed = c.before.before.before in
+    let start = headed.before.before.before.before.before.before.before.before.before.before in
+    let args = start.args in
+    let taken = headed.before.before.before.before.before in
+    let next = taken.before.number_at.ensures in
+    let rest : args.size - 2 ≡ 2 * argument_count (argument_list_at args.rows.now taken.before.number_at.result) = omega (arith, two-rows t headed) in
+    atoms-done args.store args.rows.now args.argument args.copies args.level args.base args.out.now taken.before.before.argument-value.ensures next rest
+    (ap (λ (n : ℕ). args.level + n) taken.arguments-taken.ensures.is) headed.before.before.before.before.held-atom.ensures headed.before.before.before.more.ensures headed.before.put-argument.ensures c.before.put-atoms.ensures
 
 pub +put-atoms-spec : {M : Type 1} → statement M
 +put-atoms-spec = close μ-put-atoms λ t. lts.spec (claims t) (put-atoms-at t) put-atoms.Post

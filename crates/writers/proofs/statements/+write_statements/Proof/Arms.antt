@@ -12,7 +12,7 @@ use Rattle.measures_table.specs.Parts.{called_in}
 use Rattle.writers.specs.Code.{exits_of}
 use Rattle.writers.proofs.Sequence.{room-behind}
 use Rattle.writers.proofs.ListLaws.{Progress, start as begin, finish, above-some}
-use Rattle.writers.proofs.ArmLaws.{arms-some, behind-inside, behind-size, behind-labels, behind-less, arms_step, no-arms}
+use Rattle.writers.proofs.ArmLaws.{arms-some, arms-behind-inside, arms-behind-size, arms-behind-labels, behind-less, arms_step, no-arms}
 use Rattle.writers.proofs.statements.write_arms.Reads as reads
 use Rattle.writers.proofs.statements.+write_statements.Lts-write_arms as lts
 use Rattle.writers.proofs.statements.+write_statements.Proof.Claims.{write-arms-claims, write-arms-at}
@@ -114,10 +114,10 @@ write-arm-requires t c κs =
     let past-arms-size = c.before.before.before.before.before.arms-size in
     let past-loop-test = c.before.before.loop-test in
     let some = left-some rows args.arms past-loop.arm progress.size_is past-arms-size.ensures past-loop-test.true in
-    let onward = behind-inside rows past-loop.arm past-number-at.result source progress.inside some past-number-at.ensures in
+    let onward = arms-behind-inside rows past-loop.arm past-number-at.result source progress.inside some past-number-at.ensures in
     let asks = start.requires.1.1 in
-    let size = behind-size rows past-loop.arm past-number-at.result source progress.inside some past-number-at.ensures in
-    let marks = behind-labels rows past-loop.arm past-number-at.result source progress.inside some past-number-at.ensures in (
+    let size = arms-behind-size rows past-loop.arm past-number-at.result source progress.inside some past-number-at.ensures in
+    let marks = arms-behind-labels rows past-loop.arm past-number-at.result source progress.inside some past-number-at.ensures in (
       omega (arith, start.requires.0, progress.onward, above-some rows past-loop.arm (arms-some rows past-loop.arm some)),
       (
         start.requires.1.0,
@@ -143,8 +143,8 @@ arms-size-requires-2 t c κs =
     let past-arms-size = c.before.before.before.before.before.before.before.arms-size in
     let past-loop-test = c.before.before.before.before.loop-test in
     let some = left-some rows args.arms past-loop.arm progress.size_is past-arms-size.ensures past-loop-test.true in
-    let onward = behind-inside rows past-loop.arm past-number-at.result source progress.inside some past-number-at.ensures in
-    let size = behind-size rows past-loop.arm past-number-at.result source progress.inside some past-number-at.ensures in
+    let onward = arms-behind-inside rows past-loop.arm past-number-at.result source progress.inside some past-number-at.ensures in
+    let size = arms-behind-size rows past-loop.arm past-number-at.result source progress.inside some past-number-at.ensures in
     let asks = start.requires.1.1 in
     (start.requires.1.0.measured, onward, omega (arith, size, progress.size_is, asks.room.low))
 
@@ -160,7 +160,7 @@ sub-n t c =
     let past-arms-size = c.before.before.before.before.before.before.before.before.arms-size in
     let past-loop-test = c.before.before.before.before.before.loop-test in
     let some = left-some rows args.arms past-loop.arm progress.size_is past-arms-size.ensures past-loop-test.true in
-    let size = behind-size rows past-loop.arm past-number-at.result source progress.inside some past-number-at.ensures in
+    let size = arms-behind-size rows past-loop.arm past-number-at.result source progress.inside some past-number-at.ensures in
     let past-arms-size2 = c.arms-size2 in
     omega (arith, size, progress.size_is, past-arms-size.ensures, past-arms-size2.ensures)
 
@@ -176,8 +176,8 @@ arms-labels-requires-2 t c κs =
     let past-arms-size = c.before.before.before.before.before.before.before.before.arms-size in
     let past-loop-test = c.before.before.before.before.before.loop-test in
     let some = left-some rows args.arms past-loop.arm progress.size_is past-arms-size.ensures past-loop-test.true in
-    let onward = behind-inside rows past-loop.arm past-number-at.result source progress.inside some past-number-at.ensures in
-    let marks = behind-labels rows past-loop.arm past-number-at.result source progress.inside some past-number-at.ensures in
+    let onward = arms-behind-inside rows past-loop.arm past-number-at.result source progress.inside some past-number-at.ensures in
+    let marks = arms-behind-labels rows past-loop.arm past-number-at.result source progress.inside some past-number-at.ensures in
     let asks = start.requires.1.1 in
     (start.requires.1.0.measured, onward, omega (arith, marks, progress.labels_are, asks.labels_low))
 
@@ -193,7 +193,7 @@ sub-from t c =
     let past-arms-size = c.before.before.before.before.before.before.before.before.before.arms-size in
     let past-loop-test = c.before.before.before.before.before.before.loop-test in
     let some = left-some rows args.arms past-loop.arm progress.size_is past-arms-size.ensures past-loop-test.true in
-    let marks = behind-labels rows past-loop.arm past-number-at.result source progress.inside some past-number-at.ensures in
+    let marks = arms-behind-labels rows past-loop.arm past-number-at.result source progress.inside some past-number-at.ensures in
     let past-arms-labels = c.before.before.before.before.before.before.before.before.arms-labels in
     let past-arms-labels2 = c.arms-labels2 in
     omega (arith, marks, progress.labels_are, past-arms-labels.ensures, past-arms-labels2.ensures)
@@ -229,8 +229,8 @@ loop-again t c =
     let next-from = args.label + past-arms-labels.result - past-arms-labels2.result in
     let past-arms-size2 = c.before.arms-size2 in
     let next-n = past-arms-size.result - past-arms-size2.result in
-    let marks = behind-labels rows past-loop.arm past-number-at.result source progress.inside some past-number-at.ensures in
-    let size = behind-size rows past-loop.arm past-number-at.result source progress.inside some past-number-at.ensures in
+    let marks = arms-behind-labels rows past-loop.arm past-number-at.result source progress.inside some past-number-at.ensures in
+    let size = arms-behind-size rows past-loop.arm past-number-at.result source progress.inside some past-number-at.ensures in
     let past-write-arm = c.before.before.before.write-arm in
     arms_step args.store (exits_of args.exits) args.target rows args.arms args.label args.base args.out.now source some progress past-number-at.result next-from next-n _
     past-number-at.ensures

@@ -17,15 +17,15 @@ use Rattle.writers.proofs.statements.+write_statements.Proof.Claims.{write-if-cl
 pub operand-size-requires : (t : ℕ) → lts.Need-operand-size-requires (write-if-claims t) (write-if-at t) reads.Post
 operand-size-requires t c κs =
     let start = c.before in
-    let asks = start.pre.1.1 in
+    let asks = start.requires.1.1 in
     let args = start.args in
     let test-size = part-size wanted args.rows.now args.test asks.test_some in
-    (start.pre.1.0.measured, asks.test_inside, omega (arith, test-size, asks.room.low))
+    (start.requires.1.0.measured, asks.test_inside, omega (arith, test-size, asks.room.low))
 
 pub add-n : (t : ℕ) → lts.Need-add-n (write-if-claims t) (write-if-at t) reads.Post
 add-n t c =
     let start = c.before.before in
-    let asks = start.pre.1.1 in
+    let asks = start.requires.1.1 in
     let args = start.args in
     let test-size = part-size wanted args.rows.now args.test asks.test_some in
     let past-operand-size = c.operand-size in
@@ -34,7 +34,7 @@ add-n t c =
 pub add-m : (t : ℕ) → lts.Need-add-m (write-if-claims t) (write-if-at t) reads.Post
 add-m t c =
     let start = c.before.before in
-    let asks = start.pre.1.1 in
+    let asks = start.requires.1.1 in
     let args = start.args in
     let test-size = part-size wanted args.rows.now args.test asks.test_some in
     let past-operand-size = c.operand-size in
@@ -43,13 +43,13 @@ add-m t c =
 pub statement-size-requires : (t : ℕ) → lts.Need-statement-size-requires (write-if-claims t) (write-if-at t) reads.Post
 statement-size-requires t c κs =
     let start = c.before.before in
-    let asks = start.pre.1.1 in
-    (start.pre.1.0.measured, asks.true_inside, omega (arith, asks.room.low))
+    let asks = start.requires.1.1 in
+    (start.requires.1.0.measured, asks.true_inside, omega (arith, asks.room.low))
 
 pub add-m-2 : (t : ℕ) → lts.Need-add-m-2 (write-if-claims t) (write-if-at t) reads.Post
 add-m-2 t c =
     let start = c.before.before.before in
-    let asks = start.pre.1.1 in
+    let asks = start.requires.1.1 in
     let args = start.args in
     let test-size = part-size wanted args.rows.now args.test asks.test_some in
     let past-operand-size = c.before.operand-size in
@@ -59,7 +59,7 @@ add-m-2 t c =
 pub add-end : (t : ℕ) → lts.Need-add-end (write-if-claims t) (write-if-at t) reads.Post
 add-end t c =
     let start = c.before.before.before in
-    let asks = start.pre.1.1 in
+    let asks = start.requires.1.1 in
     let args = start.args in
     let test-size = part-size wanted args.rows.now args.test asks.test_some in
     let past-operand-size = c.before.operand-size in
@@ -69,13 +69,13 @@ add-end t c =
 pub body-size-requires : (t : ℕ) → lts.Need-body-size-requires (write-if-claims t) (write-if-at t) reads.Post
 body-size-requires t c κs =
     let start = c.before.before.before in
-    let asks = start.pre.1.1 in
-    (start.pre.1.0.measured, asks.false_inside, omega (arith, asks.room.low))
+    let asks = start.requires.1.1 in
+    (start.requires.1.0.measured, asks.false_inside, omega (arith, asks.room.low))
 
 pub add-end-2 : (t : ℕ) → lts.Need-add-end-2 (write-if-claims t) (write-if-at t) reads.Post
 add-end-2 t c =
     let start = c.before.before.before.before in
-    let asks = start.pre.1.1 in
+    let asks = start.requires.1.1 in
     let args = start.args in
     let test-size = part-size wanted args.rows.now args.test asks.test_some in
     let past-operand-size = c.before.before.operand-size in
@@ -86,19 +86,19 @@ add-end-2 t c =
 pub atom-at-requires : (t : ℕ) → lts.Need-atom-at-requires (write-if-claims t) (write-if-at t) reads.Post
 atom-at-requires t c κs =
     let start = c.before.before.before.before in
-    let asks = start.pre.1.1 in
-    (start.pre.1.0, asks.test_inside, omega arith)
+    let asks = start.requires.1.1 in
+    (start.requires.1.0, asks.test_inside, omega arith)
 
 pub statement-labels-requires : (t : ℕ) → lts.Need-statement-labels-requires (write-if-claims t) (write-if-at t) reads.Post
 statement-labels-requires t c κs =
     let start = c.before.before.before.before.before in
-    let asks = start.pre.1.1 in
-    (start.pre.1.0.measured, asks.true_inside, omega (arith, asks.labels_low))
+    let asks = start.requires.1.1 in
+    (start.requires.1.0.measured, asks.true_inside, omega (arith, asks.labels_low))
 
 pub add-other : (t : ℕ) → lts.Need-add-other (write-if-claims t) (write-if-at t) reads.Post
 add-other t c =
     let start = c.before.before.before.before.before.before in
-    let asks = start.pre.1.1 in
+    let asks = start.requires.1.1 in
     let args = start.args in
     let test-size = part-size wanted args.rows.now args.test asks.test_some in
     let past-operand-size = c.before.before.before.before.operand-size in
@@ -110,15 +110,15 @@ add-other t c =
 pub write-expression-requires : (t : ℕ) → lts.Need-write-expression-requires (write-if-claims t) (write-if-at t) reads.Post
 write-expression-requires t c κs =
     let start = c.before.before.before.before.before.before.before in
-    let asks = start.pre.1.1 in
+    let asks = start.requires.1.1 in
     let args = start.args in
     let test-size = part-size wanted args.rows.now args.test asks.test_some in
-    (start.pre.1.0, record { inside = asks.test_inside; level_low = omega (arith, Part-low start.pre.1.0 args.test asks.test_inside wanted); use_fits = tt; room = room-less _ asks.room (omega (arith, test-size)) })
+    (start.requires.1.0, record { inside = asks.test_inside; level_low = omega (arith, Part-low start.requires.1.0 args.test asks.test_inside wanted); use_fits = tt; room = room-less _ asks.room (omega (arith, test-size)) })
 
 pub add-put-if : (t : ℕ) → lts.Need-add-put-if (write-if-claims t) (write-if-at t) reads.Post
 add-put-if t c =
     let start = c.before.before.before.before.before.before.before.before.before in
-    let asks = start.pre.1.1 in
+    let asks = start.requires.1.1 in
     let args = start.args in
     let test-size = part-size wanted args.rows.now args.test asks.test_some in
     let past-operand-size = c.before.before.before.before.before.before.before.operand-size in
@@ -130,7 +130,7 @@ add-put-if t c =
 pub add-put-if-2 : (t : ℕ) → lts.Need-add-put-if-2 (write-if-claims t) (write-if-at t) reads.Post
 add-put-if-2 t c =
     let start = c.before.before.before.before.before.before.before.before.before in
-    let asks = start.pre.1.1 in
+    let asks = start.requires.1.1 in
     let args = start.args in
     let test-size = part-size wanted args.rows.now args.test asks.test_some in
     let past-operand-size = c.before.before.before.before.before.before.before.operand-size in
@@ -142,7 +142,7 @@ add-put-if-2 t c =
 pub add-behind : (t : ℕ) → lts.Need-add-behind (write-if-claims t) (write-if-at t) reads.Post
 add-behind t c =
     let start = c.before.before.before.before.before.before.before.before.before in
-    let asks = start.pre.1.1 in
+    let asks = start.requires.1.1 in
     let args = start.args in
     let test-size = part-size wanted args.rows.now args.test asks.test_some in
     let past-operand-size = c.before.before.before.before.before.before.before.operand-size in
@@ -160,15 +160,15 @@ put-if-reach : (t : ℕ) (c : lts.After-behind (write-if-claims t) (write-if-at 
     let start = c.before.before.before.before.before.before.before.before.before.before in
     let args = start.args in
     let past-write-expression = c.before.before.write-expression in
-    let test_table = past-write-expression.last.1.1.1.1.1.1.1.1.0 in
+    let test_table = past-write-expression.new.1.1.1.1.1.1.1.1.0 in
     Reach test-rows args.base test_table
 put-if-reach t c =
     let start = c.before.before.before.before.before.before.before.before.before.before in
-    let asks = start.pre.1.1 in
+    let asks = start.requires.1.1 in
     let args = start.args in
     let test-size = part-size wanted args.rows.now args.test asks.test_some in
     let past-write-expression = c.before.before.write-expression in
-    let test-kept = past-write-expression.kept.1.1.1.1.1.1.1.1.0 in
+    let test-kept = past-write-expression.auto.1.1.1.1.1.1.1.1.0 in
     let past-operand-size = c.before.before.before.before.before.before.before.before.operand-size in
     let past-statement-size = c.before.before.before.before.before.before.before.statement-size in
     let past-body-size = c.before.before.before.before.before.before.body-size in
@@ -194,10 +194,10 @@ put-if-requires t c κs =
     let past-operand-size = c.before.before.before.before.before.before.before.before.before.operand-size in
     let test-rows = past-operand-size.result in
     let past-write-expression = c.before.before.before.write-expression in
-    let test_table = past-write-expression.last.1.1.1.1.1.1.1.1.0 in
+    let test_table = past-write-expression.new.1.1.1.1.1.1.1.1.0 in
     let start = c.before.before.before.before.before.before.before.before.before.before.before in
-    let asks = start.pre.1.1 in
-    let test-kept = past-write-expression.kept.1.1.1.1.1.1.1.1.0 in
+    let asks = start.requires.1.1 in
+    let test-kept = past-write-expression.auto.1.1.1.1.1.1.1.1.0 in
     let args = start.args in
     let test-size = part-size wanted args.rows.now args.test asks.test_some in
     let past-statement-size = c.before.before.before.before.before.before.before.before.statement-size in
@@ -218,24 +218,24 @@ write-body-reach : (t : ℕ) (c : lts.After-out2 (write-if-claims t) (write-if-a
     let start = c.before.before.before.before.before.before.before.before.before.before.before.before.before in
     let args = start.args in
     let past-write-expression = c.before.before.before.before.before.write-expression in
-    let test_table = past-write-expression.last.1.1.1.1.1.1.1.1.0 in
+    let test_table = past-write-expression.new.1.1.1.1.1.1.1.1.0 in
     let past-put-if = c.before.put_if in
-    let head_rows = past-put-if.last.1.1.1.1.0 in
+    let head_rows = past-put-if.new.1.1.1.1.0 in
     let head-table = back_in test-rows test_table head_rows in
     Reach yes-at args.base head-table
 write-body-reach t c =
     let start = c.before.before.before.before.before.before.before.before.before.before.before.before.before in
-    let asks = start.pre.1.1 in
+    let asks = start.requires.1.1 in
     let args = start.args in
     let test-size = part-size wanted args.rows.now args.test asks.test_some in
     let past-write-expression = c.before.before.before.before.before.write-expression in
-    let test-kept = past-write-expression.kept.1.1.1.1.1.1.1.1.0 in
+    let test-kept = past-write-expression.auto.1.1.1.1.1.1.1.1.0 in
     let past-operand-size = c.before.before.before.before.before.before.before.before.before.before.before.operand-size in
     let test-rows = past-operand-size.result in
-    let test_table = past-write-expression.last.1.1.1.1.1.1.1.1.0 in
+    let test_table = past-write-expression.new.1.1.1.1.1.1.1.1.0 in
     let past-put-if = c.before.put_if in
-    let head_rows = past-put-if.last.1.1.1.1.0 in
-    let head-kept = back-length test-rows test_table head_rows past-put-if.kept.1.1.1.1.0 in
+    let head_rows = past-put-if.new.1.1.1.1.0 in
+    let head-kept = back-length test-rows test_table head_rows past-put-if.auto.1.1.1.1.0 in
     let past-statement-size = c.before.before.before.before.before.before.before.before.before.before.statement-size in
     let past-body-size = c.before.before.before.before.before.before.before.before.before.body-size in
     record { inside = omega (arith, asks.room.inside, test-size, past-operand-size.ensures, past-statement-size.ensures, past-body-size.ensures, test-kept, head-kept); low = omega (arith, asks.room.low, test-size, past-operand-size.ensures, past-statement-size.ensures, past-body-size.ensures) }
@@ -262,22 +262,22 @@ pub write-body-requires : (t : ℕ) → lts.Need-write-body-requires (write-if-c
 write-body-requires t c κs =
     let start = c.before.before.before.before.before.before.before.before.before.before.before.before.before.before in
     let args = start.args in
-    let asks = start.pre.1.1 in
+    let asks = start.requires.1.1 in
     let past-operand-size = c.before.before.before.before.before.before.before.before.before.before.before.before.operand-size in
     let test-rows = past-operand-size.result in
     let yes-at = test-rows + 2 in
     let past-write-expression = c.before.before.before.before.before.before.write-expression in
-    let test_table = past-write-expression.last.1.1.1.1.1.1.1.1.0 in
+    let test_table = past-write-expression.new.1.1.1.1.1.1.1.1.0 in
     let past-put-if = c.before.before.put_if in
-    let head_rows = past-put-if.last.1.1.1.1.0 in
+    let head_rows = past-put-if.new.1.1.1.1.0 in
     let head-table = back_in test-rows test_table head_rows in
-    let head-kept = back-length test-rows test_table head_rows past-put-if.kept.1.1.1.1.0 in
-    let test-kept = past-write-expression.kept.1.1.1.1.1.1.1.1.0 in
+    let head-kept = back-length test-rows test_table head_rows past-put-if.auto.1.1.1.1.0 in
+    let test-kept = past-write-expression.auto.1.1.1.1.1.1.1.1.0 in
     let test-size = part-size wanted args.rows.now args.test asks.test_some in
     let size = body-some args.rows.now args.yes asks.true_some in (
-      omega (arith, start.pre.0),
+      omega (arith, start.requires.0),
       (
-        start.pre.1.0,
+        start.requires.1.0,
         record {
           inside = asks.true_inside;
           room = room-behind yes-at _ head-table asks.room (head-kept ∙ test-kept) (omega (arith, size, test-size, past-operand-size.ensures));
@@ -296,32 +296,32 @@ write-body-2-reach : (t : ℕ) (c : lts.After-out3 (write-if-claims t) (write-if
     let args = start.args in
     let yes-at = test-rows + 2 in
     let past-write-expression = c.before.before.before.before.before.before.before.before.write-expression in
-    let test_table = past-write-expression.last.1.1.1.1.1.1.1.1.0 in
+    let test_table = past-write-expression.new.1.1.1.1.1.1.1.1.0 in
     let past-put-if = c.before.before.before.before.put_if in
-    let head_rows = past-put-if.last.1.1.1.1.0 in
+    let head_rows = past-put-if.new.1.1.1.1.0 in
     let head-table = back_in test-rows test_table head_rows in
     let past-write-body = c.before.write-body in
-    let yes-rows = past-write-body.last.1.1.1.1.1.1.1.0 in
+    let yes-rows = past-write-body.new.1.1.1.1.1.1.1.0 in
     let yes-table = back_in yes-at head-table yes-rows in
     Reach no-at args.base yes-table
 write-body-2-reach t c =
     let start = c.before.before.before.before.before.before.before.before.before.before.before.before.before.before.before.before in
-    let asks = start.pre.1.1 in
+    let asks = start.requires.1.1 in
     let args = start.args in
     let test-size = part-size wanted args.rows.now args.test asks.test_some in
     let past-write-expression = c.before.before.before.before.before.before.before.before.write-expression in
-    let test-kept = past-write-expression.kept.1.1.1.1.1.1.1.1.0 in
+    let test-kept = past-write-expression.auto.1.1.1.1.1.1.1.1.0 in
     let past-operand-size = c.before.before.before.before.before.before.before.before.before.before.before.before.before.before.operand-size in
     let test-rows = past-operand-size.result in
-    let test_table = past-write-expression.last.1.1.1.1.1.1.1.1.0 in
+    let test_table = past-write-expression.new.1.1.1.1.1.1.1.1.0 in
     let past-put-if = c.before.before.before.before.put_if in
-    let head_rows = past-put-if.last.1.1.1.1.0 in
-    let head-kept = back-length test-rows test_table head_rows past-put-if.kept.1.1.1.1.0 in
+    let head_rows = past-put-if.new.1.1.1.1.0 in
+    let head-kept = back-length test-rows test_table head_rows past-put-if.auto.1.1.1.1.0 in
     let yes-at = test-rows + 2 in
     let head-table = back_in test-rows test_table head_rows in
     let past-write-body = c.before.write-body in
-    let yes-rows = past-write-body.last.1.1.1.1.1.1.1.0 in
-    let yes-kept = back-length yes-at head-table yes-rows past-write-body.kept.1.1.1.1.1.1.1.0 in
+    let yes-rows = past-write-body.new.1.1.1.1.1.1.1.0 in
+    let yes-kept = back-length yes-at head-table yes-rows past-write-body.auto.1.1.1.1.1.1.1.0 in
     let past-statement-size = c.before.before.before.before.before.before.before.before.before.before.before.before.before.statement-size in
     let past-body-size = c.before.before.before.before.before.before.before.before.before.before.before.before.body-size in
     record { inside = omega (arith, asks.room.inside, test-size, past-operand-size.ensures, past-statement-size.ensures, past-body-size.ensures, test-kept, head-kept, yes-kept); low = omega (arith, asks.room.low, test-size, past-operand-size.ensures, past-statement-size.ensures, past-body-size.ensures) }
@@ -347,29 +347,29 @@ part-write-body-end-2 t c = omega arith
 pub write-body-requires-2 : (t : ℕ) → lts.Need-write-body-requires-2 (write-if-claims t) (write-if-at t) reads.Post
 write-body-requires-2 t c κs =
     let start = c.before.before.before.before.before.before.before.before.before.before.before.before.before.before.before.before.before in
-    let asks = start.pre.1.1 in
+    let asks = start.requires.1.1 in
     let past-operand-size = c.before.before.before.before.before.before.before.before.before.before.before.before.before.before.before.operand-size in
     let test-rows = past-operand-size.result in
     let past-statement-size = c.before.before.before.before.before.before.before.before.before.before.before.before.before.before.statement-size in
     let no-at = test-rows + 2 + 1 + past-statement-size.result in
     let yes-at = test-rows + 2 in
     let past-write-expression = c.before.before.before.before.before.before.before.before.before.write-expression in
-    let test_table = past-write-expression.last.1.1.1.1.1.1.1.1.0 in
+    let test_table = past-write-expression.new.1.1.1.1.1.1.1.1.0 in
     let past-put-if = c.before.before.before.before.before.put_if in
-    let head_rows = past-put-if.last.1.1.1.1.0 in
+    let head_rows = past-put-if.new.1.1.1.1.0 in
     let head-table = back_in test-rows test_table head_rows in
     let past-write-body = c.before.before.write-body in
-    let yes-rows = past-write-body.last.1.1.1.1.1.1.1.0 in
+    let yes-rows = past-write-body.new.1.1.1.1.1.1.1.0 in
     let yes-table = back_in yes-at head-table yes-rows in
-    let yes-kept = back-length yes-at head-table yes-rows past-write-body.kept.1.1.1.1.1.1.1.0 in
-    let head-kept = back-length test-rows test_table head_rows past-put-if.kept.1.1.1.1.0 in
-    let test-kept = past-write-expression.kept.1.1.1.1.1.1.1.1.0 in
+    let yes-kept = back-length yes-at head-table yes-rows past-write-body.auto.1.1.1.1.1.1.1.0 in
+    let head-kept = back-length test-rows test_table head_rows past-put-if.auto.1.1.1.1.0 in
+    let test-kept = past-write-expression.auto.1.1.1.1.1.1.1.1.0 in
     let args = start.args in
     let test-size = part-size wanted args.rows.now args.test asks.test_some in
     let past-statement-labels = c.before.before.before.before.before.before.before.before.before.before.before.statement-labels in (
-      omega (arith, start.pre.0),
+      omega (arith, start.requires.0),
       (
-        start.pre.1.0,
+        start.requires.1.0,
         record {
           inside = asks.false_inside;
           room = room-behind no-at _ yes-table asks.room (yes-kept ∙ head-kept ∙ test-kept) (omega (arith, test-size, past-operand-size.ensures, past-statement-size.ensures));
@@ -387,26 +387,26 @@ same_length t c =
     let no-at = test-rows + 2 + 1 + past-statement-size.result in
     let yes-at = test-rows + 2 in
     let past-write-expression = c.before.before.before.before.before.before.before.before.before.before.before.write-expression in
-    let test_table = past-write-expression.last.1.1.1.1.1.1.1.1.0 in
+    let test_table = past-write-expression.new.1.1.1.1.1.1.1.1.0 in
     let past-put-if = c.before.before.before.before.before.before.before.put_if in
-    let head_rows = past-put-if.last.1.1.1.1.0 in
+    let head_rows = past-put-if.new.1.1.1.1.0 in
     let head-table = back_in test-rows test_table head_rows in
     let past-write-body = c.before.before.before.before.write-body in
-    let yes-rows = past-write-body.last.1.1.1.1.1.1.1.0 in
+    let yes-rows = past-write-body.new.1.1.1.1.1.1.1.0 in
     let yes-table = back_in yes-at head-table yes-rows in
     let past-write-body2 = c.before.write-body2 in
-    let no_rows = past-write-body2.last.1.1.1.1.1.1.1.0 in
-    let no-kept = back-length no-at yes-table no_rows past-write-body2.kept.1.1.1.1.1.1.1.0 in
-    let yes-kept = back-length yes-at head-table yes-rows past-write-body.kept.1.1.1.1.1.1.1.0 in
-    let head-kept = back-length test-rows test_table head_rows past-put-if.kept.1.1.1.1.0 in
-    let test-kept = past-write-expression.kept.1.1.1.1.1.1.1.1.0 in
+    let no_rows = past-write-body2.new.1.1.1.1.1.1.1.0 in
+    let no-kept = back-length no-at yes-table no_rows past-write-body2.auto.1.1.1.1.1.1.1.0 in
+    let yes-kept = back-length yes-at head-table yes-rows past-write-body.auto.1.1.1.1.1.1.1.0 in
+    let head-kept = back-length test-rows test_table head_rows past-put-if.auto.1.1.1.1.0 in
+    let test-kept = past-write-expression.auto.1.1.1.1.1.1.1.1.0 in
     no-kept ∙ yes-kept ∙ head-kept ∙ test-kept
 
 pub returns : (t : ℕ) → lts.Need-returns (write-if-claims t) (write-if-at t) reads.Post
 returns t c =
     let start = c.before.before.before.before.before.before.before.before.before.before.before.before.before.before.before.before.before.before.before in
     let args = start.args in
-    let asks = start.pre.1.1 in
+    let asks = start.requires.1.1 in
     let past-atom-at = c.before.before.before.before.before.before.before.before.before.before.before.before.before.before.atom-at in
     let past-operand-size = c.before.before.before.before.before.before.before.before.before.before.before.before.before.before.before.before.before.operand-size in
     let past-statement-size = c.before.before.before.before.before.before.before.before.before.before.before.before.before.before.before.before.statement-size in

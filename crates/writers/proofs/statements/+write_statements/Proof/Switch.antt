@@ -346,7 +346,7 @@ write-list-requires t c κs =
       ),
     )
 
-put-label-reach : (t : ℕ) (c : lts.After-out4 (write-switch-claims t) (write-switch-at t) reads.Post) →
+switch-label-reach : (t : ℕ) (c : lts.After-out4 (write-switch-claims t) (write-switch-at t) reads.Post) →
     let past-operand-size = c.before.before.before.before.before.before.before.before.before.before.before.before.before.before.before.before.before.operand-size in
     let selector-rows = past-operand-size.result in
     let past-list-cases = c.before.before.before.before.before.before.before.before.before.before.before.before.before.before.before.before.List-cases in
@@ -368,7 +368,7 @@ put-label-reach : (t : ℕ) (c : lts.After-out4 (write-switch-claims t) (write-s
     let items-rows = past-write-list.new.1.1.1.1.1.1.1.1.0 in
     let items-table = back_in items-at jump-table items-rows in
     Reach label_at args.base items-table
-put-label-reach t c =
+switch-label-reach t c =
     let start = c.before.before.before.before.before.before.before.before.before.before.before.before.before.before.before.before.before.before.before in
     let asks = start.requires.1.1 in
     let args = start.args in
@@ -396,19 +396,19 @@ put-label-reach t c =
     record { inside = omega (arith, asks.room.inside, selector-size, past-operand-size.ensures, past-list-cases.ensures, past-list-size.ensures, selector-kept, tests-kept, jump_kept, items_kept); low = omega (arith, asks.room.low, selector-size, past-operand-size.ensures, past-list-cases.ensures, past-list-size.ensures) }
 
 pub add-put-label : (t : ℕ) → lts.Need-overflow-add-put-label (write-switch-claims t) (write-switch-at t) reads.Post
-add-put-label t c = omega (arith, put-label-reach t c)
+add-put-label t c = omega (arith, switch-label-reach t c)
 
 pub mul-put-label : (t : ℕ) → lts.Need-overflow-mul-put-label (write-switch-claims t) (write-switch-at t) reads.Post
-mul-put-label t c = omega (arith, put-label-reach t c)
+mul-put-label t c = omega (arith, switch-label-reach t c)
 
 pub mul-put-label-2 : (t : ℕ) → lts.Need-overflow-mul-put-label-2 (write-switch-claims t) (write-switch-at t) reads.Post
-mul-put-label-2 t c = omega (arith, put-label-reach t c)
+mul-put-label-2 t c = omega (arith, switch-label-reach t c)
 
 pub sub-put-label : (t : ℕ) → lts.Need-overflow-sub-put-label (write-switch-claims t) (write-switch-at t) reads.Post
-sub-put-label t c = omega (arith, put-label-reach t c)
+sub-put-label t c = omega (arith, switch-label-reach t c)
 
 pub part-put-label-start : (t : ℕ) → lts.Need-slice-bounds-put-label-start (write-switch-claims t) (write-switch-at t) reads.Post
-part-put-label-start t c = omega (arith, put-label-reach t c)
+part-put-label-start t c = omega (arith, switch-label-reach t c)
 
 pub part-put-label-end : (t : ℕ) → lts.Need-slice-bounds-put-label-end (write-switch-claims t) (write-switch-at t) reads.Post
 part-put-label-end t c = omega arith

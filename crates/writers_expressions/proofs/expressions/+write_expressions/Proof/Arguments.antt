@@ -11,205 +11,176 @@ use Rattle.writers_calls.specs.ArgumentLaws.{link-inside}
 use Rattle.writers_calls.specs.CallCode.{code-none}
 use Rattle.writers_calls.specs.Ranks.{rank_most}
 use Rattle.writers_expressions.proofs.ArgumentParts.{ArgumentsAsked, ArgumentFound, size_is, count_is, levels-low, value_inside, value-small, next-falls, value-falls, behind-asks}
-use Rattle.writers_expressions.proofs.ArgumentParts.{BehindWritten, rest-reach, value-asks, ValueWritten, value-reach, hold-room, arguments-length, arguments-written}
+use Rattle.writers_expressions.proofs.ArgumentParts.{BehindWritten, rest-reach, value-asks, ValueWritten, value-reach, argument-room, arguments-length, arguments-written}
 use Rattle.writers_expressions.proofs.expressions.write_arguments.Reads as reads
 use Rattle.writers_expressions.proofs.expressions.+write_expressions.Lts-write_arguments as lts
 use Rattle.writers_expressions.proofs.expressions.+write_expressions.Proof.Claims.{write-arguments-claims, write-arguments-at}
 
--- `t` is the measure of the call.
-module _ (t : ℕ) where
-  -- ---- the places, in the order of the code, and what is known at each
+-- ---- the places, in the order of the code, and what is known at each
 
-  abbrev Start : Type 0
-  Start = lts.Start (write-arguments-claims t) (write-arguments-at t) reads.Post
+arguments-at-start : (t : ℕ) (c : lts.Start (write-arguments-claims t) (write-arguments-at t) reads.Post) →
+    let args = c.args in
+    ArgumentsAsked args.store args.rows.now args.table.now args.argument args.count args.copies args.level args.size args.base args.out.now
+arguments-at-start t c = record { writing = c.requires.1.0; asks = c.requires.1.1 }
 
-  at-start : (c : Start) →
-      let args = c.args in
-      ArgumentsAsked args.store args.rows.now args.table.now args.argument args.count args.copies args.level args.size args.base args.out.now
-  at-start c = record { writing = c.requires.1.0; asks = c.requires.1.1 }
+-- All is known.
+at-sized : (t : ℕ) (c : lts.After-operand-size (write-arguments-claims t) (write-arguments-at t) reads.Post) →
+    let args = c.before.before.before.before.before.before.args in
+    ArgumentFound args.store args.rows.now args.table.now args.argument args.count args.copies args.level args.size args.base args.out.now
+    c.before.before.before.argument-value.result c.before.before.number_at.result c.before.arguments-taken.result c.operand-size.result
+at-sized t c = record {
+  asked = arguments-at-start t c.before.before.before.before.before.before;
+  at = c.before.before.before.argument-value.ensures;
+  next_is = c.before.before.number_at.ensures;
+  taken_is = c.before.arguments-taken.ensures;
+  own_is = c.operand-size.ensures;
+}
 
-  -- The first argument is known, but for its rows.
-  abbrev Taken : Type 0
-  Taken = lts.After-arguments-taken (write-arguments-claims t) (write-arguments-at t) reads.Post
+-- Those behind it are written.
+at-behind : (t : ℕ) (c : lts.After-out (write-arguments-claims t) (write-arguments-at t) reads.Post) →
+    let sized = c.before.before.before.before.before in
+    let args = sized.before.before.before.before.before.before.args in
+    BehindWritten args.store args.rows.now args.table.now args.argument args.count args.copies args.level args.size args.base args.out.now
+    sized.before.before.before.argument-value.result sized.before.before.number_at.result sized.before.arguments-taken.result sized.operand-size.result
+    (args.size - (sized.operand-size.result + 4 * (args.copies % 2))) c.before.before.before.more2.result c.before.write-arguments.new.1.1.1.1.1.1.1.1.1.1.0
+at-behind t c = record { found = at-sized t c.before.before.before.before.before; rest_is = refl; table_is = c.before.write-arguments.ensures }
 
-  abbrev taken_start : Taken → Start
-  taken_start c = c.before.before.before.before.before
+-- Its code is written.
+at_value : (t : ℕ) (c : lts.After-out2 (write-arguments-claims t) (write-arguments-at t) reads.Post) →
+    let behind = c.before.before.before in
+    let sized = behind.before.before.before.before.before in
+    let args = sized.before.before.before.before.before.before.args in
+    ValueWritten args.store args.rows.now args.table.now args.argument args.count args.copies args.level args.size args.base args.out.now
+    sized.before.before.before.argument-value.result sized.before.before.number_at.result sized.before.arguments-taken.result sized.operand-size.result
+    (args.size - (sized.operand-size.result + 4 * (args.copies % 2))) behind.before.before.before.more2.result behind.before.write-arguments.new.1.1.1.1.1.1.1.1.1.1.0
+    behind.before.before.before.before.more.result c.before.write-expression.new.1.1.1.1.1.1.1.1.0
+at_value t c = record { behind = at-behind t c.before.before.before; more_is = c.before.before.before.before.before.before.more2.ensures; table_is = c.before.write-expression.ensures }
 
-  -- All is known.
-  abbrev Sized : Type 0
-  Sized = lts.After-operand-size (write-arguments-claims t) (write-arguments-at t) reads.Post
+-- ---- no arguments
 
-  abbrev sized-start : Sized → Start
-  sized-start c = taken_start c.before
+pub returns : (t : ℕ) → lts.Need-returns (write-arguments-claims t) (write-arguments-at t) reads.Post
+returns t c =
+    let args = c.before.before.args in
+    let rows = args.rows.now in
+    recoded _ _ _ _ _ _ (nothing-wrote args.follows args.base _)
+    (code-none (called_in rows) args.store (argument_list_at rows args.argument) args.copies args.level (omega (arith, c.before.before.requires.1.1.count_is, c.if1.true)))
 
-  at-sized : (c : Sized) →
-      let args = (sized-start c).args in
-      ArgumentFound args.store args.rows.now args.table.now args.argument args.count args.copies args.level args.size args.base args.out.now
-      c.before.before.before.argument-value.result c.before.before.number_at.result c.before.arguments-taken.result c.operand-size.result
-  at-sized c = record {
-    asked = at-start (sized-start c);
-    at = c.before.before.before.argument-value.ensures;
-    next_is = c.before.before.number_at.ensures;
-    taken_is = c.before.arguments-taken.ensures;
-    own_is = c.operand-size.ensures;
-  }
+-- ---- the first argument
 
-  -- Those behind it are written.
-  abbrev Behind : Type 0
-  Behind = lts.After-out (write-arguments-claims t) (write-arguments-at t) reads.Post
+pub argument-value-requires : (t : ℕ) → lts.Need-argument-value-requires (write-arguments-claims t) (write-arguments-at t) reads.Post
+argument-value-requires t c κs =
+    let start = c.before.before in
+    let asks = start.requires.1.1 in
+    (start.requires.1.0.measured.source, asks.inside, omega (arith, asks.count_is, c.if1.false))
 
-  abbrev behind-sized : Behind → Sized
-  behind-sized c = c.before.before.before.before.before
+pub number-at-requires : (t : ℕ) → lts.Need-number-at-requires (write-arguments-claims t) (write-arguments-at t) reads.Post
+number-at-requires t c κs = search rules
 
-  at-behind : (c : Behind) →
-      let sized = behind-sized c in
-      let args = (sized-start sized).args in
-      BehindWritten args.store args.rows.now args.table.now args.argument args.count args.copies args.level args.size args.base args.out.now
-      sized.before.before.before.argument-value.result sized.before.before.number_at.result sized.before.arguments-taken.result sized.operand-size.result
-      (args.size - (sized.operand-size.result + 4 * (args.copies % 2))) c.before.before.before.more2.result c.before.write-arguments.new.1.1.1.1.1.1.1.1.1.1.0
-  at-behind c = record { found = at-sized (behind-sized c); rest_is = refl; table_is = c.before.write-arguments.ensures }
+pub arguments-taken-requires : (t : ℕ) → lts.Need-arguments-taken-requires (write-arguments-claims t) (write-arguments-at t) reads.Post
+arguments-taken-requires t c κs =
+    let start = c.before.before.before.before in
+    (start.requires.1.0.measured, omega (arith, c.number_at.ensures, link-inside _ start.requires.1.1.inside c.before.argument-value.ensures.behind))
 
-  -- Its code is written.
-  abbrev Valued : Type 0
-  Valued = lts.After-out2 (write-arguments-claims t) (write-arguments-at t) reads.Post
+pub add-above : (t : ℕ) → lts.Need-overflow-add-above (write-arguments-claims t) (write-arguments-at t) reads.Post
+add-above t c =
+    let start = c.before.before.before.before.before in
+    omega (arith, c.arguments-taken.ensures.low, start.requires.1.1.level_low, rank_most start.args.rows.now c.before.number_at.result, start.requires.1.0.measured.source.few_rows)
 
-  abbrev valued-behind : Valued → Behind
-  valued-behind c = c.before.before.before
+pub mul-copy : (t : ℕ) → lts.Need-overflow-mul-copy (write-arguments-claims t) (write-arguments-at t) reads.Post
+mul-copy t c = omega arith
 
-  at_value : (c : Valued) →
-      let behind = valued-behind c in
-      let sized = behind-sized behind in
-      let args = (sized-start sized).args in
-      ValueWritten args.store args.rows.now args.table.now args.argument args.count args.copies args.level args.size args.base args.out.now
-      sized.before.before.before.argument-value.result sized.before.before.number_at.result sized.before.arguments-taken.result sized.operand-size.result
-      (args.size - (sized.operand-size.result + 4 * (args.copies % 2))) behind.before.before.before.more2.result behind.before.write-arguments.last.1.1.1.1.1.1.1.1.1.1.0
-      behind.before.before.before.before.more.result c.before.write-expression.new.1.1.1.1.1.1.1.1.0
-  at_value c = record { behind = at-behind (valued-behind c); more_is = (valued-behind c).before.before.before.more2.ensures; table_is = c.before.write-expression.ensures }
+pub operand-size-requires : (t : ℕ) → lts.Need-operand-size-requires (write-arguments-claims t) (write-arguments-at t) reads.Post
+operand-size-requires t c κs =
+    let asked = arguments-at-start t c.before.before.before.before.before in
+    let at = c.before.before.argument-value.ensures in
+    (asked.writing.measured, at.onward.inside, value-small asked at)
 
-  -- ---- no arguments
+pub add-rest : (t : ℕ) → lts.Need-overflow-add-rest (write-arguments-claims t) (write-arguments-at t) reads.Post
+add-rest t c = omega (arith, size_is (at-sized t c), c.before.before.before.before.before.before.requires.1.1.room.low)
 
-  pub returns : lts.Need-returns (write-arguments-claims t) (write-arguments-at t) reads.Post
-  returns c =
-      let args = c.before.before.args in
-      let rows = args.rows.now in
-      recoded _ _ _ _ _ _ (nothing-wrote args.follows args.base _)
-      (code-none (called_in rows) args.store (argument_list_at rows args.argument) args.copies args.level (omega (arith, c.before.before.requires.1.1.count_is, c.if1.true)))
+pub sub-rest : (t : ℕ) → lts.Need-overflow-sub-rest (write-arguments-claims t) (write-arguments-at t) reads.Post
+sub-rest t c = omega (arith, size_is (at-sized t c))
 
-  -- ---- the first argument
+pub add-n : (t : ℕ) → lts.Need-overflow-add-n (write-arguments-claims t) (write-arguments-at t) reads.Post
+add-n t c = omega (arith, size_is (at-sized t c), c.before.before.before.before.before.before.requires.1.1.room.low)
 
-  pub argument-value-requires : lts.Need-argument-value-requires (write-arguments-claims t) (write-arguments-at t) reads.Post
-  argument-value-requires c κs =
-      let start = c.before.before in
-      let asks = start.requires.1.1 in
-      (start.requires.1.0.measured.source, asks.inside, omega (arith, asks.count_is, c.if1.false))
+pub more-requires : (t : ℕ) → lts.Need-more-requires (write-arguments-claims t) (write-arguments-at t) reads.Post
+more-requires t c κs = tt
 
-  pub number-at-requires : lts.Need-number-at-requires (write-arguments-claims t) (write-arguments-at t) reads.Post
-  number-at-requires c κs = search rules
+pub sub-write-arguments : (t : ℕ) → lts.Need-overflow-sub-write-arguments (write-arguments-claims t) (write-arguments-at t) reads.Post
+sub-write-arguments t c = omega (arith, count_is (at-sized t c.before))
 
-  pub arguments-taken-requires : lts.Need-arguments-taken-requires (write-arguments-claims t) (write-arguments-at t) reads.Post
-  arguments-taken-requires c κs =
-      let start = c.before.before.before.before in
-      (start.requires.1.0.measured, omega (arith, c.number_at.ensures, link-inside _ start.requires.1.1.inside c.before.argument-value.ensures.behind))
+pub more-requires-2 : (t : ℕ) → lts.Need-more-requires-2 (write-arguments-claims t) (write-arguments-at t) reads.Post
+more-requires-2 t c κs = tt
 
-  pub add-above : lts.Need-overflow-add-above (write-arguments-claims t) (write-arguments-at t) reads.Post
-  add-above c =
-      let start = taken_start c in
-      omega (arith, c.arguments-taken.ensures.low, start.pre.1.1.level_low, rank_most start.args.rows.now c.before.number_at.result, start.pre.1.0.measured.source.few_rows)
+-- ---- those behind it
 
-  pub mul-copy : lts.Need-overflow-mul-copy (write-arguments-claims t) (write-arguments-at t) reads.Post
-  mul-copy c = omega arith
+pub write-arguments-requires : (t : ℕ) → lts.Need-write-arguments-requires (write-arguments-claims t) (write-arguments-at t) reads.Post
+write-arguments-requires t c κs =
+    let sized = c.before.before.before in
+    let start = sized.before.before.before.before.before.before in
+    (omega (arith, next-falls (at-sized t sized), start.requires.0), (start.requires.1.0, behind-asks (at-sized t sized)))
 
-  pub operand-size-requires : lts.Need-operand-size-requires (write-arguments-claims t) (write-arguments-at t) reads.Post
-  operand-size-requires c κs =
-      let asked = at-start (taken_start c) in
-      let at = c.before.before.argument-value.ensures in
-      (asked.writing.measured, at.onward.inside, value-small asked at)
+-- ---- its code
 
-  pub add-rest : lts.Need-overflow-add-rest (write-arguments-claims t) (write-arguments-at t) reads.Post
-  add-rest c = omega (arith, size_is (at-sized c), (sized-start c).requires.1.1.room.low)
+pub add-write-expression : (t : ℕ) → lts.Need-overflow-add-write-expression (write-arguments-claims t) (write-arguments-at t) reads.Post
+add-write-expression t c = omega (arith, rest-reach (at-behind t c))
 
-  pub sub-rest : lts.Need-overflow-sub-rest (write-arguments-claims t) (write-arguments-at t) reads.Post
-  sub-rest c = omega (arith, size_is (at-sized c))
+pub mul-write-expression : (t : ℕ) → lts.Need-overflow-mul-write-expression (write-arguments-claims t) (write-arguments-at t) reads.Post
+mul-write-expression t c = omega (arith, rest-reach (at-behind t c))
 
-  pub add-n : lts.Need-overflow-add-n (write-arguments-claims t) (write-arguments-at t) reads.Post
-  add-n c = omega (arith, size_is (at-sized c), (sized-start c).requires.1.1.room.low)
+pub mul-write-expression-2 : (t : ℕ) → lts.Need-overflow-mul-write-expression-2 (write-arguments-claims t) (write-arguments-at t) reads.Post
+mul-write-expression-2 t c = omega (arith, rest-reach (at-behind t c))
 
-  pub more-requires : lts.Need-more-requires (write-arguments-claims t) (write-arguments-at t) reads.Post
-  more-requires c κs = tt
+pub sub-write-expression : (t : ℕ) → lts.Need-overflow-sub-write-expression (write-arguments-claims t) (write-arguments-at t) reads.Post
+sub-write-expression t c = omega (arith, rest-reach (at-behind t c))
 
-  pub sub-write-arguments : lts.Need-overflow-sub-write-arguments (write-arguments-claims t) (write-arguments-at t) reads.Post
-  sub-write-arguments c = omega (arith, count_is (at-sized c.before))
+pub part-write-expression-start : (t : ℕ) → lts.Need-slice-bounds-write-expression-start (write-arguments-claims t) (write-arguments-at t) reads.Post
+part-write-expression-start t c = omega (arith, rest-reach (at-behind t c))
 
-  pub more-requires-2 : lts.Need-more-requires-2 (write-arguments-claims t) (write-arguments-at t) reads.Post
-  more-requires-2 c κs = tt
+pub part-write-expression-end : (t : ℕ) → lts.Need-slice-bounds-write-expression-end (write-arguments-claims t) (write-arguments-at t) reads.Post
+part-write-expression-end t c = omega (arith, rest-reach (at-behind t c))
 
-  -- ---- those behind it
+pub write-expression-requires : (t : ℕ) → lts.Need-write-expression-requires (write-arguments-claims t) (write-arguments-at t) reads.Post
+write-expression-requires t c κs =
+    let behind = c.before in
+    let start = behind.before.before.before.before.before.before.before.before.before.before.before in
+    (omega (arith, value-falls (at-sized t behind.before.before.before.before.before), start.requires.0), (start.requires.1.0, value-asks (at-behind t behind)))
 
-  pub write-arguments-requires : lts.Need-write-arguments-requires (write-arguments-claims t) (write-arguments-at t) reads.Post
-  write-arguments-requires c κs =
-      let sized = c.before.before.before in
-      let start = sized-start sized in
-      (omega (arith, next-falls (at-sized sized), start.pre.0), (start.pre.1.0, behind-asks (at-sized sized)))
+-- ---- the copy of its value
 
-  -- ---- its code
+pub add-put-hold : (t : ℕ) → lts.Need-overflow-add-put-hold (write-arguments-claims t) (write-arguments-at t) reads.Post
+add-put-hold t c = omega (arith, value-reach (at_value t c))
 
-  pub add-write-expression : lts.Need-overflow-add-write-expression (write-arguments-claims t) (write-arguments-at t) reads.Post
-  add-write-expression c = omega (arith, rest-reach (at-behind c))
+pub mul-put-hold : (t : ℕ) → lts.Need-overflow-mul-put-hold (write-arguments-claims t) (write-arguments-at t) reads.Post
+mul-put-hold t c = omega (arith, value-reach (at_value t c))
 
-  pub mul-write-expression : lts.Need-overflow-mul-write-expression (write-arguments-claims t) (write-arguments-at t) reads.Post
-  mul-write-expression c = omega (arith, rest-reach (at-behind c))
+pub mul-put-hold-2 : (t : ℕ) → lts.Need-overflow-mul-put-hold-2 (write-arguments-claims t) (write-arguments-at t) reads.Post
+mul-put-hold-2 t c = omega (arith, value-reach (at_value t c))
 
-  pub mul-write-expression-2 : lts.Need-overflow-mul-write-expression-2 (write-arguments-claims t) (write-arguments-at t) reads.Post
-  mul-write-expression-2 c = omega (arith, rest-reach (at-behind c))
+pub sub-put-hold : (t : ℕ) → lts.Need-overflow-sub-put-hold (write-arguments-claims t) (write-arguments-at t) reads.Post
+sub-put-hold t c = omega (arith, value-reach (at_value t c))
 
-  pub sub-write-expression : lts.Need-overflow-sub-write-expression (write-arguments-claims t) (write-arguments-at t) reads.Post
-  sub-write-expression c = omega (arith, rest-reach (at-behind c))
+pub part-put-hold-start : (t : ℕ) → lts.Need-slice-bounds-put-hold-start (write-arguments-claims t) (write-arguments-at t) reads.Post
+part-put-hold-start t c = omega (arith, value-reach (at_value t c))
 
-  pub part-write-expression-start : lts.Need-slice-bounds-write-expression-start (write-arguments-claims t) (write-arguments-at t) reads.Post
-  part-write-expression-start c = omega (arith, rest-reach (at-behind c))
+pub part-put-hold-end : (t : ℕ) → lts.Need-slice-bounds-put-hold-end (write-arguments-claims t) (write-arguments-at t) reads.Post
+part-put-hold-end t c = omega (arith, value-reach (at_value t c))
 
-  pub part-write-expression-end : lts.Need-slice-bounds-write-expression-end (write-arguments-claims t) (write-arguments-at t) reads.Post
-  part-write-expression-end c = omega (arith, rest-reach (at-behind c))
+pub put-hold-requires : (t : ℕ) → lts.Need-put-hold-requires (write-arguments-claims t) (write-arguments-at t) reads.Post
+put-hold-requires t c κs =
+    let valued = c.before in
+    let sized = valued.before.before.before.before.before.before.before.before in
+    let start = sized.before.before.before.before.before.before in
+    (start.requires.1.0, value_inside (at-sized t sized), omega (arith, (levels-low (at-sized t sized)).1), argument-room (at_value t valued))
 
-  pub write-expression-requires : lts.Need-write-expression-requires (write-arguments-claims t) (write-arguments-at t) reads.Post
-  write-expression-requires c κs =
-      let behind = c.before in
-      let start = sized-start (behind-sized behind) in
-      (omega (arith, value-falls (at-sized (behind-sized behind)), start.pre.0), (start.pre.1.0, value-asks (at-behind behind)))
+pub same_length : (t : ℕ) → lts.Need-same-length (write-arguments-claims t) (write-arguments-at t) reads.Post
+same_length t c =
+    let valued = c.before.before.before in
+    arguments-length (at_value t valued) valued.before.before.before.before.before.before.before.before.before.before.before.before.before.before.args.follows valued.before.before.before.before.before.before.before.more.ensures c.before.put-hold.ensures
 
-  -- ---- the copy of its value
+pub returns-2 : (t : ℕ) → lts.Need-returns-2 (write-arguments-claims t) (write-arguments-at t) reads.Post
+returns-2 t c =
+    let valued = c.before.before.before in
+    arguments-written (at_value t valued) valued.before.before.before.before.before.before.before.before.before.before.before.before.before.before.args.follows valued.before.before.before.before.before.before.before.more.ensures c.before.put-hold.ensures
 
-  pub add-put-hold : lts.Need-overflow-add-put-hold (write-arguments-claims t) (write-arguments-at t) reads.Post
-  add-put-hold c = omega (arith, value-reach (at_value c))
-
-  pub mul-put-hold : lts.Need-overflow-mul-put-hold (write-arguments-claims t) (write-arguments-at t) reads.Post
-  mul-put-hold c = omega (arith, value-reach (at_value c))
-
-  pub mul-put-hold-2 : lts.Need-overflow-mul-put-hold-2 (write-arguments-claims t) (write-arguments-at t) reads.Post
-  mul-put-hold-2 c = omega (arith, value-reach (at_value c))
-
-  pub sub-put-hold : lts.Need-overflow-sub-put-hold (write-arguments-claims t) (write-arguments-at t) reads.Post
-  sub-put-hold c = omega (arith, value-reach (at_value c))
-
-  pub part-put-hold-start : lts.Need-slice-bounds-put-hold-start (write-arguments-claims t) (write-arguments-at t) reads.Post
-  part-put-hold-start c = omega (arith, value-reach (at_value c))
-
-  pub part-put-hold-end : lts.Need-slice-bounds-put-hold-end (write-arguments-claims t) (write-arguments-at t) reads.Post
-  part-put-hold-end c = omega (arith, value-reach (at_value c))
-
-  pub put-hold-requires : lts.Need-put-hold-requires (write-arguments-claims t) (write-arguments-at t) reads.Post
-  put-hold-requires c κs =
-      let valued = c.before in
-      let sized = behind-sized (valued-behind valued) in
-      let start = sized-start sized in
-      (start.pre.1.0, value_inside (at-sized sized), omega (arith, (levels-low (at-sized sized)).1), hold-room (at_value valued))
-
-  pub same_length : lts.Need-same-length (write-arguments-claims t) (write-arguments-at t) reads.Post
-  same_length c =
-      let valued = c.before.before.before in
-      arguments-length (at_value valued) (sized-start (behind-sized (valued-behind valued))).args.follows (valued-behind valued).before.before.before.before.more.ensures c.before.put-hold.ensures
-
-  pub returns-2 : lts.Need-returns-2 (write-arguments-claims t) (write-arguments-at t) reads.Post
-  returns-2 c =
-      let valued = c.before.before.before in
-      arguments-written (at_value valued) (sized-start (behind-sized (valued-behind valued))).args.follows (valued-behind valued).before.before.before.before.more.ensures c.before.put-hold.ensures

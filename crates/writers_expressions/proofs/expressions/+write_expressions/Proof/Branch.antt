@@ -12,144 +12,122 @@ use Rattle.writers_expressions.proofs.expressions.write_branch.Reads as reads
 use Rattle.writers_expressions.proofs.expressions.+write_expressions.Lts-write_branch as lts
 use Rattle.writers_expressions.proofs.expressions.+write_expressions.Proof.Claims.{write-branch-claims, write-branch-at}
 
--- `t` is the measure of the call.
-module _ (t : ℕ) where
-  -- ---- the places, in the order of the code, and what is known at each
+-- ---- the places, in the order of the code, and what is known at each
 
-  abbrev Start : Type 0
-  Start = lts.Start (write-branch-claims t) (write-branch-at t) reads.Post
+branch-at-start : (t : ℕ) (c : lts.Start (write-branch-claims t) (write-branch-at t) reads.Post) →
+    let args = c.args in
+    BranchAsked args.store args.rows.now args.table.now args.branch args.level args.base args.out.now
+branch-at-start t c = record { writing = c.requires.1.0; fits = c.requires.1.1; room = c.requires.1.2 }
 
-  at-start : (c : Start) →
-      let args = c.args in
-      BranchAsked args.store args.rows.now args.table.now args.branch args.level args.base args.out.now
-  at-start c = record { writing = c.requires.1.0; fits = c.requires.1.1; room = c.requires.1.2 }
+-- Both sizes are known.
+branch-at-sizes : (t : ℕ) (c : lts.After-finish-size (write-branch-claims t) (write-branch-at t) reads.Post) → BranchSizes (branch-at-start t c.before.before.before) c.before.operand-size.result c.finish-size.result
+branch-at-sizes t c = record { code_is = c.before.operand-size.ensures; end_is = c.finish-size.ensures }
 
-  -- Both sizes are known.
-  abbrev Sized : Type 0
-  Sized = lts.After-finish-size (write-branch-claims t) (write-branch-at t) reads.Post
+-- The block's row is written.
+at_row : (t : ℕ) (c : lts.After-out (write-branch-claims t) (write-branch-at t) reads.Post) →
+    let headed = c.before.put-block.new.1.1.0 in
+    BlockRow (branch-at-sizes t c.before.before.before.before.before) c.before.before.before.behind.result headed
+at_row t c =
+    let base = c.before.before.before.before.before.before.before.before.args.base in
+    let Past-more = c.before.before.before.before.more in
+    let past-behind = c.before.before.before.behind in
+    record { first_is = past-behind.ensures ∙ ap (λ (f : Bool). pick f (base + 1) 0) Past-more.ensures; table_is = c.before.put-block.ensures }
 
-  abbrev sized-start : Sized → Start
-  sized-start c = c.before.before.before
+-- The expression's code is written.
+at_code : (t : ℕ) (c : lts.After-out2 (write-branch-claims t) (write-branch-at t) reads.Post) →
+    let code = c.before.write-expression.new.1.1.1.1.1.1.1.1.0 in
+    BranchCode (at_row t c.before.before.before.before) c.before.before.before.more2.result code
+at_code t c = record { more_is = c.before.before.before.more2.ensures; table_is = c.before.write-expression.ensures }
 
-  at-sizes : (c : Sized) → BranchSizes (at-start (sized-start c)) c.before.operand-size.result c.finish-size.result
-  at-sizes c = record { code_is = c.before.operand-size.ensures; end_is = c.finish-size.ensures }
+-- ---- the sizes
 
-  -- The block's row is written.
-  abbrev Headed : Type 0
-  Headed = lts.After-out (write-branch-claims t) (write-branch-at t) reads.Post
+pub operand-size-requires : (t : ℕ) → lts.Need-operand-size-requires (write-branch-claims t) (write-branch-at t) reads.Post
+operand-size-requires t c κs =
+    let asked = branch-at-start t c.before in
+    (asked.writing.measured, asked.fits.inside, code-small asked)
 
-  abbrev headed-sized : Headed → Sized
-  headed-sized c = c.before.before.before.before.before
+pub finish-size-requires : (t : ℕ) → lts.Need-finish-size-requires (write-branch-claims t) (write-branch-at t) reads.Post
+finish-size-requires t c κs = tt
 
-  at_row : (c : Headed) →
-      let headed = c.before.put-block.new.1.1.0 in
-      BlockRow (at-sizes (headed-sized c)) c.before.before.before.behind.result headed
-  at_row c =
-      let base = (sized-start (headed-sized c)).args.base in
-      let Past-more = c.before.before.before.before.more in
-      let past-behind = c.before.before.before.behind in
-      record { first_is = past-behind.ensures ∙ ap (λ (f : Bool). pick f (base + 1) 0) Past-more.ensures; table_is = c.before.put-block.ensures }
+pub add-n : (t : ℕ) → lts.Need-overflow-add-n (write-branch-claims t) (write-branch-at t) reads.Post
+add-n t c = omega (arith, branch-room (branch-at-sizes t c))
 
-  -- The expression's code is written.
-  abbrev Coded : Type 0
-  Coded = lts.After-out2 (write-branch-claims t) (write-branch-at t) reads.Post
+pub add-more : (t : ℕ) → lts.Need-overflow-add-more (write-branch-claims t) (write-branch-at t) reads.Post
+add-more t c = omega (arith, branch-room (branch-at-sizes t c))
 
-  abbrev coded-headed : Coded → Headed
-  coded-headed c = c.before.before.before.before
+pub more-requires : (t : ℕ) → lts.Need-more-requires (write-branch-claims t) (write-branch-at t) reads.Post
+more-requires t c κs = tt
 
-  at_code : (c : Coded) →
-      let code = c.before.write-expression.new.1.1.1.1.1.1.1.1.0 in
-      BranchCode (at_row (coded-headed c)) c.before.before.before.more2.result code
-  at_code c = record { more_is = c.before.before.before.more2.ensures; table_is = c.before.write-expression.ensures }
+pub add-behind : (t : ℕ) → lts.Need-overflow-add-behind (write-branch-claims t) (write-branch-at t) reads.Post
+add-behind t c = omega (arith, branch-room (branch-at-sizes t c.before))
 
-  -- ---- the sizes
+pub behind-requires : (t : ℕ) → lts.Need-behind-requires (write-branch-claims t) (write-branch-at t) reads.Post
+behind-requires t c κs = tt
 
-  pub operand-size-requires : lts.Need-operand-size-requires (write-branch-claims t) (write-branch-at t) reads.Post
-  operand-size-requires c κs =
-      let asked = at-start c.before in
-      (asked.writing.measured, asked.fits.inside, code-small asked)
+-- ---- the block's row
 
-  pub finish-size-requires : lts.Need-finish-size-requires (write-branch-claims t) (write-branch-at t) reads.Post
-  finish-size-requires c κs = tt
+pub put-block-requires : (t : ℕ) → lts.Need-put-block-requires (write-branch-claims t) (write-branch-at t) reads.Post
+put-block-requires t c κs =
+    let sized = c.before.before.before in
+    let room = branch-room (branch-at-sizes t sized) in
+    let base = sized.before.before.before.args.base in
+    let Past-more = c.before.before.more in
+    let past-behind = c.before.behind in
+    (omega (arith, room), omega (arith, room, past-behind.ensures, pick-most Past-more.result (base + 1)), omega arith)
 
-  pub add-n : lts.Need-overflow-add-n (write-branch-claims t) (write-branch-at t) reads.Post
-  add-n c = omega (arith, branch-room (at-sizes c))
+-- ---- the expression's code
 
-  pub add-more : lts.Need-overflow-add-more (write-branch-claims t) (write-branch-at t) reads.Post
-  add-more c = omega (arith, branch-room (at-sizes c))
+pub add-write-expression : (t : ℕ) → lts.Need-overflow-add-write-expression (write-branch-claims t) (write-branch-at t) reads.Post
+add-write-expression t c = omega (arith, row-reach (at_row t c))
 
-  pub more-requires : lts.Need-more-requires (write-branch-claims t) (write-branch-at t) reads.Post
-  more-requires c κs = tt
+pub more-requires-2 : (t : ℕ) → lts.Need-more-requires-2 (write-branch-claims t) (write-branch-at t) reads.Post
+more-requires-2 t c κs = tt
 
-  pub add-behind : lts.Need-overflow-add-behind (write-branch-claims t) (write-branch-at t) reads.Post
-  add-behind c = omega (arith, branch-room (at-sizes c.before))
+pub sub-write-expression : (t : ℕ) → lts.Need-overflow-sub-write-expression (write-branch-claims t) (write-branch-at t) reads.Post
+sub-write-expression t c = omega (arith, row-reach (at_row t c.before))
 
-  pub behind-requires : lts.Need-behind-requires (write-branch-claims t) (write-branch-at t) reads.Post
-  behind-requires c κs = tt
+pub part-write-expression-start : (t : ℕ) → lts.Need-slice-bounds-write-expression-start (write-branch-claims t) (write-branch-at t) reads.Post
+part-write-expression-start t c = omega (arith, row-reach (at_row t c.before))
 
-  -- ---- the block's row
+pub part-write-expression-end : (t : ℕ) → lts.Need-slice-bounds-write-expression-end (write-branch-claims t) (write-branch-at t) reads.Post
+part-write-expression-end t c = omega (arith, row-reach (at_row t c.before))
 
-  pub put-block-requires : lts.Need-put-block-requires (write-branch-claims t) (write-branch-at t) reads.Post
-  put-block-requires c κs =
-      let sized = c.before.before.before in
-      let room = branch-room (at-sizes sized) in
-      let base = (sized-start sized).args.base in
-      let Past-more = c.before.before.more in
-      let past-behind = c.before.behind in
-      (omega (arith, room), omega (arith, room, past-behind.ensures, pick-most Past-more.result (base + 1)), omega arith)
+pub write-expression-requires : (t : ℕ) → lts.Need-write-expression-requires (write-branch-claims t) (write-branch-at t) reads.Post
+write-expression-requires t c κs =
+    let headed = c.before.before in
+    let start = headed.before.before.before.before.before.before.before.before in
+    let measure = start.requires.0 in
+    (omega (arith, measure), ((branch-at-start t start).writing, code-asks (at_row t headed)))
 
-  -- ---- the expression's code
+-- ---- the end
 
-  pub add-write-expression : lts.Need-overflow-add-write-expression (write-branch-claims t) (write-branch-at t) reads.Post
-  add-write-expression c = omega (arith, row-reach (at_row c))
+pub add-put-finish : (t : ℕ) → lts.Need-overflow-add-put-finish (write-branch-claims t) (write-branch-at t) reads.Post
+add-put-finish t c = omega (arith, code-reach (at_code t c))
 
-  pub more-requires-2 : lts.Need-more-requires-2 (write-branch-claims t) (write-branch-at t) reads.Post
-  more-requires-2 c κs = tt
+pub mul-put-finish : (t : ℕ) → lts.Need-overflow-mul-put-finish (write-branch-claims t) (write-branch-at t) reads.Post
+mul-put-finish t c = omega (arith, code-reach (at_code t c))
 
-  pub sub-write-expression : lts.Need-overflow-sub-write-expression (write-branch-claims t) (write-branch-at t) reads.Post
-  sub-write-expression c = omega (arith, row-reach (at_row c.before))
+pub mul-put-finish-2 : (t : ℕ) → lts.Need-overflow-mul-put-finish-2 (write-branch-claims t) (write-branch-at t) reads.Post
+mul-put-finish-2 t c = omega (arith, code-reach (at_code t c))
 
-  pub part-write-expression-start : lts.Need-slice-bounds-write-expression-start (write-branch-claims t) (write-branch-at t) reads.Post
-  part-write-expression-start c = omega (arith, row-reach (at_row c.before))
+pub sub-put-finish : (t : ℕ) → lts.Need-overflow-sub-put-finish (write-branch-claims t) (write-branch-at t) reads.Post
+sub-put-finish t c = omega (arith, code-reach (at_code t c))
 
-  pub part-write-expression-end : lts.Need-slice-bounds-write-expression-end (write-branch-claims t) (write-branch-at t) reads.Post
-  part-write-expression-end c = omega (arith, row-reach (at_row c.before))
+pub part-put-finish-start : (t : ℕ) → lts.Need-slice-bounds-put-finish-start (write-branch-claims t) (write-branch-at t) reads.Post
+part-put-finish-start t c = omega (arith, code-reach (at_code t c))
 
-  pub write-expression-requires : lts.Need-write-expression-requires (write-branch-claims t) (write-branch-at t) reads.Post
-  write-expression-requires c κs =
-      let headed = c.before.before in
-      let start = sized-start (headed-sized headed) in
-      let measure = start.pre.0 in
-      (omega (arith, measure), ((at-start start).writing, code-asks (at_row headed)))
+pub part-put-finish-end : (t : ℕ) → lts.Need-slice-bounds-put-finish-end (write-branch-claims t) (write-branch-at t) reads.Post
+part-put-finish-end t c = omega (arith, code-reach (at_code t c))
 
-  -- ---- the end
+pub put-finish-requires : (t : ℕ) → lts.Need-put-finish-requires (write-branch-claims t) (write-branch-at t) reads.Post
+put-finish-requires t c κs =
+    let coded = c.before in
+    let asked = branch-at-start t coded.before.before.before.before.before.before.before.before.before.before.before.before in
+    (end-room (at_code t coded), asked.fits.atom_fits, omega (arith, asked.fits.level_low, asked.writing.small_store))
 
-  pub add-put-finish : lts.Need-overflow-add-put-finish (write-branch-claims t) (write-branch-at t) reads.Post
-  add-put-finish c = omega (arith, code-reach (at_code c))
+pub same_length : (t : ℕ) → lts.Need-same-length (write-branch-claims t) (write-branch-at t) reads.Post
+same_length t c = branch-length (at_code t c.before.before.before) _ c.before.put-finish.ensures
 
-  pub mul-put-finish : lts.Need-overflow-mul-put-finish (write-branch-claims t) (write-branch-at t) reads.Post
-  mul-put-finish c = omega (arith, code-reach (at_code c))
+pub returns : (t : ℕ) → lts.Need-returns (write-branch-claims t) (write-branch-at t) reads.Post
+returns t c = branch-written (at_code t c.before.before.before) _ c.before.put-finish.ensures
 
-  pub mul-put-finish-2 : lts.Need-overflow-mul-put-finish-2 (write-branch-claims t) (write-branch-at t) reads.Post
-  mul-put-finish-2 c = omega (arith, code-reach (at_code c))
-
-  pub sub-put-finish : lts.Need-overflow-sub-put-finish (write-branch-claims t) (write-branch-at t) reads.Post
-  sub-put-finish c = omega (arith, code-reach (at_code c))
-
-  pub part-put-finish-start : lts.Need-slice-bounds-put-finish-start (write-branch-claims t) (write-branch-at t) reads.Post
-  part-put-finish-start c = omega (arith, code-reach (at_code c))
-
-  pub part-put-finish-end : lts.Need-slice-bounds-put-finish-end (write-branch-claims t) (write-branch-at t) reads.Post
-  part-put-finish-end c = omega (arith, code-reach (at_code c))
-
-  pub put-finish-requires : lts.Need-put-finish-requires (write-branch-claims t) (write-branch-at t) reads.Post
-  put-finish-requires c κs =
-      let coded = c.before in
-      let asked = at-start (sized-start (headed-sized (coded-headed coded))) in
-      (end-room (at_code coded), asked.fits.atom_fits, omega (arith, asked.fits.level_low, asked.writing.small_store))
-
-  pub same_length : lts.Need-same-length (write-branch-claims t) (write-branch-at t) reads.Post
-  same_length c = branch-length (at_code c.before.before.before) _ c.before.put-finish.ensures
-
-  pub returns : lts.Need-returns (write-branch-claims t) (write-branch-at t) reads.Post
-  returns c = branch-written (at_code c.before.before.before) _ c.before.put-finish.ensures

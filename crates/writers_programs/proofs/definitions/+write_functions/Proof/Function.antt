@@ -22,271 +22,248 @@ use Rattle.writers_programs.proofs.definitions.write_function.Reads as reads
 use Rattle.writers_programs.proofs.definitions.+write_functions.Lts-write_function as lts
 use Rattle.writers_programs.proofs.definitions.+write_functions.Proof.Claims.{write-function-claims, write-function-at}
 
--- `t` is the measure of the call.
-module _ (t : ℕ) where
-  pub number-at-requires : lts.Need-number-at-requires (write-function-claims t) (write-function-at t) reads.Post
-  number-at-requires c κs = search rules
+pub number-at-requires : (t : ℕ) → lts.Need-number-at-requires (write-function-claims t) (write-function-at t) reads.Post
+number-at-requires t c κs = search rules
 
-  pub parameter-count-requires : lts.Need-parameter-count-requires (write-function-claims t) (write-function-at t) reads.Post
-  parameter-count-requires c κs =
-      let start = c.before.before in
-      (start.requires.1.0.measured.source, start.requires.1.1.parameters_inside)
+pub parameter-count-requires : (t : ℕ) → lts.Need-parameter-count-requires (write-function-claims t) (write-function-at t) reads.Post
+parameter-count-requires t c κs =
+    let start = c.before.before in
+    (start.requires.1.0.measured.source, start.requires.1.1.parameters_inside)
 
-  -- The parameters are counted.
-  abbrev Counted : Type 0
-  Counted = lts.After-parameter-count (write-function-claims t) (write-function-at t) reads.Post
+-- the list of its block
+listed : (t : ℕ) (c : lts.After-parameter-count (write-function-claims t) (write-function-at t) reads.Post) → BlockList c.before.before.before.args.rows.now c.before.before.before.args.body c.before.number_at.result
+listed t c = c.before.before.before.requires.1.1.block-list c.before.number_at.ensures
 
-  abbrev counted_start : Counted → lts.Start (write-function-claims t) (write-function-at t) reads.Post
-  counted_start c = c.before.before.before
+takes : (t : ℕ) (c : lts.After-parameter-count (write-function-claims t) (write-function-at t) reads.Post) → let args = c.before.before.before.args in let rows = args.rows.now in let list = list_at rows c.before.number_at.result in
+    FunctionTakes rows args.next args.size args.levels args.label c.parameter-count.result (items_size (called_in rows) list) (items_levels (called_in rows) list) (items_labels list)
+takes t c =
+    let args = c.before.before.before.args in
+    function-takes args.rows.now args.number args.parameters args.body args.next c.before.number_at.result c.before.before.before.requires.1.1.takes (listed t c) c.parameter-count.ensures.is
 
-  -- the list of its block
-  listed : (c : Counted) → BlockList (counted_start c).args.rows.now (counted_start c).args.body c.before.number_at.result
-  listed c = (counted_start c).requires.1.1.block-list c.before.number_at.ensures
+-- what there is room for is small
+low : (t : ℕ) (c : lts.After-parameter-count (write-function-claims t) (write-function-at t) reads.Post) → c.before.before.before.args.base + c.before.before.before.args.size ≤ 40980
+low t c = c.before.before.before.requires.1.1.takes.room.low
 
-  takes : (c : Counted) → let args = (counted_start c).args in let rows = args.rows.now in let list = list_at rows c.before.number_at.result in
-      FunctionTakes rows args.next args.size args.levels args.label c.parameter-count.result (items_size (called_in rows) list) (items_levels (called_in rows) list) (items_labels list)
-  takes c =
-      let args = (counted_start c).args in
-      function-takes args.rows.now args.number args.parameters args.body args.next c.before.number_at.result (counted_start c).requires.1.1.takes (listed c) c.parameter-count.ensures.is
+pub add-own : (t : ℕ) → lts.Need-overflow-add-own (write-function-claims t) (write-function-at t) reads.Post
+add-own t c = omega (arith, (takes t c).total, low t c)
 
-  -- what there is room for is small
-  low : (c : Counted) → (counted_start c).args.base + (counted_start c).args.size ≤ 40980
-  low c = (counted_start c).requires.1.1.takes.room.low
+pub add-n : (t : ℕ) → lts.Need-overflow-add-n (write-function-claims t) (write-function-at t) reads.Post
+add-n t c = omega (arith, (takes t c).total, low t c)
 
-  pub add-own : lts.Need-overflow-add-own (write-function-claims t) (write-function-at t) reads.Post
-  add-own c = omega (arith, (takes c).total, low c)
+pub list-size-requires : (t : ℕ) → lts.Need-list-size-requires (write-function-claims t) (write-function-at t) reads.Post
+list-size-requires t c κs = (c.before.before.before.requires.1.0.measured, (listed t c).inside, omega (arith, (takes t c).total, low t c))
 
-  pub add-n : lts.Need-overflow-add-n (write-function-claims t) (write-function-at t) reads.Post
-  add-n c = omega (arith, (takes c).total, low c)
+pub add-n-2 : (t : ℕ) → lts.Need-overflow-add-n-2 (write-function-claims t) (write-function-at t) reads.Post
+add-n-2 t c = omega (arith, (takes t c.before).total, low t c.before, c.list-size.ensures)
 
-  pub list-size-requires : lts.Need-list-size-requires (write-function-claims t) (write-function-at t) reads.Post
-  list-size-requires c κs = ((counted_start c).requires.1.0.measured, (listed c).inside, omega (arith, (takes c).total, low c))
+pub sub-rest : (t : ℕ) → lts.Need-overflow-sub-rest (write-function-claims t) (write-function-at t) reads.Post
+sub-rest t c = omega (arith, (takes t c.before).total, c.list-size.ensures)
 
-  pub add-n-2 : lts.Need-overflow-add-n-2 (write-function-claims t) (write-function-at t) reads.Post
-  add-n-2 c = omega (arith, (takes c.before).total, low c.before, c.list-size.ensures)
+pub list-levels-requires : (t : ℕ) → lts.Need-list-levels-requires (write-function-claims t) (write-function-at t) reads.Post
+list-levels-requires t c κs =
+    let counted = c.before in
+    (counted.before.before.before.requires.1.0.measured, (listed t counted).inside, omega (arith, (takes t counted).levels_are, counted.before.before.before.requires.1.1.takes.store_low))
 
-  pub sub-rest : lts.Need-overflow-sub-rest (write-function-claims t) (write-function-at t) reads.Post
-  sub-rest c = omega (arith, (takes c.before).total, c.list-size.ensures)
+pub sub-above : (t : ℕ) → lts.Need-overflow-sub-above (write-function-claims t) (write-function-at t) reads.Post
+sub-above t c = omega (arith, (takes t c.before.before).levels_are, c.list-levels.ensures)
 
-  pub list-levels-requires : lts.Need-list-levels-requires (write-function-claims t) (write-function-at t) reads.Post
-  list-levels-requires c κs =
-      let counted = c.before in
-      ((counted_start counted).requires.1.0.measured, (listed counted).inside, omega (arith, (takes counted).levels_are, (counted_start counted).requires.1.1.takes.store_low))
+pub list-labels-requires : (t : ℕ) → lts.Need-list-labels-requires (write-function-claims t) (write-function-at t) reads.Post
+list-labels-requires t c κs =
+    let counted = c.before.before in
+    (counted.before.before.before.requires.1.0.measured, (listed t counted).inside, omega (arith, (takes t counted).labels_low))
 
-  pub sub-above : lts.Need-overflow-sub-above (write-function-claims t) (write-function-at t) reads.Post
-  sub-above c = omega (arith, (takes c.before.before).levels_are, c.list-levels.ensures)
+-- The sizes are known.
+abbrev own : (t : ℕ) → Sized → ℕ
+own t c = 1 + c.before.before.before.parameter-count.result
 
-  pub list-labels-requires : lts.Need-list-labels-requires (write-function-claims t) (write-function-at t) reads.Post
-  list-labels-requires c κs =
-      let counted = c.before.before in
-      ((counted_start counted).requires.1.0.measured, (listed counted).inside, omega (arith, (takes counted).labels_low))
+abbrev all : (t : ℕ) → Sized → ℕ
+all t c = own t c + 1 + c.before.before.list-size.result
 
-  -- The sizes are known.
-  abbrev Sized : Type 0
-  Sized = lts.After-list-labels (write-function-claims t) (write-function-at t) reads.Post
+fits : (t : ℕ) (c : lts.After-list-labels (write-function-claims t) (write-function-at t) reads.Post) → all t c ≤ c.before.before.before.before.before.before.args.size
+fits t c = omega (arith, (takes t c.before.before.before).total, c.before.before.list-size.ensures)
 
-  abbrev begin : Sized → lts.Start (write-function-claims t) (write-function-at t) reads.Post
-  begin c = counted_start c.before.before.before
+-- the levels of what stands behind
+above : (t : ℕ) (c : lts.After-list-labels (write-function-claims t) (write-function-at t) reads.Post) → c.before.before.before.before.before.before.args.levels - c.before.list-levels.result ≡ program_levels (called_in c.before.before.before.before.before.before.args.rows.now) (list_at c.before.before.before.before.before.before.args.rows.now c.before.before.before.before.before.before.args.next)
+above t c = omega (arith, (takes t c.before.before.before).levels_are, c.before.list-levels.ensures)
 
-  abbrev own : Sized → ℕ
-  own c = 1 + c.before.before.before.parameter-count.result
+pub add-from : (t : ℕ) → lts.Need-overflow-add-from (write-function-claims t) (write-function-at t) reads.Post
+add-from t c = omega (arith, (takes t c.before.before.before).labels_low, c.list-labels.ensures)
 
-  abbrev all : Sized → ℕ
-  all c = own c + 1 + c.before.before.list-size.result
+pub more-requires : (t : ℕ) → lts.Need-more-requires (write-function-claims t) (write-function-at t) reads.Post
+more-requires t c κs = tt
 
-  fits : (c : Sized) → all c ≤ (begin c).args.size
-  fits c = omega (arith, (takes c.before.before.before).total, c.before.before.list-size.ensures)
+pub add-behind : (t : ℕ) → lts.Need-overflow-add-behind (write-function-claims t) (write-function-at t) reads.Post
+add-behind t c = omega (arith, fits t c.before, low t c.before.before.before.before)
 
-  -- the levels of what stands behind
-  above : (c : Sized) → (begin c).args.levels - c.before.list-levels.result ≡ program_levels (called_in (begin c).args.rows.now) (list_at (begin c).args.rows.now (begin c).args.next)
-  above c = omega (arith, (takes c.before.before.before).levels_are, c.before.list-levels.ensures)
+pub behind-requires : (t : ℕ) → lts.Need-behind-requires (write-function-claims t) (write-function-at t) reads.Post
+behind-requires t c κs = tt
 
-  pub add-from : lts.Need-overflow-add-from (write-function-claims t) (write-function-at t) reads.Post
-  add-from c = omega (arith, (takes c.before.before.before).labels_low, c.list-labels.ensures)
+pub add-put-row : (t : ℕ) → lts.Need-overflow-add-put-row (write-function-claims t) (write-function-at t) reads.Post
+add-put-row t c = omega (arith, fits t c.before.before, low t c.before.before.before.before.before)
 
-  pub more-requires : lts.Need-more-requires (write-function-claims t) (write-function-at t) reads.Post
-  more-requires c κs = tt
+pub more-requires-2 : (t : ℕ) → lts.Need-more-requires-2 (write-function-claims t) (write-function-at t) reads.Post
+more-requires-2 t c κs = tt
 
-  pub add-behind : lts.Need-overflow-add-behind (write-function-claims t) (write-function-at t) reads.Post
-  add-behind c = omega (arith, fits c.before, low c.before.before.before.before)
+pub add-behind-2 : (t : ℕ) → lts.Need-overflow-add-behind-2 (write-function-claims t) (write-function-at t) reads.Post
+add-behind-2 t c = omega (arith, fits t c.before.before.before, low t c.before.before.before.before.before.before)
 
-  pub behind-requires : lts.Need-behind-requires (write-function-claims t) (write-function-at t) reads.Post
-  behind-requires c κs = tt
+pub behind-requires-2 : (t : ℕ) → lts.Need-behind-requires-2 (write-function-claims t) (write-function-at t) reads.Post
+behind-requires-2 t c κs = tt
 
-  pub add-put-row : lts.Need-overflow-add-put-row (write-function-claims t) (write-function-at t) reads.Post
-  add-put-row c = omega (arith, fits c.before.before, low c.before.before.before.before.before)
+pub put-row-requires : (t : ℕ) → lts.Need-put-row-requires (write-function-claims t) (write-function-at t) reads.Post
+put-row-requires t c κs =
+    let sized = c.before.before.before.before.before in
+    let args = sized.before.before.before.before.before.before.args in
+    let asks = sized.before.before.before.before.before.before.requires.1.1 in
+    let room = low t sized.before.before.before in
+    let enough = fits t sized in (
+      omega (arith, asks.takes.room.inside, enough),
+      omega arith,
+      omega (arith, asks.number_low),
+      omega (arith, c.before.before.before.behind.ensures, pick-most c.before.before.before.before.more.result (args.base + 1), room, enough),
+      omega (arith, room, enough),
+      omega (arith, c.before.behind2.ensures, pick-most c.before.before.more2.result (args.base + all t sized), room, enough),
+    )
 
-  pub more-requires-2 : lts.Need-more-requires-2 (write-function-claims t) (write-function-at t) reads.Post
-  more-requires-2 c κs = tt
+-- The definition's row is written.
+headed-length : (t : ℕ) (c : lts.After-out (write-function-claims t) (write-function-at t) reads.Post) → length c.before.put-row.new.1.1.1.1.1.0 ≡ length c.before.before.before.before.before.before.before.before.before.before.before.before.before.args.out.now
+headed-length t c = c.before.put-row.auto.1.1.1.1.1.0
 
-  pub add-behind-2 : lts.Need-overflow-add-behind-2 (write-function-claims t) (write-function-at t) reads.Post
-  add-behind-2 c = omega (arith, fits c.before.before.before, low c.before.before.before.before.before.before)
+pub add-put-parameters : (t : ℕ) → lts.Need-overflow-add-put-parameters (write-function-claims t) (write-function-at t) reads.Post
+add-put-parameters t c = omega (arith, fits t c.before.before.before.before.before.before.before, low t c.before.before.before.before.before.before.before.before.before.before, c.before.before.before.before.before.before.before.before.before.before.before.before.before.requires.1.1.takes.room.inside, headed-length t c)
 
-  pub behind-requires-2 : lts.Need-behind-requires-2 (write-function-claims t) (write-function-at t) reads.Post
-  behind-requires-2 c κs = tt
+pub sub-put-parameters : (t : ℕ) → lts.Need-overflow-sub-put-parameters (write-function-claims t) (write-function-at t) reads.Post
+sub-put-parameters t c = omega (arith, fits t c.before.before.before.before.before.before.before, low t c.before.before.before.before.before.before.before.before.before.before, c.before.before.before.before.before.before.before.before.before.before.before.before.before.requires.1.1.takes.room.inside, headed-length t c)
 
-  pub put-row-requires : lts.Need-put-row-requires (write-function-claims t) (write-function-at t) reads.Post
-  put-row-requires c κs =
-      let sized = c.before.before.before.before.before in
-      let args = (begin sized).args in
-      let asks = (begin sized).requires.1.1 in
-      let room = low sized.before.before.before in
-      let enough = fits sized in (
-        omega (arith, asks.takes.room.inside, enough),
-        omega arith,
-        omega (arith, asks.number_low),
-        omega (arith, c.before.before.before.behind.ensures, pick-most c.before.before.before.before.more.result (args.base + 1), room, enough),
-        omega (arith, room, enough),
-        omega (arith, c.before.behind2.ensures, pick-most c.before.before.more2.result (args.base + all sized), room, enough),
-      )
+pub part-put-parameters-start : (t : ℕ) → lts.Need-slice-bounds-put-parameters-start (write-function-claims t) (write-function-at t) reads.Post
+part-put-parameters-start t c = omega (arith, fits t c.before.before.before.before.before.before.before, low t c.before.before.before.before.before.before.before.before.before.before, c.before.before.before.before.before.before.before.before.before.before.before.before.before.requires.1.1.takes.room.inside, headed-length t c)
 
-  -- The definition's row is written.
-  abbrev Headed : Type 0
-  Headed = lts.After-out (write-function-claims t) (write-function-at t) reads.Post
+pub part-put-parameters-end : (t : ℕ) → lts.Need-slice-bounds-put-parameters-end (write-function-claims t) (write-function-at t) reads.Post
+part-put-parameters-end t c = omega arith
 
-  headed-length : (c : Headed) → length c.before.put-row.new.1.1.1.1.1.0 ≡ length (begin c.before.before.before.before.before.before.before).args.out.now
-  headed-length c = c.before.put-row.auto.1.1.1.1.1.0
+pub put-parameters-requires : (t : ℕ) → lts.Need-put-parameters-requires (write-function-claims t) (write-function-at t) reads.Post
+put-parameters-requires t c κs =
+    let headed = c.before in
+    let sized = headed.before.before.before.before.before.before.before in
+    let asks = sized.before.before.before.before.before.before.requires.1.1 in
+    record {
+      source = sized.before.before.before.before.before.before.requires.1.0.measured.source;
+      inside = asks.parameters_inside;
+      count_is = sized.before.before.before.parameter-count.ensures.is;
+      room = room-behind 1 _ headed.before.put-row.new.1.1.1.1.1.0 asks.takes.room (headed-length t headed) (omega (arith, fits t sized));
+    }
 
-  pub add-put-parameters : lts.Need-overflow-add-put-parameters (write-function-claims t) (write-function-at t) reads.Post
-  add-put-parameters c = omega (arith, fits c.before.before.before.before.before.before.before, low c.before.before.before.before.before.before.before.before.before.before, (begin c.before.before.before.before.before.before.before).pre.1.1.takes.room.inside, headed-length c)
+-- The parameters are written.
+abbrev passed-table : (t : ℕ) → Passed → List ℤ
+passed-table t c = back_in 1 c.before.before.before.before.put-row.new.1.1.1.1.1.0 c.before.put-parameters.new.1.1.1.1.0
 
-  pub sub-put-parameters : lts.Need-overflow-sub-put-parameters (write-function-claims t) (write-function-at t) reads.Post
-  sub-put-parameters c = omega (arith, fits c.before.before.before.before.before.before.before, low c.before.before.before.before.before.before.before.before.before.before, (begin c.before.before.before.before.before.before.before).pre.1.1.takes.room.inside, headed-length c)
+passed_length : (t : ℕ) (c : lts.After-out2 (write-function-claims t) (write-function-at t) reads.Post) → length (passed-table t c) ≡ length c.before.before.before.before.before.before.before.before.before.before.before.before.before.before.before.before.args.out.now
+passed_length t c = back-length 1 c.before.before.before.before.put-row.new.1.1.1.1.1.0 c.before.put-parameters.new.1.1.1.1.0 c.before.put-parameters.auto.1.1.1.1.0 ∙ headed-length t c.before.before.before
 
-  pub part-put-parameters-start : lts.Need-slice-bounds-put-parameters-start (write-function-claims t) (write-function-at t) reads.Post
-  part-put-parameters-start c = omega (arith, fits c.before.before.before.before.before.before.before, low c.before.before.before.before.before.before.before.before.before.before, (begin c.before.before.before.before.before.before.before).pre.1.1.takes.room.inside, headed-length c)
+pub add-write-block : (t : ℕ) → lts.Need-overflow-add-write-block (write-function-claims t) (write-function-at t) reads.Post
+add-write-block t c = omega (arith, fits t c.before.before.before.before.before.before.before.before.before.before, low t c.before.before.before.before.before.before.before.before.before.before.before.before.before, above t c.before.before.before.before.before.before.before.before.before.before, c.before.before.before.before.before.before.before.before.before.before.before.before.before.before.before.before.requires.1.1.takes.room.inside, c.before.before.before.before.before.before.before.before.before.before.before.before.before.before.before.before.requires.1.1.takes.store_low, c.before.before.before.before.before.before.before.before.before.before.before.before.before.before.before.before.requires.1.1.takes.levels_are, passed_length t c)
 
-  pub part-put-parameters-end : lts.Need-slice-bounds-put-parameters-end (write-function-claims t) (write-function-at t) reads.Post
-  part-put-parameters-end c = omega arith
+pub add-write-block-2 : (t : ℕ) → lts.Need-overflow-add-write-block-2 (write-function-claims t) (write-function-at t) reads.Post
+add-write-block-2 t c = omega (arith, fits t c.before.before.before.before.before.before.before.before.before.before, low t c.before.before.before.before.before.before.before.before.before.before.before.before.before, above t c.before.before.before.before.before.before.before.before.before.before, c.before.before.before.before.before.before.before.before.before.before.before.before.before.before.before.before.requires.1.1.takes.room.inside, c.before.before.before.before.before.before.before.before.before.before.before.before.before.before.before.before.requires.1.1.takes.store_low, c.before.before.before.before.before.before.before.before.before.before.before.before.before.before.before.before.requires.1.1.takes.levels_are, passed_length t c)
 
-  pub put-parameters-requires : lts.Need-put-parameters-requires (write-function-claims t) (write-function-at t) reads.Post
-  put-parameters-requires c κs =
-      let headed = c.before in
-      let sized = headed.before.before.before.before.before.before.before in
-      let asks = (begin sized).requires.1.1 in
+pub mul-write-block : (t : ℕ) → lts.Need-overflow-mul-write-block (write-function-claims t) (write-function-at t) reads.Post
+mul-write-block t c = omega (arith, fits t c.before.before.before.before.before.before.before.before.before.before, low t c.before.before.before.before.before.before.before.before.before.before.before.before.before, above t c.before.before.before.before.before.before.before.before.before.before, c.before.before.before.before.before.before.before.before.before.before.before.before.before.before.before.before.requires.1.1.takes.room.inside, c.before.before.before.before.before.before.before.before.before.before.before.before.before.before.before.before.requires.1.1.takes.store_low, c.before.before.before.before.before.before.before.before.before.before.before.before.before.before.before.before.requires.1.1.takes.levels_are, passed_length t c)
+
+pub mul-write-block-2 : (t : ℕ) → lts.Need-overflow-mul-write-block-2 (write-function-claims t) (write-function-at t) reads.Post
+mul-write-block-2 t c = omega (arith, fits t c.before.before.before.before.before.before.before.before.before.before, low t c.before.before.before.before.before.before.before.before.before.before.before.before.before, above t c.before.before.before.before.before.before.before.before.before.before, c.before.before.before.before.before.before.before.before.before.before.before.before.before.before.before.before.requires.1.1.takes.room.inside, c.before.before.before.before.before.before.before.before.before.before.before.before.before.before.before.before.requires.1.1.takes.store_low, c.before.before.before.before.before.before.before.before.before.before.before.before.before.before.before.before.requires.1.1.takes.levels_are, passed_length t c)
+
+pub sub-write-block : (t : ℕ) → lts.Need-overflow-sub-write-block (write-function-claims t) (write-function-at t) reads.Post
+sub-write-block t c = omega (arith, fits t c.before.before.before.before.before.before.before.before.before.before, low t c.before.before.before.before.before.before.before.before.before.before.before.before.before, above t c.before.before.before.before.before.before.before.before.before.before, c.before.before.before.before.before.before.before.before.before.before.before.before.before.before.before.before.requires.1.1.takes.room.inside, c.before.before.before.before.before.before.before.before.before.before.before.before.before.before.before.before.requires.1.1.takes.store_low, c.before.before.before.before.before.before.before.before.before.before.before.before.before.before.before.before.requires.1.1.takes.levels_are, passed_length t c)
+
+pub part-write-block-start : (t : ℕ) → lts.Need-slice-bounds-write-block-start (write-function-claims t) (write-function-at t) reads.Post
+part-write-block-start t c = omega (arith, fits t c.before.before.before.before.before.before.before.before.before.before, low t c.before.before.before.before.before.before.before.before.before.before.before.before.before, above t c.before.before.before.before.before.before.before.before.before.before, c.before.before.before.before.before.before.before.before.before.before.before.before.before.before.before.before.requires.1.1.takes.room.inside, c.before.before.before.before.before.before.before.before.before.before.before.before.before.before.before.before.requires.1.1.takes.store_low, c.before.before.before.before.before.before.before.before.before.before.before.before.before.before.before.before.requires.1.1.takes.levels_are, passed_length t c)
+
+pub part-write-block-end : (t : ℕ) → lts.Need-slice-bounds-write-block-end (write-function-claims t) (write-function-at t) reads.Post
+part-write-block-end t c = omega arith
+
+pub write-block-requires : (t : ℕ) → lts.Need-write-block-requires (write-function-claims t) (write-function-at t) reads.Post
+write-block-requires t c κs =
+    let passed = c.before in
+    let sized = passed.before.before.before.before.before.before.before.before.before.before in
+    let start = sized.before.before.before.before.before.before in
+    let asks = start.requires.1.1 in
+    let writing = start.requires.1.0 in
+    let counted = sized.before.before.before in (
+      record { measured = writing.decreases; small_store = omega (arith, asks.takes.store_low, above t sized, (takes t counted).levels_are); few_levels = writing.few_levels },
       record {
-        source = (begin sized).requires.1.0.measured.source;
-        inside = asks.parameters_inside;
-        count_is = sized.before.before.before.parameter-count.ensures.is;
-        room = room-behind 1 _ headed.before.put-row.new.1.1.1.1.1.0 asks.takes.room (headed-length headed) (omega (arith, fits sized));
-      }
+        inside = (listed t counted).inside;
+        room = room-behind (own t sized) _ (passed-table t passed) asks.takes.room (passed_length t passed) (omega (arith, (takes t counted).total));
+        labels_low = omega (arith, (takes t counted).labels_low);
+        exits_low = (omega arith, omega arith);
+      },
+    )
 
-  -- The parameters are written.
-  abbrev Passed : Type 0
-  Passed = lts.After-out2 (write-function-claims t) (write-function-at t) reads.Post
+-- The block is written.
+abbrev blocked-table : (t : ℕ) → Blocked → List ℤ
+blocked-table t c = back_in (own t c.before.before.before.before.before.before.before.before.before.before.before.before.before) (passed-table t c.before.before.before) c.before.write-block.new.1.1.1.1.1.1.1.1.0
 
-  abbrev passed-table : Passed → List ℤ
-  passed-table c = back_in 1 c.before.before.before.before.put-row.new.1.1.1.1.1.0 c.before.put-parameters.new.1.1.1.1.0
+blocked-length : (t : ℕ) (c : lts.After-out3 (write-function-claims t) (write-function-at t) reads.Post) → length (blocked-table t c) ≡ length c.before.before.before.before.before.before.before.before.before.before.before.before.before.before.before.before.before.before.before.args.out.now
+blocked-length t c = back-length (own t c.before.before.before.before.before.before.before.before.before.before.before.before.before) (passed-table t c.before.before.before) c.before.write-block.new.1.1.1.1.1.1.1.1.0 c.before.write-block.auto.1.1.1.1.1.1.1.1.0 ∙ passed_length t c.before.before.before
 
-  passed_length : (c : Passed) → length (passed-table c) ≡ length (begin c.before.before.before.before.before.before.before.before.before.before).args.out.now
-  passed_length c = back-length 1 c.before.before.before.before.put-row.new.1.1.1.1.1.0 c.before.put-parameters.new.1.1.1.1.0 c.before.put-parameters.auto.1.1.1.1.0 ∙ headed-length c.before.before.before
+pub add-write-front : (t : ℕ) → lts.Need-overflow-add-write-front (write-function-claims t) (write-function-at t) reads.Post
+add-write-front t c = omega (arith, fits t c.before.before.before.before.before.before.before.before.before.before.before.before.before, low t c.before.before.before.before.before.before.before.before.before.before.before.before.before.before.before.before, c.before.before.before.before.before.before.before.before.before.before.before.before.before.before.before.before.before.before.before.requires.1.1.takes.room.inside, blocked-length t c)
 
-  pub add-write-block : lts.Need-overflow-add-write-block (write-function-claims t) (write-function-at t) reads.Post
-  add-write-block c = omega (arith, fits c.before.before.before.before.before.before.before.before.before.before, low c.before.before.before.before.before.before.before.before.before.before.before.before.before, above c.before.before.before.before.before.before.before.before.before.before, (begin c.before.before.before.before.before.before.before.before.before.before).pre.1.1.takes.room.inside, (begin c.before.before.before.before.before.before.before.before.before.before).pre.1.1.takes.store_low, (begin c.before.before.before.before.before.before.before.before.before.before).pre.1.1.takes.levels_are, passed_length c)
+pub mul-write-front : (t : ℕ) → lts.Need-overflow-mul-write-front (write-function-claims t) (write-function-at t) reads.Post
+mul-write-front t c = omega (arith, fits t c.before.before.before.before.before.before.before.before.before.before.before.before.before, low t c.before.before.before.before.before.before.before.before.before.before.before.before.before.before.before.before, c.before.before.before.before.before.before.before.before.before.before.before.before.before.before.before.before.before.before.before.requires.1.1.takes.room.inside, blocked-length t c)
 
-  pub add-write-block-2 : lts.Need-overflow-add-write-block-2 (write-function-claims t) (write-function-at t) reads.Post
-  add-write-block-2 c = omega (arith, fits c.before.before.before.before.before.before.before.before.before.before, low c.before.before.before.before.before.before.before.before.before.before.before.before.before, above c.before.before.before.before.before.before.before.before.before.before, (begin c.before.before.before.before.before.before.before.before.before.before).pre.1.1.takes.room.inside, (begin c.before.before.before.before.before.before.before.before.before.before).pre.1.1.takes.store_low, (begin c.before.before.before.before.before.before.before.before.before.before).pre.1.1.takes.levels_are, passed_length c)
+pub mul-write-front-2 : (t : ℕ) → lts.Need-overflow-mul-write-front-2 (write-function-claims t) (write-function-at t) reads.Post
+mul-write-front-2 t c = omega (arith, fits t c.before.before.before.before.before.before.before.before.before.before.before.before.before, low t c.before.before.before.before.before.before.before.before.before.before.before.before.before.before.before.before, c.before.before.before.before.before.before.before.before.before.before.before.before.before.before.before.before.before.before.before.requires.1.1.takes.room.inside, blocked-length t c)
 
-  pub mul-write-block : lts.Need-overflow-mul-write-block (write-function-claims t) (write-function-at t) reads.Post
-  mul-write-block c = omega (arith, fits c.before.before.before.before.before.before.before.before.before.before, low c.before.before.before.before.before.before.before.before.before.before.before.before.before, above c.before.before.before.before.before.before.before.before.before.before, (begin c.before.before.before.before.before.before.before.before.before.before).pre.1.1.takes.room.inside, (begin c.before.before.before.before.before.before.before.before.before.before).pre.1.1.takes.store_low, (begin c.before.before.before.before.before.before.before.before.before.before).pre.1.1.takes.levels_are, passed_length c)
+pub sub-write-front : (t : ℕ) → lts.Need-overflow-sub-write-front (write-function-claims t) (write-function-at t) reads.Post
+sub-write-front t c = omega (arith, fits t c.before.before.before.before.before.before.before.before.before.before.before.before.before, low t c.before.before.before.before.before.before.before.before.before.before.before.before.before.before.before.before, c.before.before.before.before.before.before.before.before.before.before.before.before.before.before.before.before.before.before.before.requires.1.1.takes.room.inside, blocked-length t c)
 
-  pub mul-write-block-2 : lts.Need-overflow-mul-write-block-2 (write-function-claims t) (write-function-at t) reads.Post
-  mul-write-block-2 c = omega (arith, fits c.before.before.before.before.before.before.before.before.before.before, low c.before.before.before.before.before.before.before.before.before.before.before.before.before, above c.before.before.before.before.before.before.before.before.before.before, (begin c.before.before.before.before.before.before.before.before.before.before).pre.1.1.takes.room.inside, (begin c.before.before.before.before.before.before.before.before.before.before).pre.1.1.takes.store_low, (begin c.before.before.before.before.before.before.before.before.before.before).pre.1.1.takes.levels_are, passed_length c)
+pub part-write-front-start : (t : ℕ) → lts.Need-slice-bounds-write-front-start (write-function-claims t) (write-function-at t) reads.Post
+part-write-front-start t c = omega (arith, fits t c.before.before.before.before.before.before.before.before.before.before.before.before.before, low t c.before.before.before.before.before.before.before.before.before.before.before.before.before.before.before.before, c.before.before.before.before.before.before.before.before.before.before.before.before.before.before.before.before.before.before.before.requires.1.1.takes.room.inside, blocked-length t c)
 
-  pub sub-write-block : lts.Need-overflow-sub-write-block (write-function-claims t) (write-function-at t) reads.Post
-  sub-write-block c = omega (arith, fits c.before.before.before.before.before.before.before.before.before.before, low c.before.before.before.before.before.before.before.before.before.before.before.before.before, above c.before.before.before.before.before.before.before.before.before.before, (begin c.before.before.before.before.before.before.before.before.before.before).pre.1.1.takes.room.inside, (begin c.before.before.before.before.before.before.before.before.before.before).pre.1.1.takes.store_low, (begin c.before.before.before.before.before.before.before.before.before.before).pre.1.1.takes.levels_are, passed_length c)
+pub part-write-front-end : (t : ℕ) → lts.Need-slice-bounds-write-front-end (write-function-claims t) (write-function-at t) reads.Post
+part-write-front-end t c = omega arith
 
-  pub part-write-block-start : lts.Need-slice-bounds-write-block-start (write-function-claims t) (write-function-at t) reads.Post
-  part-write-block-start c = omega (arith, fits c.before.before.before.before.before.before.before.before.before.before, low c.before.before.before.before.before.before.before.before.before.before.before.before.before, above c.before.before.before.before.before.before.before.before.before.before, (begin c.before.before.before.before.before.before.before.before.before.before).pre.1.1.takes.room.inside, (begin c.before.before.before.before.before.before.before.before.before.before).pre.1.1.takes.store_low, (begin c.before.before.before.before.before.before.before.before.before.before).pre.1.1.takes.levels_are, passed_length c)
-
-  pub part-write-block-end : lts.Need-slice-bounds-write-block-end (write-function-claims t) (write-function-at t) reads.Post
-  part-write-block-end c = omega arith
-
-  pub write-block-requires : lts.Need-write-block-requires (write-function-claims t) (write-function-at t) reads.Post
-  write-block-requires c κs =
-      let passed = c.before in
-      let sized = passed.before.before.before.before.before.before.before.before.before.before in
-      let start = begin sized in
-      let asks = start.pre.1.1 in
-      let writing = start.pre.1.0 in
-      let counted = sized.before.before.before in (
-        record { measured = writing.decreases; small_store = omega (arith, asks.takes.store_low, above sized, (takes counted).levels_are); few_levels = writing.few_levels },
+pub write-front-requires : (t : ℕ) → lts.Need-write-front-requires (write-function-claims t) (write-function-at t) reads.Post
+write-front-requires t c κs =
+    let blocked = c.before in
+    let sized = blocked.before.before.before.before.before.before.before.before.before.before.before.before.before in
+    let start = sized.before.before.before.before.before.before in
+    let asks = start.requires.1.1 in
+    let counted = sized.before.before.before in
+    let rest : start.args.size - all t sized ≡ program_size (called_in start.args.rows.now) (list_at start.args.rows.now start.args.next) = omega (arith, (takes t counted).total, sized.before.before.list-size.ensures) in (
+      omega (arith, start.requires.0),
+      (
+        start.requires.1.0,
         record {
-          inside = (listed counted).inside;
-          room = room-behind (own sized) _ (passed-table passed) asks.takes.room (passed_length passed) (omega (arith, (takes counted).total));
-          labels_low = omega (arith, (takes counted).labels_low);
-          exits_low = (omega arith, omega arith);
+          inside = asks.next_inside;
+          numbers = asks.numbers_behind;
+          takes t = record {
+            size_is = rest;
+            levels_are = above t sized;
+            store_low = omega (arith, asks.takes.store_low, above t sized, (takes t counted).levels_are);
+            labels_low = omega (arith, (takes t counted).labels_low, sized.list-labels.ensures);
+            room = room-behind (all t sized) _ (blocked-table t blocked) asks.takes.room (blocked-length t blocked) (omega (arith, rest, (takes t counted).total, sized.before.before.list-size.ensures));
+          };
         },
-      )
+      ),
+    )
 
-  -- The block is written.
-  abbrev Blocked : Type 0
-  Blocked = lts.After-out3 (write-function-claims t) (write-function-at t) reads.Post
+pub same_length : (t : ℕ) → lts.Need-same-length (write-function-claims t) (write-function-at t) reads.Post
+same_length t c = search rules
 
-  abbrev blocked-table : Blocked → List ℤ
-  blocked-table c = back_in (own c.before.before.before.before.before.before.before.before.before.before.before.before.before) (passed-table c.before.before.before) c.before.write-block.new.1.1.1.1.1.1.1.1.0
+pub returns : (t : ℕ) → lts.Need-returns (write-function-claims t) (write-function-at t) reads.Post
+returns t c =
+    let blocked = c.before.before.before in
+    let passed = blocked.before.before.before in
+    let headed = passed.before.before.before in
+    let sized = headed.before.before.before.before.before.before.before in
+    let start = sized.before.before.before.before.before.before in
+    let args = start.args in
+    let counted = sized.before.before.before in
+    let link = headed.before.before.before.before.before.behind.ensures ∙ ap (λ (b : Bool). pick b (args.base + 1) 0) headed.before.before.before.before.before.before.more.ensures in
+    let after = headed.before.before.before.behind2.ensures ∙ ap (λ (b : Bool). pick b (args.base + all t sized) 0) headed.before.before.before.before.more2.ensures in
+    let from : args.label + sized.list-labels.result ≡ args.label + items_labels (list_at args.rows.now counted.before.number_at.result) = omega (arith, sized.list-labels.ensures) in
+    function-done args.store args.rows.now args.number args.parameters args.body args.next args.label args.base args.out.now
+    (listed t counted) counted.parameter-count.ensures.is sized.before.before.list-size.ensures start.requires.1.1.takes.size_is (above t sized) from link after
+    headed.before.put-row.ensures passed.before.put-parameters.ensures blocked.before.write-block.ensures c.before.write-front.ensures
 
-  blocked-length : (c : Blocked) → length (blocked-table c) ≡ length (begin c.before.before.before.before.before.before.before.before.before.before.before.before.before).args.out.now
-  blocked-length c = back-length (own c.before.before.before.before.before.before.before.before.before.before.before.before.before) (passed-table c.before.before.before) c.before.write-block.new.1.1.1.1.1.1.1.1.0 c.before.write-block.auto.1.1.1.1.1.1.1.1.0 ∙ passed_length c.before.before.before
-
-  pub add-write-front : lts.Need-overflow-add-write-front (write-function-claims t) (write-function-at t) reads.Post
-  add-write-front c = omega (arith, fits c.before.before.before.before.before.before.before.before.before.before.before.before.before, low c.before.before.before.before.before.before.before.before.before.before.before.before.before.before.before.before, (begin c.before.before.before.before.before.before.before.before.before.before.before.before.before).pre.1.1.takes.room.inside, blocked-length c)
-
-  pub mul-write-front : lts.Need-overflow-mul-write-front (write-function-claims t) (write-function-at t) reads.Post
-  mul-write-front c = omega (arith, fits c.before.before.before.before.before.before.before.before.before.before.before.before.before, low c.before.before.before.before.before.before.before.before.before.before.before.before.before.before.before.before, (begin c.before.before.before.before.before.before.before.before.before.before.before.before.before).pre.1.1.takes.room.inside, blocked-length c)
-
-  pub mul-write-front-2 : lts.Need-overflow-mul-write-front-2 (write-function-claims t) (write-function-at t) reads.Post
-  mul-write-front-2 c = omega (arith, fits c.before.before.before.before.before.before.before.before.before.before.before.before.before, low c.before.before.before.before.before.before.before.before.before.before.before.before.before.before.before.before, (begin c.before.before.before.before.before.before.before.before.before.before.before.before.before).pre.1.1.takes.room.inside, blocked-length c)
-
-  pub sub-write-front : lts.Need-overflow-sub-write-front (write-function-claims t) (write-function-at t) reads.Post
-  sub-write-front c = omega (arith, fits c.before.before.before.before.before.before.before.before.before.before.before.before.before, low c.before.before.before.before.before.before.before.before.before.before.before.before.before.before.before.before, (begin c.before.before.before.before.before.before.before.before.before.before.before.before.before).pre.1.1.takes.room.inside, blocked-length c)
-
-  pub part-write-front-start : lts.Need-slice-bounds-write-front-start (write-function-claims t) (write-function-at t) reads.Post
-  part-write-front-start c = omega (arith, fits c.before.before.before.before.before.before.before.before.before.before.before.before.before, low c.before.before.before.before.before.before.before.before.before.before.before.before.before.before.before.before, (begin c.before.before.before.before.before.before.before.before.before.before.before.before.before).pre.1.1.takes.room.inside, blocked-length c)
-
-  pub part-write-front-end : lts.Need-slice-bounds-write-front-end (write-function-claims t) (write-function-at t) reads.Post
-  part-write-front-end c = omega arith
-
-  pub write-front-requires : lts.Need-write-front-requires (write-function-claims t) (write-function-at t) reads.Post
-  write-front-requires c κs =
-      let blocked = c.before in
-      let sized = blocked.before.before.before.before.before.before.before.before.before.before.before.before.before in
-      let start = begin sized in
-      let asks = start.pre.1.1 in
-      let counted = sized.before.before.before in
-      let rest : start.args.size - all sized ≡ program_size (called_in start.args.rows.now) (list_at start.args.rows.now start.args.next) = omega (arith, (takes counted).total, sized.before.before.list-size.ensures) in (
-        omega (arith, start.pre.0),
-        (
-          start.pre.1.0,
-          record {
-            inside = asks.next_inside;
-            numbers = asks.numbers_behind;
-            takes = record {
-              size_is = rest;
-              levels_are = above sized;
-              store_low = omega (arith, asks.takes.store_low, above sized, (takes counted).levels_are);
-              labels_low = omega (arith, (takes counted).labels_low, sized.list-labels.ensures);
-              room = room-behind (all sized) _ (blocked-table blocked) asks.takes.room (blocked-length blocked) (omega (arith, rest, (takes counted).total, sized.before.before.list-size.ensures));
-            };
-          },
-        ),
-      )
-
-  pub same_length : lts.Need-same-length (write-function-claims t) (write-function-at t) reads.Post
-  same_length c = search rules
-
-  pub returns : lts.Need-returns (write-function-claims t) (write-function-at t) reads.Post
-  returns c =
-      let blocked = c.before.before.before in
-      let passed = blocked.before.before.before in
-      let headed = passed.before.before.before in
-      let sized = headed.before.before.before.before.before.before.before in
-      let start = begin sized in
-      let args = start.args in
-      let counted = sized.before.before.before in
-      let link = headed.before.before.before.before.before.behind.ensures ∙ ap (λ (b : Bool). pick b (args.base + 1) 0) headed.before.before.before.before.before.before.more.ensures in
-      let after = headed.before.before.before.behind2.ensures ∙ ap (λ (b : Bool). pick b (args.base + all sized) 0) headed.before.before.before.before.more2.ensures in
-      let from : args.label + sized.list-labels.result ≡ args.label + items_labels (list_at args.rows.now counted.before.number_at.result) = omega (arith, sized.list-labels.ensures) in
-      function-done args.store args.rows.now args.number args.parameters args.body args.next args.label args.base args.out.now
-      (listed counted) counted.parameter-count.ensures.is sized.before.before.list-size.ensures start.pre.1.1.takes.size_is (above sized) from link after
-      headed.before.put-row.ensures passed.before.put-parameters.ensures blocked.before.write-block.ensures c.before.write-front.ensures

@@ -1,0 +1,18 @@
+-- What the argument at a row writes, by its shape.
+use Rattle.language_shapes.specs.ShapeLaws.{argued}
+use Rattle.write_sets_rows.proofs.WriteLaws.{link-held}
+use Rattle.write_sets_rows.proofs.ArgumentLaws.{argument-set, no-argument-set}
+use borrow.Author.Rules.{rules}
+use Rattle.write_sets_rows.proofs.table.set_at.Reads as set-at-reads
+use Rattle.language_shapes.proofs.rows.argument_at.Reads as argument-at-reads
+use Rattle.write_sets.proofs.nothing.Reads as nothing-reads
+use Rattle.write_sets_rows.proofs.arguments.argument_writes.Goals as goal
+
+pub set_at-requires : goal.set_at-requires
+set_at-requires c = link-held c.requires.0 (λ h. (argued c.argument_at-shape.ensures c.in-Argument.is).onward)
+
+pub returns-in-Argument : goal.returns-in-Argument
+returns-in-Argument c = argument-set c.requires.0 (argued c.argument_at-shape.ensures c.in-Argument.is) c.set_at.ensures
+
+pub returns-in-NoArgument : goal.returns-in-NoArgument
+returns-in-NoArgument c = no-argument-set (argued c.argument_at-shape.ensures c.in-NoArgument.is) c.nothing.ensures

@@ -1,0 +1,13 @@
+-- The row of the argument behind, by the shape of the row.
+use Rattle.language_shapes.specs.ShapeLaws.{argued}
+use Rattle.write_sets_rows.proofs.ArgumentLaws.{argument-behind, no-argument-behind}
+use borrow.Author.Rules.{rules}
+use Rattle.language_shapes.proofs.rows.argument_at.Reads as argument-at-reads
+use Rattle.words.proofs.table.number_at.Reads as number-at-reads
+use Rattle.write_sets_rows.proofs.arguments.next_argument.Goals as goal
+
+pub returns-in-Argument : goal.returns-in-Argument
+returns-in-Argument c = argument-behind c.number_at-next.ensures (argued c.argument_at-shape.ensures c.in-Argument.is)
+
+pub returns-in-NoArgument : goal.returns-in-NoArgument
+returns-in-NoArgument c = no-argument-behind (argued c.argument_at-shape.ensures c.in-NoArgument.is)

@@ -1,6 +1,6 @@
 /* C-light loading rules and their kernel form: the proved library, for C.
  *
- * Link target/staticlib/libexports.a (made by `rt staticlib exports`). x86-64 Linux; the library uses no heap, no global data and no
+ * Link crates/exports/out/libexports.a (made by `rt lib` in crates/exports). x86-64 Linux; the library uses no heap, no global data and no
  * function of the C library but memset, and any number of threads may call it at once.
  *
  * A program is a header and rows of six words (kind, a, b, c, d, next), as document 01 lays them down. A slice is a pointer and a

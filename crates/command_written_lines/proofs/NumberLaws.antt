@@ -10,7 +10,7 @@ use Rattle.words.specs.Word.{pick}
 use Rattle.words.specs.OverLaws.{part, back_in}
 use Rattle.text_numbers.specs.Number.{digits}
 use Rattle.text_numbers.specs.Writer.{Put}
-use Rattle.text_numbers.specs.PutLaws.{put-none, Put-as, put-length, put_next, put-space, put-inside}
+use Rattle.text_numbers.specs.PutLaws.{put-none, put_as, put-length, put_next, put-space, put-inside}
 use Rattle.text_lines.specs.Line.{newline}
 use Rattle.text_report.specs.Lines.{blank}
 use Rattle.command_written_lines.specs.Lines.{numbers, name_of, bits_of, written_line, written_lines}
@@ -25,7 +25,7 @@ name-few Declared = omega arith
 
 -- a number that is not wanted leaves nothing
 pub put-unwanted : {wanted : Bool} (bytes buffer : List ℕ) → wanted ≡ false → Put (pick wanted bytes []) buffer 0 buffer
-put-unwanted bytes buffer e = Put-as (sym (ap (λ (b : Bool). pick b bytes []) e)) (put-none buffer)
+put-unwanted bytes buffer e = put_as (sym (ap (λ (b : Bool). pick b bytes []) e)) (put-none buffer)
 
 -- those below i, of k
 pub record Listed (p : ℕ → Bool) (k i at : ℕ) (buffer left : List ℕ) : Type 0 where
@@ -62,17 +62,17 @@ module _ {p : ℕ → Bool} {k i at : ℕ} {buffer left : List ℕ} (b : Listed 
       within = omega arith;
       few = omega (arith, b.few);
       room = b.room;
-      put = Put-as (numbers-next p i e) (put_next b.put _ size lent q);
+      put = put_as (numbers-next p i e) (put_next b.put _ size lent q);
     }
 
   pub listed-end : k ≤ i → Put (numbers k p) buffer at left × (at ≤ 21 * k)
   listed-end h =
       let e : i ≡ k = omega (arith, b.within) in
-      (Put-as (ap (λ (n : ℕ). numbers n p) e) b.put, omega (arith, b.few))
+      (put_as (ap (λ (n : ℕ). numbers n p) e) b.put, omega (arith, b.few))
 
 -- one that is wanted leaves its bytes
 pub put_wanted : {wanted : Bool} {buffer left : List ℕ} {size : ℕ} (bytes : List ℕ) → wanted ≡ true → Put bytes buffer size left → Put (pick wanted bytes []) buffer size left
-put_wanted bytes e q = Put-as (sym (ap (λ (b : Bool). pick b bytes []) e)) q
+put_wanted bytes e q = put_as (sym (ap (λ (b : Bool). pick b bytes []) e)) q
 
 -- ---- the same numbers give the same lines
 

@@ -9,7 +9,7 @@ use Rattle.words.specs.declared.Kind.{Kind}
 use Rattle.words.specs.declared.Kind.TheVariants.{OfExpression, OfStatement, OfMark, OfMember, Definition, Other}
 use Rattle.words.specs.declared.MarkKind.TheVariants.{Case, Default, Label}
 use Rattle.language.specs.Trees.{Mark, label, same_mark, has, Statement, Items, none, ◌⧺◌}
-use Rattle.language.specs.TreeLaws.{has-next, Has-left, Has-right}
+use Rattle.language.specs.TreeLaws.{has-next, has_left, has_right}
 use Rattle.language.specs.Decode.{items_of, list_at}
 use Rattle.language.specs.DecodeLaws.{at-items, at_label}
 use Rattle.words.specs.Links.{is_statement, link, fits}
@@ -99,10 +99,10 @@ module _ (bounds : Bounds) (rows : List ℤ) (s : Structured Kernel bounds rows)
 
   -- for an item of a list: those behind it, and those ahead of the list's owner
   pub covers-item : (ahead : Items) (owner row : ℕ) → Item row → Owner rows owner row → Covers ahead owner → Covers (list_at rows (link rows row 5) ⧺ ahead) row
-  covers-item ahead owner row t o c number (behind b l) = Has-left (label number) (list_at rows (link rows row 5)) ahead (behind-has number t b l)
+  covers-item ahead owner row t o c number (behind b l) = has_left (label number) (list_at rows (link rows row 5)) ahead (behind-has number t b l)
   covers-item ahead owner row t o c number (outward p d a) =
       let t = structured-tree Kernel bounds rows s in
-      Has-right (label number) (list_at rows (link rows row 5)) ahead (c number (subst (Ahead rows number) (sym (owner-is rows t p) ∙ owner-is rows t o) a))
+      has_right (label number) (list_at rows (link rows row 5)) ahead (c number (subst (Ahead rows number) (sym (owner-is rows t p) ∙ owner-is rows t o) a))
 
   -- nothing stands behind a row without a next
   none-behind : {row item : ℕ} → link rows row 5 ≡ 0 → Before rows row item → ⊥

@@ -9,7 +9,7 @@ use Rattle.words.specs.Word.{pick}
 use Rattle.words.specs.Layout.{Layout, store_size, array_base, array_length}
 use Rattle.words.specs.Laws.{array-in-store}
 use Rattle.computation.specs.Computation.{Computation}
-use Rattle.computation.specs.Run.{State, Result, Limit, run, start, final, ending_of}
+use Rattle.computation.specs.Run.{spent, fault, State, Result, Limit, run, start, final, ending_of}
 use Rattle.computation.proofs.Agreement.{Words, ◌within◌, Agree, Same, same_ok, same-stopped, Blind, blind-ret, blind-then, blind-step, blind-save}
 use Rattle.language.specs.Trees.{block, Items, none, ◌then◌, ◌here◌, define}
 use Rattle.language.specs.Meaning.{Signal, next, breaking, continuing, seeking, returning, perform, items, exec}
@@ -151,7 +151,8 @@ module _ (L : Layout) (S : ℕ) (inside : store_size L ≤ S) (program : Items) 
       seen continuing σ τ g = g
       seen (seeking m) σ τ g = g
       seen (returning v) σ τ g = g
-  shown (same-stopped g) = record { same_ending = refl; same_words = take_same S _ _ g.lengths g.values; same_count = g.counts }
+  shown (same-stopped {why = spent} g) = record { same_ending = refl; same_words = take_same S _ _ g.lengths g.values; same_count = g.counts }
+  shown (same-stopped {why = fault sort} g) = record { same_ending = refl; same_words = take_same S _ _ g.lengths g.values; same_count = g.counts }
 
   -- Under every limit, runs that are cut off included.
   pub temporaries-hidden : (limit : Limit) (temporaries others : List ℤ) → length temporaries ≡ length others

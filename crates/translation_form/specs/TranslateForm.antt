@@ -2,13 +2,13 @@
 -- along.
 use Rattle.std.specs.Prelude.{◌≡◌, refl, Bool, true, false, ℕ, ◌+◌, ◌≤◌}
 use Rattle.std.proofs.lemmas.Bool.{false≢true}
-use Rattle.std.proofs.Common.{arith}
+use Rattle.std.proofs.Common.{◌∙◌, ap, arith}
 use borrow.Author.Tests.{eq-eqb}
 use Rattle.words.specs.Laws.{by_cases}
 use Rattle.words.specs.declared.Operator.{Operator}
 use Rattle.language.specs.Trees.{Expression, constant, read, minus, not, binary, and, or, comma, conditional, assign, compound, prefix, postfix, call, Place, variable, element, Arguments, no_more, ◌also◌, Part, absent, present, Mark, case, default, label, same_mark, has, Statement, empty, express, block, if_then, if_else, while, do_while, for, switch, break, continue, goto, guarded_if, guarded_do, abort, declare, give_back, Arms, no_arm, arm, Items, none, ◌then◌, ◌here◌, define, ◌⧺◌}
 use Rattle.language.specs.WellFormed.{Placed, PlacedArms, PlacedItems, PlacedProgram}
-use Rattle.language.specs.TreeLaws.{append-append, has-next, Has-left, Has-right}
+use Rattle.language.specs.TreeLaws.{append-append, has-next, has_left, has_right}
 use Rattle.language.specs.Writes.{writes, index_writes}
 use Rattle.translation.proofs.HeldCode.{hold_code, hold-either, store-either}
 use Rattle.translation.specs.Uses.{use_for, passed_on, direct}
@@ -30,6 +30,7 @@ unfolding ◌⧺◌
 append r none ys h k = k
 append {mayReturn} r (s then xs) ys (kernel-then h hs) k = let moved : KernelStatement mayReturn ((xs ⧺ ys) ⧺ r) s = rw (append-append xs ys r) h in kernel-then moved (append r xs ys hs k)
 append r (m here xs) ys (kernel-label b hs) k = kernel-label b (append r xs ys hs k)
+append r (define _ _ _ _) ys none_such k = elim none_such [ ]
 
 assignment : {mayReturn : Bool} {r : Items} {e : Expression} → Assigns e → KernelItems mayReturn r (express e then none)
 assignment h = kernel-then (kernel-assign h) kernel-none
@@ -148,13 +149,13 @@ module _ (mayReturn : Bool) (called : ℕ → ℕ → Bool) (S : ℕ) where
 
   -- The label behind a loop stands ahead of its body.
   has-behind : (action : Part) (l : ℕ) (r : Items) → has (label l) (label (l + 1) here part_code called S action ⧺ label l here r) ≡ true
-  has-behind action l r = has-next (label l) (label (l + 1)) _ (Has-right (label l) (part_code called S action) _ (has_here l r))
+  has-behind action l r = has-next (label l) (label (l + 1)) _ (has_right (label l) (part_code called S action) _ (has_here l r))
 
   form-rounds : (test action : Part) (bs : Items) (l : ℕ) (r : Items) → l + 2 ≤ 40980 → KernelItems mayReturn (label (l + 1) here part_code called S action ⧺ label l here r) bs
       → KernelItems mayReturn r (loop_code S (test_code called S test l (bs ⧺ label (l + 1) here part_code called S action)) l)
   unfolding ◌⧺◌
   form-rounds test action bs l r b h = form-loop (test_code called S test l (bs ⧺ label (l + 1) here part_code called S action)) l r (omega arith) (form-test test l (bs ⧺ label (l + 1) here part_code called S action) (label l here r) (omega arith)
-      (rw (append-append bs (label (l + 1) here part_code called S action) (label l here r)) (Has-right (label l) bs _ (has-behind action l r)))
+      (rw (append-append bs (label (l + 1) here part_code called S action) (label l here r)) (has_right (label l) bs _ (has-behind action l r)))
       (append (label l here r) bs (label (l + 1) here part_code called S action) h (kernel-label {l = l + 1} (omega arith) (form-part action (label l here r)))))
 
   form-do : (e : Expression) (bs : Items) (l : ℕ) (r : Items) → l + 2 ≤ 40980 → KernelItems mayReturn (label (l + 1) here test_code called S (present e) l none ⧺ label l here r) bs
@@ -167,9 +168,9 @@ module _ (mayReturn : Bool) (called : ℕ → ℕ → Bool) (S : ℕ) where
   form-tests : (h : Atom) (u : ℕ) (x : Exits) (is : Items) (l : ℕ) (r : Items) → l + items_labels is ≤ 40980 → ((m : Mark) → has m (items_code called S is x l) ≡ true → has m r ≡ true) → KernelItems mayReturn r (case_tests S (atom S 0 h) u is l)
   unfolding case_tests items_code items_labels ◌⧺◌
   form-tests h u x none l r b k = kernel-none
-  form-tests h u x (s then is) l r b k = form-tests h u x is (l + labels s) r (omega arith) (λ m e. k m (Has-right m (statement_code called S s x l) _ e))
+  form-tests h u x (s then is) l r b k = form-tests h u x is (l + labels s) r (omega arith) (λ m e. k m (has_right m (statement_code called S s x l) _ e))
   form-tests h u x (case v here is) l r b k = kernel-then (kernel-assign (assigns_operation (form-atom 0 h) constant-atom)) (kernel-then (kernel-if variable_atom
-      (kernel-then (kernel-goto {l = l} (omega arith) (Has-right (label l) (case_tests S (atom S 0 h) u is (l + 1)) r (k (label l) (has_here l _)))) kernel-none) kernel-none)
+      (kernel-then (kernel-goto {l = l} (omega arith) (has_right (label l) (case_tests S (atom S 0 h) u is (l + 1)) r (k (label l) (has_here l _)))) kernel-none) kernel-none)
       (form-tests h u x is (l + 1) r (omega arith) (λ m e. k m (has-next m (label l) _ e))))
   form-tests h u x (default here is) l r b k = form-tests h u x is (l + 1) r (omega arith) (λ m e. k m (has-next m (label l) _ e))
   form-tests h u x (label j here is) l r b k = form-tests h u x is (l + 1) r (omega arith) (λ m e. k m (has-next m (label l) _ e))
@@ -179,8 +180,8 @@ module _ (mayReturn : Bool) (called : ℕ → ℕ → Bool) (S : ℕ) where
   has-label_of : (m : Mark) (is : Items) (x : Exits) (l other : ℕ) → has m is ≡ true → has (label (label_of m is l other)) (items_code called S is x l) ≡ true
   unfolding has label_of items_code same_mark
   has-label_of m none x l other e = e
-  has-label_of m (s then is) x l other e = Has-right (label (label_of m is (l + labels s) other)) (statement_code called S s x l) _ (has-label_of m is x (l + labels s) other e)
-  has-label_of m (n here is) x l other e = by_cases (same_mark m n) (λ q. rw (q, eq-eqb l l refl)) (λ q. rw q (has-next (label (label_of m is (l + 1) other)) (label l) (items_code called S is x (l + 1)) (has-label_of m is x (l + 1) other (rw q at e))))
+  has-label_of m (s then is) x l other e = has_right (label (label_of m is (l + labels s) other)) (statement_code called S s x l) _ (has-label_of m is x (l + labels s) other e)
+  has-label_of m (n here is) x l other e = by_cases (same_mark m n) (λ q. rw (q, eq-eqb l l refl)) (λ q. let moved : label_of m (n here is) l other ≡ label_of m is (l + 1) other = rw q refl in ap (λ t. has (label t) (items_code called S (n here is) x l)) moved ∙ has-next (label (label_of m is (l + 1) other)) (label l) (items_code called S is x (l + 1)) (has-label_of m is x (l + 1) other (rw q at e)))
   has-label_of m (define f words body is) x l other e = has-label_of m is x l other e
 
   label-most : (m : Mark) (is : Items) (l other : ℕ) → l + items_labels is ≤ 40980 → is_label_number other → is_label_number (label_of m is l other)
@@ -193,10 +194,10 @@ module _ (mayReturn : Bool) (called : ℕ → ℕ → Bool) (S : ℕ) where
   has-default : (is : Items) (x : Exits) (l : ℕ) (r : Items) → has (label (label_of default is (l + 1) l)) ((items_code called S is x (l + 1) ⧺ label l here none) ⧺ r) ≡ true
   unfolding ◌⧺◌
   has-default is x l r = by_cases (has default is)
-      (λ q. Has-left (label (label_of default is (l + 1) l)) (items_code called S is x (l + 1) ⧺ label l here none) r
-      (Has-left (label (label_of default is (l + 1) l)) (items_code called S is x (l + 1)) _ (has-label_of default is x (l + 1) l q)))
+      (λ q. has_left (label (label_of default is (l + 1) l)) (items_code called S is x (l + 1) ⧺ label l here none) r
+      (has_left (label (label_of default is (l + 1) l)) (items_code called S is x (l + 1)) _ (has-label_of default is x (l + 1) l q)))
       (λ q. rw (label-absent default is (l + 1) l q)
-      (Has-left (label l) (items_code called S is x (l + 1) ⧺ label l here none) r (Has-right (label l) (items_code called S is x (l + 1)) _ (has_here l none))))
+      (has_left (label l) (items_code called S is x (l + 1) ⧺ label l here none) r (has_right (label l) (items_code called S is x (l + 1)) _ (has_here l none))))
 
   form-switch : (e : Expression) (is : Items) (x : Exits) (l : ℕ) (r : Items) → l + 1 + items_labels is ≤ 40980 → KernelItems mayReturn (label l here r) (items_code called S is (exits l x.on_continue) (l + 1)) → KernelItems mayReturn r (statement_code called S (switch e is) x l)
   unfolding ◌⧺◌ statement_code has
@@ -205,7 +206,7 @@ module _ (mayReturn : Bool) (called : ℕ → ℕ → Bool) (S : ℕ) where
       append r (expression_code called S e wanted 0) _ (form-expression e wanted 0 _)
       (append r (case_tests S (atom S 0 (atom_of called e)) (taken (atom_of called e)) is (l + 1)) (goto (label_of default is (l + 1) l) then items_code called S is y (l + 1) ⧺ label l here none)
       (form-tests (atom_of called e) (taken (atom_of called e)) y is (l + 1) (goto (label_of default is (l + 1) l) then (items_code called S is y (l + 1) ⧺ label l here none) ⧺ r) b
-      (λ m q. Has-left m (items_code called S is y (l + 1) ⧺ label l here none) r (Has-left m (items_code called S is y (l + 1)) _ q)))
+      (λ m q. has_left m (items_code called S is y (l + 1) ⧺ label l here none) r (has_left m (items_code called S is y (l + 1)) _ q)))
       (kernel-then (kernel-goto (label-most default is (l + 1) l b (omega arith)) (has-default is y l r)) (append r (items_code called S is y (l + 1)) (label l here none) h (kernel-label {l = l} (omega arith) kernel-none))))
 
   -- ---- guarded statements
@@ -249,7 +250,7 @@ module _ (mayReturn : Bool) (called : ℕ → ℕ → Bool) (S : ℕ) where
     form-statement (while e body) x l r b c h u n o k = form-rounds (present e) absent (statement_code called S body (exits l (l + 1)) (l + 2)) l r (omega arith)
         (form-statement body (exits l (l + 1)) (l + 2) _ true true h (omega arith) (omega arith) (λ _. has-behind absent l r) (λ _. has_here (l + 1) _))
     form-statement (do_while body e) x l r b c h u n o k = form-do e (statement_code called S body (exits l (l + 1)) (l + 2)) l r (omega arith)
-        (form-statement body (exits l (l + 1)) (l + 2) _ true true h (omega arith) (omega arith) (λ _. has-next (label l) (label (l + 1)) _ (Has-right (label l) (test_code called S (present e) l none) _ (has_here l r))) (λ _. has_here (l + 1) _))
+        (form-statement body (exits l (l + 1)) (l + 2) _ true true h (omega arith) (omega arith) (λ _. has-next (label l) (label (l + 1)) _ (has_right (label l) (test_code called S (present e) l none) _ (has_here l r))) (λ _. has_here (l + 1) _))
     form-statement (for first test action body) x l r b c h u n o k = append r (part_code called S first) _ (form-part first _) (form-rounds test action (statement_code called S body (exits l (l + 1)) (l + 2)) l r (omega arith)
         (form-statement body (exits l (l + 1)) (l + 2) _ true true h (omega arith) (omega arith) (λ _. has-behind action l r) (λ _. has_here (l + 1) _)))
     form-statement (switch e is) x l r b c h u n o k = form-switch e is x l r (omega arith)
@@ -276,8 +277,8 @@ module _ (mayReturn : Bool) (called : ℕ → ℕ → Bool) (S : ℕ) where
     form-arms no_arm x out l r b c h u n q t o k = kernel-none
     form-arms (arm e s arms) x out l r b c h u n q t o k =
         let rest = arms_code called S arms x out (l + labels s) in
-        let through : ((m : Mark) → has m r ≡ true → has m (goto out then rest ⧺ r) ≡ true) = λ m z. has-after m (goto out) (rest ⧺ r) (Has-right m rest r z) in
-        form-arm e (statement_code called S s x l) rest out r q (Has-right (label out) rest r t)
+        let through : ((m : Mark) → has m r ≡ true → has m (goto out then rest ⧺ r) ≡ true) = λ m z. has-after m (goto out) (rest ⧺ r) (has_right m rest r z) in
+        form-arm e (statement_code called S s x l) rest out r q (has_right (label out) rest r t)
         (form-statement s x l _ b c h.0 u (omega arith) (λ z. through (label x.on_break) (o z)) (λ z. through (label x.on_continue) (k z)))
         (form-arms arms x out (l + labels s) r b c h.1 (omega arith) (omega arith) q t o k)
 
@@ -285,7 +286,7 @@ module _ (mayReturn : Bool) (called : ℕ → ℕ → Bool) (S : ℕ) where
         → (b ≡ true → has (label x.on_break) r ≡ true) → (c ≡ true → has (label x.on_continue) r ≡ true) → KernelItems mayReturn r (items_code called S is x l)
     form-items none x l r s b c h u n o k = kernel-none
     form-items (d then is) x l r s b c h u n o k = append r (statement_code called S d x l) _
-        (form-statement d x l _ b c h.0 u (omega arith) (λ q. Has-right (label x.on_break) (items_code called S is x (l + labels d)) r (o q)) (λ q. Has-right (label x.on_continue) (items_code called S is x (l + labels d)) r (k q)))
+        (form-statement d x l _ b c h.0 u (omega arith) (λ q. has_right (label x.on_break) (items_code called S is x (l + labels d)) r (o q)) (λ q. has_right (label x.on_continue) (items_code called S is x (l + labels d)) r (k q)))
         (form-items is x (l + labels d) r s b c h.1 (omega arith) (omega arith) o k)
     form-items (m here is) x l r s b c h u n o k = kernel-label {l = l} (omega arith) (form-items is x (l + 1) r s b c h.1 (omega arith) (omega arith) o k)
     form-items (define f words body is) x l r s b c h u n o k = absurd h

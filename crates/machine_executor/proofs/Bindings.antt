@@ -8,18 +8,15 @@ use lib.ListN.{length, drop, set}
 use lib.Signed.{mag}
 use Rattle.words.specs.Table.{row_count, number_at}
 use Rattle.words.specs.Kinds.{is_link, is_required, expression_fields, statement_fields, member_fields, definition_fields, kind_row, sort_in}
-use Rattle.words.specs.declared.Kind.TheVariants.{OfExpression, OfStatement, OfMember, Definition}
+use Rattle.words.specs.declared.Kind.TheVariants.{OfExpression, Definition}
 use Rattle.words.specs.declared.ExpressionKind.TheVariants.{Call}
-use Rattle.words.specs.declared.StatementKind.TheVariants.{Block, Declare}
-use Rattle.words.specs.declared.MemberKind.TheVariants.{Argument}
-use Rattle.computation.specs.Computation.{Computation, ret, ◌>>=◌, ◌>>◌}
-use Rattle.computation.specs.Run.{spent}
-use Rattle.computation.proofs.Remaining.{Rest, gives, halts, onward, spend}
-use Rattle.language.specs.Trees.{Expression, call, Arguments, ◌also◌, Statement, block, Items}
-use Rattle.language.specs.Decode.{expression_at, statement_at, block_items, list_at, argument_list_at, parameter_list_at}
+use Rattle.computation.specs.Computation.{Computation, ret, ◌>>=◌}
+use Rattle.computation.proofs.Remaining.{Rest, gives, onward, spend}
+use Rattle.language.specs.Trees.{Expression, call, Arguments, ◌also◌, Statement, block}
+use Rattle.language.specs.Decode.{expression_at, statement_at, block_items, argument_list_at, parameter_list_at}
 use Rattle.language.specs.DecodeLaws.{at_call, at_block}
-use Rattle.language.specs.Meaning.{Context, enter, evaluate, value, given, Signal, exec}
-use Rattle.language.specs.Functions.{Function, function_of, function_count, storing, returned, invoke, context_of}
+use Rattle.language.specs.Meaning.{Context, enter, evaluate, value, given, exec}
+use Rattle.language.specs.Functions.{Function, function_of, function_count, storing, returned, invoke}
 use Rattle.language.proofs.FunctionLaws.{call-is}
 use Rattle.language.specs.Calls.{argument_count}
 use Rattle.language.specs.Program.{contents}
@@ -34,13 +31,13 @@ use Rattle.machine_operations.specs.declared.Operand.{Operand}
 use Rattle.machine_operations.specs.declared.Operand.TheVariants.{Value, Halted}
 use Rattle.machine_operations.proofs.Decoding.{handed, answered-spent, answered-word}
 use Rattle.machine_operations.proofs.Enter.{entered, not_entered, onward-same, onward-onward}
-use Rattle.machine_operations.proofs.Operands.{answered-least, goes, hands-up}
+use Rattle.machine_operations.proofs.Operands.{goes, hands-up}
 use Rattle.machine_flows.specs.Calls.{ArgumentsAt, ParameterAt, row_behind}
 use Rattle.machine_flows.specs.Lists.{InTable}
 use Rattle.machine_flows.proofs.Items.{next-later}
 use Rattle.machine_flows.proofs.Walks.{argument-tree, count-here, arguments-next, IsArgument, argument-at, IsParameter, parameter-at}
 use Rattle.machine_executor.specs.Calls.{argument_at, bound_at, ReadyBind}
-use Rattle.machine_executor.specs.Rows.{perform_at, exec_at}
+use Rattle.machine_executor.specs.Rows.{exec_at}
 use Rattle.machine_executor.proofs.Rows.{in_table, table-row, optional-below}
 
 -- ---- the arguments from the one at place k down to the first

@@ -19,7 +19,7 @@ use Rattle.words.specs.declared.Kind.TheVariants.{OfStatement, OfMember}
 use Rattle.words.specs.declared.MemberKind.TheVariants.{Arm}
 use Rattle.words.specs.declared.StatementKind.TheVariants.{GuardedIf, GuardedDo, Abort}
 use Rattle.words.specs.declared.FaultSort.TheVariants.{Guard}
-use Rattle.computation.specs.Computation.{Turn, again, Computation, ret, ◌>>=◌, loop}
+use Rattle.computation.specs.Computation.{Turn, Computation, ret, ◌>>=◌, loop}
 use Rattle.computation.specs.Run.{fault}
 use Rattle.computation.proofs.Remaining.{Rest, gives, halts, onward, pay, on_turn, spend}
 use Rattle.language.specs.Trees.{Arms, no_arm, arm, guarded_if, guarded_do}

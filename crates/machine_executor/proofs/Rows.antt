@@ -10,13 +10,13 @@ use lib.IntN.{ℤ, pos}
 use lib.ListN.{length, set}
 use Rattle.words.specs.Word.{natural, pick}
 use Rattle.words.specs.Table.{row_count, word_at, number_at}
-use Rattle.words.specs.Kinds.{kind_of, is_statement_kind, is_link, is_required, statement_fields, kind_row, sort_in}
+use Rattle.words.specs.Kinds.{is_statement_kind, is_link, is_required, statement_fields, kind_row, sort_in}
 use Rattle.words.specs.KindLaws.{kind-numbered, no-statement}
 use Rattle.arithmetic.specs.Arithmetic.{is_true}
 use Rattle.words.specs.declared.Kind.{Kind}
 use Rattle.words.specs.declared.Kind.TheVariants.{OfStatement}
 use Rattle.words.specs.declared.StatementKind.TheVariants.{Empty, Express, Block, If, While, Do, For, Switch, Break, Continue, Goto, Declare, Return}
-use Rattle.computation.specs.Computation.{Computation, ret, ◌>>=◌, loop}
+use Rattle.computation.specs.Computation.{ret, loop}
 use Rattle.computation.proofs.Remaining.{Rest, gives, onward, spend}
 use Rattle.language.specs.Trees.{Part, absent, present, label, Statement, express, block, if_then, if_else, while, do_while, for, switch, declare, give_back}
 use Rattle.language.specs.Decode.{expression_at, statement_at, list_at, part_at}

@@ -28,7 +28,7 @@ use Rattle.check_structure.specs.Structured.{Leads, Structured}
 use Rattle.check_plain.specs.Plain.{Plain}
 use Rattle.check_plain.specs.PlainLaws.{no-parameter, plain-fitting, plain-undeclared, plain-number}
 use Rattle.check_kernel_statements.specs.Statements.{is_atom, is_assignment, is_block, is_kernel_if, is_kernel_while, is_kernel_expression, is_kernel_return, is_kernel_parameter, is_of_function, is_kernel_statement}
-use Rattle.accepted.specs.Sorts.{statement_number, between-true, number_is, sort-is, statement-kind, in-language, row-sort, arm_is_lem}
+use Rattle.accepted.specs.Sorts.{statement_number, between-true, number_is, sort-is, statement-kind, in-language, row-sort, arm_is}
 use Rattle.accepted.proofs.Fields.{holds, Linked, MayLink, linked, may-link, item-link}
 use Rattle.accepted.proofs.Expressions.{whole-rows}
 use Rattle.accepted.proofs.Statements.{list-some}
@@ -230,7 +230,7 @@ module _ (header rows : List ℤ) (plain : Plain header rows) where
     pub expression-or-statement : (is_expression rows row ≡ true) ⊎ (is_statement rows row ≡ true)
     unfolding kind_row member_fields
     expression-or-statement =
-        ⊎_elim (λ e. inl e) (λ h. ⊎_elim (λ e. inr e) (λ h. ⊎_elim (λ e. absurd (not-in-kernel (arm_is_lem rows row e) refl)) (λ e. absurd (no-function (argument-number rows row e))) h) h)
+        ⊎_elim (λ e. inl e) (λ h. ⊎_elim (λ e. inr e) (λ h. ⊎_elim (λ e. absurd (not-in-kernel (arm_is rows row e) refl)) (λ e. absurd (no-function (argument-number rows row e))) h) h)
         (row-sort Kernel rows row (s.known row n))
 
     -- The fields that link statements.

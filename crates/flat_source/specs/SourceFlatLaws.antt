@@ -31,7 +31,7 @@ use Rattle.accepted_kernel.proofs.Kernel.{functionless-plain}
 use Rattle.check_plain.specs.Plain.{Plain}
 use Rattle.check_plain.specs.Refusal.{plain_refusal}
 use Rattle.language_emission.specs.Emission.{emit}
-use Rattle.language_emission.specs.KernelKinds.{a_Block}
+use Rattle.language_emission.specs.KernelKinds.{a_block}
 use Rattle.language_emission.specs.Emitted.{emitted}
 use Rattle.translation_legal.specs.FormKinds.{program-kinds}
 use Rattle.translation_legal.proofs.EmittedLegal.{translated-contents}
@@ -140,7 +140,7 @@ module _ (header rows : List ℤ) (accepted : source_refusal header rows ≡ Acc
   unfolding plain_refusal kernel_rows_of ◌next◌ at translate
   refused some =
       let count = code-count (functions_write program) (store_words Source header rows) program 1 (table-tree header rows legal).placed in
-      rw (kernel_form.accepted, first-definition (emit (block translation)) translation (emitted (a_Block (program-kinds kernel-tree.form))) kernel-tree.form (omega arith))
+      rw (kernel_form.accepted, first-definition (emit (block translation)) translation (emitted (a_block (program-kinds kernel-tree.form))) kernel-tree.form (omega arith))
 
 -- The flat list of every translation without functions is legal and shares the source program's fate.
 pub has-flat-form : (header rows : List ℤ) → HasFlatForm header rows

@@ -25,7 +25,7 @@ use Rattle.translation.specs.KernelForm.{KernelProgram, KernelName, name_variabl
 use Rattle.translation.specs.Translate.{translate, temporaries, kernel_header}
 use Rattle.language_emission.specs.Emission.{emit}
 use Rattle.language_emission.specs.EmissionLaws.{length-emit}
-use Rattle.language_emission.specs.KernelKinds.{a_Block}
+use Rattle.language_emission.specs.KernelKinds.{a_block}
 use Rattle.language_emission.specs.Emitted.{emitted}
 use Rattle.language_emission.proofs.ReadBack.{decode-emit}
 use Rattle.translation_legal.specs.FormKinds.{program-kinds}
@@ -140,7 +140,7 @@ module _ (header rows : List ℤ) (legal : Legal header rows) (words : (i : ℕ)
       (named-contents Kernel bounds rows legal.structured (header-declared Kernel header) (KernelName (layout_of Kernel header) (behind_of Kernel header)) kernel-name) front
 
   decodes-back : decode (emit (block (contents rows))) ≡ decode rows
-  decodes-back = decode-emit (a_Block (program-kinds form)) ∙ sym (legal-block header rows legal)
+  decodes-back = decode-emit (a_block (program-kinds form)) ∙ sym (legal-block header rows legal)
 
   -- "Read with the header by docs/, the lines give back the same rows, up to numbering."
   pub gives_back : GivenBack header rows (table_page header rows)

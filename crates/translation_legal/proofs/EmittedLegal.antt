@@ -18,7 +18,7 @@ use Rattle.check_structure.specs.StructuredLaws.{structured-tree}
 use Rattle.check_kernel.specs.Legal.{Legal}
 use Rattle.language_emission.specs.Emission.{emit}
 use Rattle.language_emission.specs.EmissionLaws.{length-emit}
-use Rattle.language_emission.specs.KernelKinds.{a_Block}
+use Rattle.language_emission.specs.KernelKinds.{a_block}
 use Rattle.language_emission.specs.Emitted.{emitted}
 use Rattle.language_emission.proofs.ReadBack.{decode-emit, contents-emit}
 use Rattle.translation_legal.specs.FormKinds.{program-kinds}
@@ -34,7 +34,7 @@ use Rattle.translation_legal.proofs.EmittedFunctions.{emitted-returns, emitted-c
 
 -- Decode reads back the table of a kernel program.
 pub kernel-decodes : {L : Layout} {T : ℕ} {program : Items} → KernelTree L T program → decode (emit (block program)) ≡ block program
-kernel-decodes k = decode-emit (a_Block (program-kinds k.form))
+kernel-decodes k = decode-emit (a_block (program-kinds k.form))
 
 pub kernel-contents : {L : Layout} {T : ℕ} {program : Items} → KernelTree L T program → contents (emit (block program)) ≡ program
 kernel-contents k = contents-emit (program-kinds k.form)
@@ -52,7 +52,7 @@ kernel-legal header {program} fit k own =
     let size = length-emit (block program) in
     let count : row_count rows ≡ statement_rows (block program) = omega arith in
     let whole : length rows ≡ 6 * row_count rows = omega arith in
-    let first = emitted (a_Block (program-kinds k.form)) in
+    let first = emitted (a_block (program-kinds k.form)) in
     let front = own-front S D program k.calls.numbered own in
     let structured = emitted-structured header k.few_rows k.form k.named front in
     let tree = structured-tree Kernel _ rows structured in

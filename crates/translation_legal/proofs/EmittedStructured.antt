@@ -17,7 +17,7 @@ use Rattle.check_structure.specs.Structured.{Structured}
 use Rattle.language_emission.specs.Emission.{list_link, emit}
 use Rattle.language_emission.specs.EmissionLaws.{length-emit}
 use Rattle.language_emission.specs.Emitted.{Row, EmittedStatement, block_at, emitted}
-use Rattle.language_emission.specs.KernelKinds.{a_Block}
+use Rattle.language_emission.specs.KernelKinds.{a_block}
 use Rattle.translation_legal.specs.FormKinds.{program-kinds}
 use Rattle.translation_legal.specs.Suits.{RowLegal}
 use Rattle.translation_legal.proofs.Parameters.{ParameterWord, OwnWords, FrontParameters}
@@ -60,7 +60,7 @@ module _ (header : List ℤ) {program : Items} (few : statement_rows (block prog
       let size = length-emit (block program) in
       let count : row_count rows ≡ statement_rows (block program) = omega arith in
       let some = statement-some (block program) in
-      let first = emitted (a_Block (program-kinds form)) in
+      let first = emitted (a_block (program-kinds form)) in
       let bounds = bounds_of Kernel header in
       let row-legal : (row : ℕ) → row < row_count rows → RowLegal bounds rows row =
       emitted-rows bounds rows (KernelName (layout_of Kernel header) (behind_of Kernel header)) (length (layout_of Kernel header).lengths) (store_size (layout_of Kernel header)) (declared_of Kernel header)

@@ -2,7 +2,7 @@
 use Rattle.std.specs.Prelude.{Bool}
 use Rattle.language.specs.Trees.{Expression, Arguments, Statement, Items}
 use Rattle.translation.specs.KernelForm.{IsAtom, constant-atom, variable_atom, AreAtoms, no_more_atoms, more_atoms, Assigns, assigns_atom, assigns_minus, assigns_operation, assigns_element, assigns_call, assigns_to_element, KernelStatement, kernel-empty, kernel-assign, kernel-block, kernel-if, kernel-while, kernel-goto, kernel-abort, kernel-return, KernelItems, kernel-none, kernel-then, kernel-label, KernelProgram, kernel_main, kernel_define}
-use Rattle.language_emission.specs.KernelKinds.{ExpressionInKernel, a-constant, a_read, a-minus, a-binary, an-assign, a_call, a-variable, an-element, ArgumentsInKernel, no_arguments, an-argument, StatementInKernel, an-empty, an-express, a_Block, an-if, a-while, a-goto, an-abort, a-return, ItemsInKernel, no_items, a-statement, a-label, a-definition}
+use Rattle.language_emission.specs.KernelKinds.{ExpressionInKernel, a-constant, a_read, a-minus, a-binary, an-assign, a_call, a-variable, an-element, ArgumentsInKernel, no_arguments, an-argument, StatementInKernel, an-empty, an-express, a_block, an-if, a-while, a-goto, an-abort, a-return, ItemsInKernel, no_items, a-statement, a-label, a-definition}
 
 atom-kinds : {e : Expression} → IsAtom e → ExpressionInKernel e
 atom-kinds constant-atom = a-constant
@@ -24,9 +24,9 @@ mutual
   pub statement-kinds : {mayReturn : Bool} {ahead : Items} {s : Statement} → KernelStatement mayReturn ahead s → StatementInKernel s
   statement-kinds kernel-empty = an-empty
   statement-kinds (kernel-assign h) = an-express (assignment-kinds h)
-  statement-kinds (kernel-block h) = a_Block (items-kinds h)
-  statement-kinds (kernel-if h k j) = an-if (atom-kinds h) (a_Block (items-kinds k)) (a_Block (items-kinds j))
-  statement-kinds (kernel-while h k) = a-while (atom-kinds h) (a_Block (items-kinds k))
+  statement-kinds (kernel-block h) = a_block (items-kinds h)
+  statement-kinds (kernel-if h k j) = an-if (atom-kinds h) (a_block (items-kinds k)) (a_block (items-kinds j))
+  statement-kinds (kernel-while h k) = a-while (atom-kinds h) (a_block (items-kinds k))
   statement-kinds (kernel-goto n h) = a-goto
   statement-kinds kernel-abort = an-abort
   statement-kinds (kernel-return h) = a-return (atom-kinds h)

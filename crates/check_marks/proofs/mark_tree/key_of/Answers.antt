@@ -11,8 +11,7 @@ use mir.Facts.{to_z-of_z}
 use borrow.Author.Tests.{ltb-true, le-ltb}
 use borrow.Author.Rules.{rules}
 use Rattle.words.specs.Word.{natural}
-use Rattle.check_marks.proofs.mark_tree.key_of.Statement.{statement}
-use Rattle.check_marks.proofs.mark_tree.key_of.Tie as tie
+use Rattle.check_marks.proofs.mark_tree.key_of.Goals as goal
 
 turned : (z : ℤ) → lt_z z (pos 0) ≡ true → negsuc 0 -ℤ z ≡ pos (mag z)
 turned (pos n) e = absurd (omega (arith, ltb-true n 0 e))
@@ -37,21 +36,11 @@ module _ (z : ℤ) (h : SFits w32 z) where
   kept-is : lt_z (to_z w32 (of_z w32 z)) (pos 0) ≡ false → natural (to_z w32 (of_z w32 z)) ≡ mag z
   kept-is e = rw (to_z-of_z {z = z} h) (kept z (rw (to_z-of_z {z = z} h) at e))
 
-sub-natural : tie.Need-overflow-sub-natural
-sub-natural c = turned-fits _ c.before.ranges.word c.if1.true
+pub overflow_sub-word : goal.overflow_sub-word
+overflow_sub-word c = turned-fits _ c.ranges.word c.if-word-lt0.true
 
-natural-requires : tie.Need-natural-requires
-natural-requires c κs = search rules
+pub returns-then-word-lt0 : goal.returns-then-word-lt0
+returns-then-word-lt0 c = c.natural.ensures ∙ turned-is _ c.ranges.word c.if-word-lt0.true
 
-returns : tie.Need-returns
-returns c = c.natural.ensures ∙ turned-is _ c.before.before.ranges.word c.before.if1.true
-
-natural-requires-2 : tie.Need-natural-requires-2
-natural-requires-2 c κs = search rules
-
-returns-2 : tie.Need-returns-2
-returns-2 c = c.natural2.ensures ∙ kept-is _ c.before.before.ranges.word c.before.if1.false
-
-pub key-of-spec : {M : Type 1} → statement M
-key-of-spec =
-    tie.close (tie.spec sub-natural natural-requires returns natural-requires-2 returns-2)
+pub returns : goal.returns
+returns c = c.natural-2.ensures ∙ kept-is _ c.ranges.word c.if-word-lt0.false

@@ -10,29 +10,20 @@ use Rattle.check_declarations.specs.Lower.{lower}
 use Rattle.check_declarations.specs.LowerLaws.{lowest_row-either}
 use Rattle.check_declarations.specs.Passes.{breaks, looked_up}
 use borrow.Author.Rules.{rules}
-use Rattle.check_declarations.proofs.lowest_twice.Statement.{statement}
-use Rattle.check_declarations.proofs.lowest_twice.Tie as tie
+use Rattle.check_declarations.proofs.lowest_twice.Goals as goal
 
 twice_found : (rows : List ℤ) (one two found : Found) → one ≡ lowest_row rows (declared_before rows) → two ≡ lowest_row rows (declared_as_parameter rows) → found ≡ lower one two → found ≡ lowest_row rows (declared_twice rows)
 unfolding declared_twice
 twice_found rows one two found e f h = h ∙ rw (e, f) (sym (lowest_row-either rows (declared_before rows) (declared_as_parameter rows)))
 
-lowest-breaking-requires : tie.Need-lowest-breaking-requires
+pub lowest_breaking-before-requires : goal.lowest_breaking-before-requires
 unfolding looked_up
-lowest-breaking-requires c κs = (c.before.before.requires.0, c.before.before.requires.1, c.before.before.requires.3)
+lowest_breaking-before-requires c = (c.requires.0, c.requires.1, c.requires.3)
 
-lowest-breaking-requires-2 : tie.Need-lowest-breaking-requires-2
+pub lowest_breaking-parameter-requires : goal.lowest_breaking-parameter-requires
 unfolding looked_up
-lowest-breaking-requires-2 c κs = (c.before.before.before.requires.0, c.before.before.before.requires.2, c.before.before.before.requires.3)
+lowest_breaking-parameter-requires c = (c.requires.0, c.requires.2, c.requires.3)
 
-lower-of-requires : tie.Need-lower-of-requires
-lower-of-requires c κs = search rules
-
-returns : tie.Need-returns
+pub returns : goal.returns
 unfolding breaks
-returns c = twice_found _ _ _ _ c.before.before.lowest-breaking.ensures c.before.lowest-breaking2.ensures c.lower_of.ensures
-
-pub lowest-twice-spec : {M : Type 1} → statement M
-lowest-twice-spec =
-    tie.close
-    (tie.spec lowest-breaking-requires lowest-breaking-requires-2 lower-of-requires returns)
+returns c = twice_found _ _ _ _ c.lowest_breaking-before.ensures c.lowest_breaking-parameter.ensures c.lower_of.ensures

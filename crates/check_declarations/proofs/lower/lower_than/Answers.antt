@@ -1,0 +1,23 @@
+-- `lower_than` compares the two rows, where there are two.
+use mathlib.Core.Path.{◌≡◌, ap}
+use Prim.Native.Nat.{min}
+use native.Mathlib.Omega.{arith}
+use Rattle.words.specs.declared.Found.TheVariants.{At}
+use Rattle.check_declarations.specs.Lower.{lower}
+use borrow.Author.Rules.{rules}
+use Rattle.check_declarations.proofs.lower.lower_than.Goals as goal
+
+pub returns-then-found-row : goal.returns-then-found-row
+unfolding lower
+returns-then-found-row c =
+    rw c.in-At.is (ap At (omega arith))
+
+pub returns-else-found-row : goal.returns-else-found-row
+unfolding lower
+returns-else-found-row c =
+    rw c.in-At.is (ap At (omega arith))
+
+pub returns-in-Nothing : goal.returns-in-Nothing
+unfolding lower
+returns-in-Nothing c =
+    rw c.in-Nothing.is

@@ -76,7 +76,7 @@ module _ (line : ℕ) (small : line < 2 ^ 62) where
     total = handed following +ℤ handed (again w)
 
     distance_is : handed (again w) ≡ z
-    distance_is = ap handed (back w h) ∙ to_z-of_z (record { sfits = omega arith }) ∙ e
+    distance_is = ap handed (back w h) ∙ to_z-of_z {w = w64} (record { sfits = omega arith }) ∙ e
 
     total_is : total ≡ pos (target_of line z)
     total_is = ap₂ ◌+ℤ◌ (to_z-of_z following-fits ∙ following-is) distance_is ∙ sum_is lines z lands

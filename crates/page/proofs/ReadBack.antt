@@ -10,7 +10,7 @@ use Rattle.text_numbers.specs.Number.{digits, number_bytes}
 use Rattle.text_numbers.specs.NumberLaws.{Free, free-append, not_some, natural-shows, number-shows}
 use Rattle.text_lines.specs.Line.{newline, together, lines_of}
 use Rattle.text_lines.specs.LineLaws.{lines-ended}
-use Rattle.language.specs.Trees.{Expression, constant, read, minus, binary, assign, call, Place, variable, element, no_more, present, label, empty, express, goto, abort, give_back, Items}
+use Rattle.language.specs.Trees.{Expression, constant, read, minus, binary, assign, call, Place, variable, element, no_more, present, label, empty, express, goto, abort, give_back, Items, absent, and, block, break, case, comma, compound, conditional, continue, declare, default, do_while, for, guarded_do, guarded_if, if_else, if_then, not, or, postfix, prefix, switch, while}
 use Rattle.translation.specs.KernelForm.{KernelProgram}
 use Rattle.page.specs.declared.Sizes.{Sizes}
 use Rattle.page.specs.Lines.{PageLine, single, mark, opens, opens_while, opens_if, turns, closes, opens_call, argument, last_argument, opens_function, opens_parameters, parameter, last_parameter, Indented, indented, items_lines, plain, read_lines}
@@ -120,14 +120,53 @@ module _ {Names : ℕ → Type 0} {arrays : ℕ} (sizes : Sizes) where
   unfolding read_atom
   atom-shows (constant v) (fits-constant h) = rw (number-no-name sizes (number_bytes v) (number-between v), number-shows v h)
   atom-shows (read (variable i)) (fits-variable n) = rw (name-shows sizes i)
+  atom-shows (read (element _ _)) x5 = elim x5 [ ]
+  atom-shows (minus _) x3 = elim x3 [ ]
+  atom-shows (not _) x4 = elim x4 [ ]
+  atom-shows (binary _ _ _) x7 = elim x7 [ ]
+  atom-shows (and _ _) x7 = elim x7 [ ]
+  atom-shows (or _ _) x8 = elim x8 [ ]
+  atom-shows (comma _ _) x9 = elim x9 [ ]
+  atom-shows (conditional _ _ _) x11 = elim x11 [ ]
+  atom-shows (assign _ _) x11 = elim x11 [ ]
+  atom-shows (compound _ _ _) x13 = elim x13 [ ]
+  atom-shows (prefix _ _) x13 = elim x13 [ ]
+  atom-shows (postfix _ _) x14 = elim x14 [ ]
+  atom-shows (call _ _) x15 = elim x15 [ ]
 
   atom-word : (e : Expression) → AtomFits Names arrays e → IsWord (atom_word sizes e)
   atom-word (constant v) (fits-constant h) = number_word v
   atom-word (read (variable i)) (fits-variable n) = name-word sizes i
+  atom-word (read (element _ _)) x5 = elim x5 [ ]
+  atom-word (minus _) x3 = elim x3 [ ]
+  atom-word (not _) x4 = elim x4 [ ]
+  atom-word (binary _ _ _) x7 = elim x7 [ ]
+  atom-word (and _ _) x7 = elim x7 [ ]
+  atom-word (or _ _) x8 = elim x8 [ ]
+  atom-word (comma _ _) x9 = elim x9 [ ]
+  atom-word (conditional _ _ _) x11 = elim x11 [ ]
+  atom-word (assign _ _) x11 = elim x11 [ ]
+  atom-word (compound _ _ _) x13 = elim x13 [ ]
+  atom-word (prefix _ _) x13 = elim x13 [ ]
+  atom-word (postfix _ _) x14 = elim x14 [ ]
+  atom-word (call _ _) x15 = elim x15 [ ]
 
   atom-free : (e : Expression) → AtomFits Names arrays e → Free 91 (atom_word sizes e)
   atom-free (constant v) (fits-constant h) = between-free 45 57 91 (number_bytes v) (inr (omega arith)) (number-between v)
   atom-free (read (variable i)) (fits-variable n) = name_free sizes i
+  atom-free (read (element _ _)) x5 = elim x5 [ ]
+  atom-free (minus _) x3 = elim x3 [ ]
+  atom-free (not _) x4 = elim x4 [ ]
+  atom-free (binary _ _ _) x7 = elim x7 [ ]
+  atom-free (and _ _) x7 = elim x7 [ ]
+  atom-free (or _ _) x8 = elim x8 [ ]
+  atom-free (comma _ _) x9 = elim x9 [ ]
+  atom-free (conditional _ _ _) x11 = elim x11 [ ]
+  atom-free (assign _ _) x11 = elim x11 [ ]
+  atom-free (compound _ _ _) x13 = elim x13 [ ]
+  atom-free (prefix _ _) x13 = elim x13 [ ]
+  atom-free (postfix _ _) x14 = elim x14 [ ]
+  atom-free (call _ _) x15 = elim x15 [ ]
 
   element-shows : (array : ℕ) (e : Expression) → AtomFits Names arrays e → read_place sizes (place_word sizes (element array e)) ≡ some (element array e)
   unfolding read_place Free
@@ -150,6 +189,19 @@ module _ {Names : ℕ → Type 0} {arrays : ℕ} (sizes : Sizes) where
   ended-shows (constant v) (fits-constant h) =
       rw (without-last 59 (number_bytes v), number-no-place sizes (number_bytes v) (number-between v), number-no-name sizes (number_bytes v) (number-between v), number-shows v h)
   ended-shows (read (variable i)) (fits-variable n) = rw (without-last 59 (name sizes i), variable-shows sizes i)
+  ended-shows (read (element _ _)) x5 = elim x5 [ ]
+  ended-shows (minus _) x3 = elim x3 [ ]
+  ended-shows (not _) x4 = elim x4 [ ]
+  ended-shows (binary _ _ _) x7 = elim x7 [ ]
+  ended-shows (and _ _) x7 = elim x7 [ ]
+  ended-shows (or _ _) x8 = elim x8 [ ]
+  ended-shows (comma _ _) x9 = elim x9 [ ]
+  ended-shows (conditional _ _ _) x11 = elim x11 [ ]
+  ended-shows (assign _ _) x11 = elim x11 [ ]
+  ended-shows (compound _ _ _) x13 = elim x13 [ ]
+  ended-shows (prefix _ _) x13 = elim x13 [ ]
+  ended-shows (postfix _ _) x14 = elim x14 [ ]
+  ended-shows (call _ _) x15 = elim x15 [ ]
 
   value-shows : (e : Expression) → ValueFits Names arrays e → read_value sizes (ended (value_words sizes e)) ≡ some e
   unfolding ended same
@@ -163,6 +215,19 @@ module _ {Names : ℕ → Type 0} {arrays : ℕ} (sizes : Sizes) where
   unfolding AreWords ended
   ended-words (constant v) (fits-constant h) = (ended-word 59 (number_bytes v) (omega arith) (number_word v), tt)
   ended-words (read (variable i)) (fits-variable n) = (ended-word 59 (name sizes i) (omega arith) (name-word sizes i), tt)
+  ended-words (read (element _ _)) x5 = elim x5 [ ]
+  ended-words (minus _) x3 = elim x3 [ ]
+  ended-words (not _) x4 = elim x4 [ ]
+  ended-words (binary _ _ _) x7 = elim x7 [ ]
+  ended-words (and _ _) x7 = elim x7 [ ]
+  ended-words (or _ _) x8 = elim x8 [ ]
+  ended-words (comma _ _) x9 = elim x9 [ ]
+  ended-words (conditional _ _ _) x11 = elim x11 [ ]
+  ended-words (assign _ _) x11 = elim x11 [ ]
+  ended-words (compound _ _ _) x13 = elim x13 [ ]
+  ended-words (prefix _ _) x13 = elim x13 [ ]
+  ended-words (postfix _ _) x14 = elim x14 [ ]
+  ended-words (call _ _) x15 = elim x15 [ ]
 
   value-words : (e : Expression) → ValueFits Names arrays e → AreWords (ended (value_words sizes e))
   unfolding AreWords ended inside
@@ -177,6 +242,19 @@ module _ {Names : ℕ → Type 0} {arrays : ℕ} (sizes : Sizes) where
   atom-begins : (e : Expression) → AtomFits Names arrays e → Begins (atom_word sizes e)
   atom-begins (constant v) (fits-constant h) = number-begins v
   atom-begins (read (variable i)) (fits-variable n) = name-begins sizes i
+  atom-begins (read (element _ _)) x5 = elim x5 [ ]
+  atom-begins (minus _) x3 = elim x3 [ ]
+  atom-begins (not _) x4 = elim x4 [ ]
+  atom-begins (binary _ _ _) x7 = elim x7 [ ]
+  atom-begins (and _ _) x7 = elim x7 [ ]
+  atom-begins (or _ _) x8 = elim x8 [ ]
+  atom-begins (comma _ _) x9 = elim x9 [ ]
+  atom-begins (conditional _ _ _) x11 = elim x11 [ ]
+  atom-begins (assign _ _) x11 = elim x11 [ ]
+  atom-begins (compound _ _ _) x13 = elim x13 [ ]
+  atom-begins (prefix _ _) x13 = elim x13 [ ]
+  atom-begins (postfix _ _) x14 = elim x14 [ ]
+  atom-begins (call _ _) x15 = elim x15 [ ]
 
   argument-shows : (e : Expression) → AtomFits Names arrays e → line_of sizes (ended_by 44 (atom_word sizes e) ∷ []) ≡ some (argument e)
   argument-shows e h =
@@ -219,6 +297,35 @@ module _ {Names : ℕ → Type 0} {arrays : ℕ} (sizes : Sizes) where
     line-shows (parameter word) (fits-parameter p) = rw (without-last 44 (name sizes word), name-shows sizes word)
     line-shows (last_parameter word) (fits-last-parameter p) =
         three-words sizes (ended_by 41 (name sizes word)) (last_parameter word) (begins-ended 41 (name sizes word) (name-begins sizes word)) (rw (without-last 41 (name sizes word), name-shows sizes word))
+    line-shows (single (express (constant _))) x6 = elim x6 [ ]
+    line-shows (single (express (read _))) x7 = elim x7 [ ]
+    line-shows (single (express (minus _))) x8 = elim x8 [ ]
+    line-shows (single (express (not _))) x9 = elim x9 [ ]
+    line-shows (single (express (binary _ _ _))) x12 = elim x12 [ ]
+    line-shows (single (express (and _ _))) x12 = elim x12 [ ]
+    line-shows (single (express (or _ _))) x13 = elim x13 [ ]
+    line-shows (single (express (comma _ _))) x14 = elim x14 [ ]
+    line-shows (single (express (conditional _ _ _))) x16 = elim x16 [ ]
+    line-shows (single (express (compound _ _ _))) x17 = elim x17 [ ]
+    line-shows (single (express (prefix _ _))) x17 = elim x17 [ ]
+    line-shows (single (express (postfix _ _))) x18 = elim x18 [ ]
+    line-shows (single (express (call _ _))) x19 = elim x19 [ ]
+    line-shows (single (block _)) x5 = elim x5 [ ]
+    line-shows (single (if_then _ _)) x7 = elim x7 [ ]
+    line-shows (single (if_else _ _ _)) x9 = elim x9 [ ]
+    line-shows (single (while _ _)) x9 = elim x9 [ ]
+    line-shows (single (do_while _ _)) x10 = elim x10 [ ]
+    line-shows (single (for _ _ _ _)) x13 = elim x13 [ ]
+    line-shows (single (switch _ _)) x12 = elim x12 [ ]
+    line-shows (single break) x11 = elim x11 [ ]
+    line-shows (single continue) x12 = elim x12 [ ]
+    line-shows (single (guarded_if _)) x14 = elim x14 [ ]
+    line-shows (single (guarded_do _)) x15 = elim x15 [ ]
+    line-shows (single (declare _ _)) x17 = elim x17 [ ]
+    line-shows (single (give_back absent)) x18 = elim x18 [ ]
+    line-shows (mark (case _)) x5 = elim x5 [ ]
+    line-shows (mark default) x5 = elim x5 [ ]
+    line-shows (opens_call (element _ _) f) x7 = elim x7 [ ]
 
     line-has-words : (line : PageLine) → LineFits Names arrays Parameters line → AreWords (line_words sizes line)
     unfolding AreWords inside
@@ -242,6 +349,35 @@ module _ {Names : ℕ → Type 0} {arrays : ℕ} (sizes : Sizes) where
     line-has-words (parameter word) (fits-parameter p) = (spelt int_word (omega arith) refl, (ended-word 44 (name sizes word) (omega arith) (name-word sizes word), tt))
     line-has-words (last_parameter word) (fits-last-parameter p) =
         (spelt int_word (omega arith) refl, (ended-word 41 (name sizes word) (omega arith) (name-word sizes word), (spelt opening_word (omega arith) refl, tt)))
+    line-has-words (single (express (constant _))) x6 = elim x6 [ ]
+    line-has-words (single (express (read _))) x7 = elim x7 [ ]
+    line-has-words (single (express (minus _))) x8 = elim x8 [ ]
+    line-has-words (single (express (not _))) x9 = elim x9 [ ]
+    line-has-words (single (express (binary _ _ _))) x12 = elim x12 [ ]
+    line-has-words (single (express (and _ _))) x12 = elim x12 [ ]
+    line-has-words (single (express (or _ _))) x13 = elim x13 [ ]
+    line-has-words (single (express (comma _ _))) x14 = elim x14 [ ]
+    line-has-words (single (express (conditional _ _ _))) x16 = elim x16 [ ]
+    line-has-words (single (express (compound _ _ _))) x17 = elim x17 [ ]
+    line-has-words (single (express (prefix _ _))) x17 = elim x17 [ ]
+    line-has-words (single (express (postfix _ _))) x18 = elim x18 [ ]
+    line-has-words (single (express (call _ _))) x19 = elim x19 [ ]
+    line-has-words (single (block _)) x5 = elim x5 [ ]
+    line-has-words (single (if_then _ _)) x7 = elim x7 [ ]
+    line-has-words (single (if_else _ _ _)) x9 = elim x9 [ ]
+    line-has-words (single (while _ _)) x9 = elim x9 [ ]
+    line-has-words (single (do_while _ _)) x10 = elim x10 [ ]
+    line-has-words (single (for _ _ _ _)) x13 = elim x13 [ ]
+    line-has-words (single (switch _ _)) x12 = elim x12 [ ]
+    line-has-words (single break) x11 = elim x11 [ ]
+    line-has-words (single continue) x12 = elim x12 [ ]
+    line-has-words (single (guarded_if _)) x14 = elim x14 [ ]
+    line-has-words (single (guarded_do _)) x15 = elim x15 [ ]
+    line-has-words (single (declare _ _)) x17 = elim x17 [ ]
+    line-has-words (single (give_back absent)) x18 = elim x18 [ ]
+    line-has-words (mark (case _)) x5 = elim x5 [ ]
+    line-has-words (mark default) x5 = elim x5 [ ]
+    line-has-words (opens_call (element _ _) f) x7 = elim x7 [ ]
 
     -- ---- pages
 

@@ -11,7 +11,7 @@ use Rattle.words.specs.declared.Operator.TheVariants.{Add, Subtract, Multiply, D
 use Rattle.text_numbers.specs.Number.{digits, number_bytes}
 use Rattle.text_lines.specs.Line.{newline}
 use Rattle.text_numbers.specs.PutLaws.{digits-within, number-eleven}
-use Rattle.language.specs.Trees.{Expression, constant, read, minus, binary, assign, call, variable, element, no_more, present, label, empty, express, goto, abort, give_back}
+use Rattle.language.specs.Trees.{Expression, constant, read, minus, binary, assign, call, variable, element, no_more, present, label, empty, express, goto, abort, give_back, absent, and, block, break, case, comma, compound, conditional, continue, declare, default, do_while, for, guarded_do, guarded_if, if_else, if_then, not, or, postfix, prefix, switch, while}
 use Rattle.page.specs.declared.Sizes.{Sizes}
 use Rattle.page.proofs.WordLaws.{each-name}
 use Rattle.page.specs.Lines.{PageLine, single, mark, opens, opens_while, opens_if, turns, closes, opens_call, argument, last_argument, opens_function, opens_parameters, parameter, last_parameter, Indented, indented}
@@ -89,6 +89,19 @@ module _ {Names Parameters : ℕ → Type 0} {arrays : ℕ} (sizes : Sizes) (nam
   atom-width : (e : Expression) → AtomFits Names arrays e → length (atom_word sizes e) ≤ 11
   atom-width (constant v) (fits-constant h) = number-eleven v h
   atom-width (read (variable i)) (fits-variable n) = omega (arith, names i n)
+  atom-width (read (element _ _)) x5 = elim x5 [ ]
+  atom-width (minus _) x3 = elim x3 [ ]
+  atom-width (not _) x4 = elim x4 [ ]
+  atom-width (binary _ _ _) x7 = elim x7 [ ]
+  atom-width (and _ _) x7 = elim x7 [ ]
+  atom-width (or _ _) x8 = elim x8 [ ]
+  atom-width (comma _ _) x9 = elim x9 [ ]
+  atom-width (conditional _ _ _) x11 = elim x11 [ ]
+  atom-width (assign _ _) x11 = elim x11 [ ]
+  atom-width (compound _ _ _) x13 = elim x13 [ ]
+  atom-width (prefix _ _) x13 = elim x13 [ ]
+  atom-width (postfix _ _) x14 = elim x14 [ ]
+  atom-width (call _ _) x15 = elim x15 [ ]
 
   -- `a31[-2147483648]`
   element-width : (array : ℕ) (e : Expression) → array < arrays → AtomFits Names arrays e → length (place_word sizes (element array e)) ≤ 16
@@ -100,6 +113,19 @@ module _ {Names Parameters : ℕ → Type 0} {arrays : ℕ} (sizes : Sizes) (nam
   unfolding ended parted
   assigned-atom (constant v) (fits-constant h) = omega (arith, length-ended 59 (number_bytes v), number-eleven v h)
   assigned-atom (read (variable i)) (fits-variable n) = omega (arith, length-ended 59 (name sizes i), names i n)
+  assigned-atom (read (element _ _)) x5 = elim x5 [ ]
+  assigned-atom (minus _) x3 = elim x3 [ ]
+  assigned-atom (not _) x4 = elim x4 [ ]
+  assigned-atom (binary _ _ _) x7 = elim x7 [ ]
+  assigned-atom (and _ _) x7 = elim x7 [ ]
+  assigned-atom (or _ _) x8 = elim x8 [ ]
+  assigned-atom (comma _ _) x9 = elim x9 [ ]
+  assigned-atom (conditional _ _ _) x11 = elim x11 [ ]
+  assigned-atom (assign _ _) x11 = elim x11 [ ]
+  assigned-atom (compound _ _ _) x13 = elim x13 [ ]
+  assigned-atom (prefix _ _) x13 = elim x13 [ ]
+  assigned-atom (postfix _ _) x14 = elim x14 [ ]
+  assigned-atom (call _ _) x15 = elim x15 [ ]
 
   -- `-2147483648 <= -2147483648;`
   value-width : (e : Expression) → ValueFits Names arrays e → length (parted (ended (value_words sizes e))) ≤ 27
@@ -142,6 +168,35 @@ module _ {Names Parameters : ℕ → Type 0} {arrays : ℕ} (sizes : Sizes) (nam
   line-width (parameter word) (fits-parameter p) = omega (arith, length-ended 44 (name sizes word), parameters word p)
   line-width (last_parameter word) (fits-last-parameter p) =
       omega (arith, length-append (ended_by 41 (name sizes word)) (blank ∷ opening_word), length-ended 41 (name sizes word), parameters word p)
+  line-width (single (express (constant _))) x6 = elim x6 [ ]
+  line-width (single (express (read _))) x7 = elim x7 [ ]
+  line-width (single (express (minus _))) x8 = elim x8 [ ]
+  line-width (single (express (not _))) x9 = elim x9 [ ]
+  line-width (single (express (binary _ _ _))) x12 = elim x12 [ ]
+  line-width (single (express (and _ _))) x12 = elim x12 [ ]
+  line-width (single (express (or _ _))) x13 = elim x13 [ ]
+  line-width (single (express (comma _ _))) x14 = elim x14 [ ]
+  line-width (single (express (conditional _ _ _))) x16 = elim x16 [ ]
+  line-width (single (express (compound _ _ _))) x17 = elim x17 [ ]
+  line-width (single (express (prefix _ _))) x17 = elim x17 [ ]
+  line-width (single (express (postfix _ _))) x18 = elim x18 [ ]
+  line-width (single (express (call _ _))) x19 = elim x19 [ ]
+  line-width (single (block _)) x5 = elim x5 [ ]
+  line-width (single (if_then _ _)) x7 = elim x7 [ ]
+  line-width (single (if_else _ _ _)) x9 = elim x9 [ ]
+  line-width (single (while _ _)) x9 = elim x9 [ ]
+  line-width (single (do_while _ _)) x10 = elim x10 [ ]
+  line-width (single (for _ _ _ _)) x13 = elim x13 [ ]
+  line-width (single (switch _ _)) x12 = elim x12 [ ]
+  line-width (single break) x11 = elim x11 [ ]
+  line-width (single continue) x12 = elim x12 [ ]
+  line-width (single (guarded_if _)) x14 = elim x14 [ ]
+  line-width (single (guarded_do _)) x15 = elim x15 [ ]
+  line-width (single (declare _ _)) x17 = elim x17 [ ]
+  line-width (single (give_back absent)) x18 = elim x18 [ ]
+  line-width (mark (case _)) x5 = elim x5 [ ]
+  line-width (mark default) x5 = elim x5 [ ]
+  line-width (opens_call (element _ _) f) x7 = elim x7 [ ]
 
   -- "Lines of 80 columns plus a newline": five columns hold every number below 100,000.
   pub line-columns : (number level : ℕ) (line : PageLine) → number < 100000 → LineFits Names arrays Parameters line → length (line_bytes sizes number (indented level line)) ≡ 81

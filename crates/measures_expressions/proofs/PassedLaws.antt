@@ -79,7 +79,7 @@ digits-fit n b h k = omega (arith, pow_mono {i = n} {j = 63} h)
 
 none-measured : (called : ℕ → ℕ → Bool) (W : ℕ → Bool) → PassedMeasured called no_more W no_passed
 unfolding limited arguments_size arguments_levels arguments_taken argument_count argument_copies
-none-measured called W = record { rows_are = refl; levels_are = refl; taken-is = refl; count_is = refl; copies_are = refl }
+none-measured called W = record { rows_are = refl; levels_are = refl; taken_is = refl; count_is = refl; copies_are = refl }
 
 none_passed : {S : ℕ} {rows : List ℤ} {link : ℕ} {before : WriteSet} {m : Passed} → argument_list_at rows link ≡ no_more → m ≡ no_passed → PassedAt S rows link before m
 unfolding argument_count
@@ -138,9 +138,9 @@ module _ {rows : List ℤ} {table : List ℕ} {link next e : ℕ} (f : ArgumentA
         rows_are = rows-sum k _ (arguments_size called behind X) _ _ own-rows m.rows_are ∙ ap (λ (n : ℕ). limited (4 * n + expression_size called E wanted + arguments_size called behind X)) ek;
         levels_are =
             levels-sum (arguments_levels called behind X) _ b.taken (t + k) _ _ m.levels_are own-levels
-            ∙ ap (λ (n : ℕ). limited (max (arguments_levels called behind X) (n + max (expression_levels called E wanted) (t + k)))) m.taken-is
+            ∙ ap (λ (n : ℕ). limited (max (arguments_levels called behind X) (n + max (expression_levels called E wanted) (t + k)))) m.taken_is
             ∙ ap (λ (n : ℕ). limited (max (arguments_levels called behind X) (arguments_taken called behind X + max (expression_levels called E wanted) n))) waits;
-        taken-is = ap (λ (n : ℕ). n + (t + k)) m.taken-is ∙ ap (λ (n : ℕ). arguments_taken called behind X + n) waits;
+        taken_is = ap (λ (n : ℕ). n + (t + k)) m.taken_is ∙ ap (λ (n : ℕ). arguments_taken called behind X + n) waits;
         count_is = ap (λ (n : ℕ). n + 1) m.count_is ∙ add-one (argument_count behind);
         copies_are = ap (λ (n : ℕ). n + 2 * b.copies) ek ∙ ap (λ (n : ℕ). copied (atom_of called E) W + 2 * n) m.copies_are;
       }

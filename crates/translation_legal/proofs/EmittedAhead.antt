@@ -222,6 +222,7 @@ module _ (rows : List ℤ) where
         let next = label-next r in
         first-and _ base end (no-goto r (λ k. omega arith))
         (ahead-items owner end (omega arith) n g (omega arith) plain (λ h. own-next owner base is (base + 1) (own positive) next (omega arith) n h) labels)
+    ahead-items owner end q (define-at _ _ _ _) none_such positive plain own labels = elim none_such [ ]
 
   -- ---- a program: definitions, then its main part
 

@@ -130,6 +130,7 @@ module _ (rows : List ℤ) where
     formed-items end q (none-at {base}) f = none_of _ base end (omega arith)
     formed-items end q (then_at {s} {is} {base} m n) (kernel-then f g) = join _ base (base + statement_rows s) end (formed-statement _ refl m f) (formed-items end (omega arith) n g)
     formed-items end q (label_at {l} {is} {base} r n) (kernel-label b g) = first-and _ base end (λ e. form-label r) (formed-items end (omega arith) n g)
+    formed-items end q (define-at _ _ _ _) none_such = elim none_such [ ]
 
   -- ---- a program: definitions, then its main part
 

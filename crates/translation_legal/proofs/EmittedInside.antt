@@ -19,7 +19,7 @@ use Rattle.words_roles.specs.Roles.{is_definition}
 use Rattle.check_function_causes.specs.Functions.{is_call, is_return, around_of, function_around}
 use Rattle.check_function_causes.specs.Demands.{Listed, ended, counted}
 use Rattle.language_emission.specs.Emission.{operator_number, arguments_link, list_link}
-use Rattle.language_emission.specs.Emitted.{Row, EmittedExpression, constant-at, read_at, minus-at, binary-at, assign-at, call_at, EmittedPlace, variable-at, element-at, EmittedArguments, no-more-at, argument-at, EmittedStatement, empty-at, express-at, block_at, if-at, while-at, goto-at, abort-at, return-at, EmittedItems, none-at, then_at, label_at}
+use Rattle.language_emission.specs.Emitted.{define-at, Row, EmittedExpression, constant-at, read_at, minus-at, binary-at, assign-at, call_at, EmittedPlace, variable-at, element-at, EmittedArguments, no-more-at, argument-at, EmittedStatement, empty-at, express-at, block_at, if-at, while-at, goto-at, abort-at, return-at, EmittedItems, none-at, then_at, label_at}
 use Rattle.language_emission.proofs.ReadBack.{link-forward, arguments-forward}
 use Rattle.translation_legal.specs.Ranges.{Each, none_of, join, first-and}
 use Rattle.translation_legal.specs.Suits.{row-link}
@@ -245,3 +245,4 @@ module _ (rows : List ℤ) (t : Tree rows) where
           let own = f positive in
           first-and _ base end (plain_row r (high (omega arith) (omega arith)) own)
           (inside-items end (omega arith) n k c (omega arith) (λ p. around-next base (list_link false is (base + 1)) (label-next r) (link-forward is base (base + 1) (omega arith) p) (list_inside n p) ∙ own))
+      inside-items end q (define-at _ _ _ _) none_such c positive f = elim none_such [ ]

@@ -252,6 +252,7 @@ module _ (bounds : Bounds) (rows : List ℤ) (Names : ℕ → Type 0) (arrays S 
         join _ base (base + statement_rows s) end (legal-statement _ refl m (to-list base (omega arith) n) k.0 f) (legal-items end (omega arith) n k.1 g)
     legal-items end q (label_at {l} {is} {base} r n) k (kernel-label b g) =
         first-and _ base end (row-legal r (λ q. omega arith) (suits-name bounds rows base label l (omega arith) (omega arith) (labels-fit l b)) (nothing base) (nothing base) (nothing base) (to-list base (omega arith) n)) (legal-items end (omega arith) n k g)
+    legal-items end q (define-at _ _ _ _) k none_such = elim none_such [ ]
 
   -- ---- a program: definitions, then its main part
 

@@ -132,7 +132,7 @@ bounds-words variables lengths = omega (arith, bounds-count (record { variables 
 
 -- the limit of either form
 few_rows : {form : Form} {header rows store : List ℤ} → Runnable form header rows store → row_count rows ≤ 40980
-few_rows {form} r = omega (arith, r.few_rows, row_limit-most form)
+few_rows {form} r = r.few_rows
 
 -- the definitions are in order
 pub in_order : {form : Form} {header rows store : List ℤ} → Runnable form header rows store → InOrder rows

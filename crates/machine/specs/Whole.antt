@@ -2,7 +2,7 @@
 use Rattle.std.specs.Prelude.{◌≡◌, true, List, map, ◌++◌, ℕ, ◌+◌, ◌≤◌, ℤ, length}
 use Rattle.words.specs.Word.{natural}
 use Rattle.words.specs.Table.{row_count}
-use Rattle.words.specs.Layout.{layout_of, sum, store_words, header_fits, row_limit}
+use Rattle.words.specs.Layout.{layout_of, sum, store_words, header_fits}
 use Rattle.words.specs.declared.Form.{Form}
 use Rattle.words.specs.declared.Ending.{Ending}
 use Rattle.words.specs.declared.Ending.TheVariants.{Plain, Spent, Fault}
@@ -60,7 +60,7 @@ pub record Runnable (form : Form) (header rows store : List ℤ) : Type 0 where
   pub sound : Sound rows (layout_of form header) (length store)
   pub calls : SoundCalls rows
   pub words : length store ≡ store_words form header rows
-  pub few_rows : row_count rows ≤ row_limit form
+  pub few_rows : row_count rows ≤ 40980
 
 -- And a room of so many words has places for the bounds and the rows of so many functions.
 pub record RoomFor (form : Form) (header rows store : List ℤ) (functions room : ℕ) : Type 0 where

@@ -1,5 +1,6 @@
 // The run of a program.
 ghost use Rattle.std.specs.Prelude.{◌≡◌, map, ◌+◌, ◌≤◌, length};
+ghost use Rattle.words.specs.Table.{row_count};
 ghost use Rattle.words.specs.Word.{natural as natural_of};
 ghost use Rattle.words.specs.Layout.{sum};
 ghost use Rattle.words.specs.declared.Form.TheVariants.{Source, Kernel};
@@ -165,7 +166,8 @@ fn run_counted(
 
 // The run of a source table. It stands apart from the kernel's, so that the largest room is in no frame of it.
 pub fn run_source_table(header: &[i32], rows: &[i32], store: &mut [i32], budget: u32) -> RunAnswer
-    requires { Runnable Source header.now rows.now store.old }
+    requires runs { Runnable Source header.now rows.now store.old }
+    requires few { row_count rows.now ≤ 2048 }
     ensures { finished_of result store.new ≡ run_table Source header.now rows.now budget store.old }
 {
     let functions = function_count(rows);
@@ -182,4 +184,16 @@ pub fn run_kernel_table(header: &[i32], rows: &[i32], store: &mut [i32], budget:
         return run_counted(Form::Kernel, header, rows, store, budget, functions);
     }
     run_many(Form::Kernel, header, rows, store, budget, functions)
+}
+
+// The run of a table of either form with a budget.
+pub fn run(form: Form, header: &[i32], rows: &[i32], store: &mut [i32], budget: u32) -> RunAnswer
+    requires { Runnable form header.now rows.now store.old }
+    ensures { finished_of result store.new ≡ run_table form header.now rows.now budget store.old }
+{
+    let functions = function_count(rows);
+    if functions <= 2048 {
+        return run_counted(form, header, rows, store, budget, functions);
+    }
+    run_many(form, header, rows, store, budget, functions)
 }

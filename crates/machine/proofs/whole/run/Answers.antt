@@ -1,0 +1,7 @@
+-- `run` counts the functions, and takes a room for so many.
+use borrow.Author.Rules.{rules}
+use Rattle.machine.proofs.Bounds.{in_order}
+use Rattle.machine.proofs.whole.run.Goals as goal
+
+pub function_count-functions-requires : goal.function_count-functions-requires
+function_count-functions-requires c = in_order c.requires

@@ -1,0 +1,28 @@
+-- `next_link`: that of a definition, of row 0, and of every other row.
+use mathlib.Core.Path.{sym, ◌∙◌}
+use native.Mathlib.Omega.{arith}
+use Rattle.check_structure.specs.LinkLaws.{part-inside}
+use Rattle.join_rows.specs.RowLaws.{next-definition, next-root, next-other}
+use Rattle.join_rows.specs.Standings.{placement_of}
+use borrow.Author.Rules.{rules}
+use Rattle.join_rows.proofs.placed.next_link.Goals as goal
+
+pub front-requires : goal.front-requires
+front-requires c =
+    let s = c.before.before.before.before.before in (s.requires.0, part-inside s.args.rows.now s.requires.0.tree s.args.row 5 _ s.requires.1 (omega arith) c.link-to.ensures)
+
+pub returns-then-is_definition : goal.returns-then-is_definition
+returns-then-is_definition c =
+    let s = c.before.before.before.before.before.before in (c.front.ensures.0 ∙ next-definition (placement_of s.args.standing) s.args.rows.now s.args.row _ (sym c.is_definition.ensures ∙ c.if-is_definition.true) c.link-to.ensures, c.front.ensures.1)
+
+pub returns-then-row-eq0 : goal.returns-then-row-eq0
+returns-then-row-eq0 c =
+    let s = c.before.before.before.before.before.before in (next-root (placement_of s.args.standing) s.args.rows.now s.args.row (sym c.is_definition.ensures ∙ c.if-is_definition.false) c.if-row-eq0.true, s.requires.0.small.4)
+
+pub led-requires : goal.led-requires
+led-requires c =
+    let s = c.before.before.before.before.before.before in (s.requires.0, part-inside s.args.rows.now s.requires.0.tree s.args.row 5 _ s.requires.1 (omega arith) c.link-to.ensures)
+
+pub returns : goal.returns
+returns c =
+    let s = c.before.before.before.before.before.before.before in (c.led.ensures.0 ∙ next-other (placement_of s.args.standing) s.args.rows.now s.args.row _ (sym c.is_definition.ensures ∙ c.if-is_definition.false) c.if-row-eq0.false c.link-to.ensures, c.led.ensures.1)

@@ -18,7 +18,7 @@ use Rattle.machine_operations.specs.Bounds.{bounds_from, layout_from}
 use Rattle.machine.proofs.Bounds.{layout-again, bounds-again}
 use Rattle.flat.specs.Lines.{copy, minus, operate, fetch, put, FlatLine, does, jump, jump_zero, jump_other, abort, run_from}
 use Rattle.flat.specs.Words.{line_parts, line_count, field_at, operation_at, kind_of, left_constant, line_at, lines_of, Written}
-use Rattle.flat.proofs.WordsLaws.{is_number, kind-small, kind-back, left_Back, operation-small, operation-back, written-line}
+use Rattle.flat.proofs.WordsLaws.{is_number, kind-small, kind-back, left_back, operation-small, operation-back, written-line}
 use Rattle.flat.specs.Refusal.{lands_inside}
 use Rattle.flat.specs.Legal.{Within, LegalFlat}
 use Rattle.flat.proofs.Accepts.{LineKind, copies, fetches, negates, operates, puts, jumps_at_zero, jumps_otherwise, jumps, aborts, lands-distance}
@@ -91,7 +91,7 @@ module _ (header list : List ℤ) (legal : LegalFlat header list) (words : ℕ) 
     small_is = omega (arith, operation-back written, operation-small (line_parts i x) (kind-small i x))
 
     left_is : kind_of (operation_at list i) ≡ 3 → left_constant (operation_at list i) ≡ false
-    left_is k = ap left_constant (operation-back written) ∙ left_Back (line_parts i x) (kind-small i x) ∙ array-left-is i x (sym kind_is ∙ k)
+    left_is k = ap left_constant (operation-back written) ∙ left_back (line_parts i x) (kind-small i x) ∙ array-left-is i x (sym kind_is ∙ k)
 
     lands-is : lands_inside i (line_count list) (field_at list i 4) ≡ true
     lands-is = ap (lands_inside i (line_count list)) written.distance_word ∙ line-lands i (line_count list) h (numbers_of Kernel header) x (legal.lines i h).within

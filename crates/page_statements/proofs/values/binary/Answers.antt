@@ -1,0 +1,34 @@
+-- `binary`: the first blank parts the operator from the second operand.
+use mathlib.Core.Path.{ap₂, ap, ◌∙◌}
+use Rattle.page_words.specs.Reads.{binary_of, operator_read, atom_read}
+use mathlib.Core.Path.{sym, ap, ap₂, ◌∙◌}
+use native.Mathlib.Omega.{arith}
+use Rattle.words.specs.OverLaws.{rest_of}
+use Rattle.page_words.specs.Reads.{operator_read, atom_read, binary_of}
+use Rattle.page_words.proofs.Parts.{piece-within, binary-unparted, binary-parted}
+use borrow.Author.Rules.{rules}
+use Rattle.page_statements.proofs.values.binary.Goals as goal
+
+pub returns-then-end-rest : goal.returns-then-end-rest
+returns-then-end-rest c =
+    binary-unparted c.args.names c.args.first.now c.args.rest.now c.piece_end-end.result c.piece_end-end.ensures c.if-end-rest.true
+
+pub overflow_add-next : goal.overflow_add-next
+overflow_add-next c =
+    omega (arith, piece-within 32 c.args.rest.now c.piece_end-end.result c.piece_end-end.ensures)
+
+pub slice_bounds-operator-end : goal.slice_bounds-operator-end
+slice_bounds-operator-end c =
+    piece-within 32 c.args.rest.now c.piece_end-end.result c.piece_end-end.ensures
+
+pub slice_bounds-atom-count : goal.slice_bounds-atom-count
+slice_bounds-atom-count c =
+    let f = c.if-end-rest.false in omega (arith, piece-within 32 c.args.rest.now c.piece_end-end.result c.piece_end-end.ensures)
+
+pub slice_bounds-atom-start : goal.slice_bounds-atom-start
+slice_bounds-atom-start c =
+    let f = c.if-end-rest.false in omega (arith, piece-within 32 c.args.rest.now c.piece_end-end.result c.piece_end-end.ensures)
+
+pub returns : goal.returns
+returns c =
+    c.binary_of.ensures ∙ rw (c.operator-operation.ensures, c.atom-left.ensures, c.atom-right.ensures) (binary-parted c.args.names c.args.first.now c.args.rest.now c.piece_end-end.result c.piece_end-end.ensures c.if-end-rest.false)

@@ -28,7 +28,7 @@ use Rattle.measures_table.specs.Parts.{called_in}
 use Rattle.measures_table.specs.Measures.{limited, past_labels, default_place, rows_slot, levels_slot, dropped_rows_slot, dropped_levels_slot, rows_for, levels_for, statement_rows_slot, statement_levels_slot, statement_labels_slot, list_rows_slot, list_levels_slot, list_labels_slot, list_cases_slot, list_default_slot, arms_rows_slot, arms_levels_slot, arms_labels_slot, slot_at, test_slots, MeasuredFrom, StatementMeasured, ListMeasured, ArmsMeasured, mark_measures, statement_measures, plain_measures, no_measures, around_arms, express_measures, block_measures, if_measures, loop_measures, switch_measures, guarded_measures, rounds_measures, declare_measures, return_measures, arm_measures}
 use Rattle.measures_table.specs.declared.StatementMeasures.{StatementMeasures}
 use Rattle.measures_table.specs.declared.ListMeasures.{ListMeasures}
-use Rattle.measures_table.specs.MeasureLaws.{part-rows, part-levels, list-rows, list-levels, list-labels, List-cases, list-default, arms-rows, arms-levels, arms-labels, body-rows, body-levels, body-labels}
+use Rattle.measures_table.specs.MeasureLaws.{part-rows, part-levels, list-rows, list-levels, list-labels, list_cases, list-default, arms-rows, arms-levels, arms-labels, body-rows, body-levels, body-labels}
 use Rattle.measures_expressions.proofs.ExpressionLaws.{limited-max, limited-twice}
 
 small : (n : ℕ) → n ≤ 2 → n ≡ limited n
@@ -198,7 +198,7 @@ module _ {rows : List ℤ} {table : List ℕ} {row : ℕ} (m : MeasuredFrom rows
       })
     where
       switch-rows : (e list : ℕ) → Onward rows row e → OptionalOnward rows row list → (switch_measures table held e list).rows ≡ limited (2 + expression_size (called_in rows) (expression_at rows e) wanted + 11 * cases (list_at rows list) + items_size (called_in rows) (list_at rows list))
-      switch-rows e list a b = selected _ _ _ _ _ _ (some_rows wanted e a) (List-cases rows table m list b) (list-rows rows table m list b)
+      switch-rows e list a b = selected _ _ _ _ _ _ (some_rows wanted e a) (list_cases rows table m list b) (list-rows rows table m list b)
 
   pub guarded-measured : {arms : ℕ} {r : StatementMeasures} → StatementAt rows row (GuardedIf arms) → r ≡ guarded_measures table 2 1 arms → StatementMeasured (called_in rows) (statement_at rows row) r
   unfolding statement_size statement_levels labels
@@ -265,7 +265,7 @@ module _ {rows : List ℤ} {table : List ℕ} {row : ℕ} (m : MeasuredFrom rows
     rows_are = omega (arith, list-rows rows table m next o);
     levels_are = list-levels rows table m next o;
     labels_are = omega (arith, list-labels rows table m next o);
-    cases_are = rw c (omega (arith, List-cases rows table m next o));
+    cases_are = rw c (omega (arith, list_cases rows table m next o));
     default_is = d;
   })
 
@@ -292,7 +292,7 @@ module _ {rows : List ℤ} {table : List ℕ} {row : ℕ} (m : MeasuredFrom rows
       rows_are = sum s.rows (slot_at table next list_rows_slot) _ _ sm.rows_are (list-rows rows table m next f.onward);
       levels_are = ap₂ max sm.levels_are (list-levels rows table m next f.onward) ∙ sym (limited-max _ _);
       labels_are = sum s.labels (slot_at table next list_labels_slot) _ _ sm.labels_are (list-labels rows table m next f.onward);
-      cases_are = List-cases rows table m next f.onward;
+      cases_are = list_cases rows table m next f.onward;
       default_is = limited-past s.labels next _ f.onward refl ∙ more (labels (statement_at rows row)) s.labels sm.labels_are (default_place (list_at rows next));
     })
 
@@ -303,7 +303,7 @@ module _ {rows : List ℤ} {table : List ℕ} {row : ℕ} (m : MeasuredFrom rows
       rows_are = omega (arith, list-rows rows table m next f.onward);
       levels_are = omega (arith, list-levels rows table m next f.onward);
       labels_are = omega (arith, list-labels rows table m next f.onward);
-      cases_are = List-cases rows table m next f.onward;
+      cases_are = list_cases rows table m next f.onward;
       default_is = limited-past 0 next _ f.onward refl ∙ ap limited (past-nothing (default_place (list_at rows next)));
     })
 

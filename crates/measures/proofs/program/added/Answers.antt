@@ -1,0 +1,7 @@
+-- The sums of two measures.
+use Rattle.measures.proofs.StatementLaws.{same-three}
+use borrow.Author.Rules.{rules}
+use Rattle.measures.proofs.program.added.Goals as goal
+
+pub returns : goal.returns
+returns c = same-three c.limited.ensures c.limited-2.ensures c.limited-3.ensures

@@ -1,0 +1,23 @@
+-- `lay_parameter`: piece by piece.
+use native.Mathlib.Omega.{arith}
+use lib.ListN.{length-append}
+use Rattle.page.specs.Page.{name}
+use Rattle.page_line.specs.LaidLaws.{laid_next}
+use borrow.Author.Rules.{rules}
+use Rattle.page_line.proofs.functions.lay_parameter.Goals as goal
+
+pub lay_bytes-start-requires : goal.lay_bytes-start-requires
+lay_bytes-start-requires c =
+    omega (arith, c.requires)
+
+pub lay_name-end-requires : goal.lay_name-end-requires
+lay_name-end-requires c =
+    omega (arith, length-append (name c.args.sizes c.args.word) c.args.ending.now, c.requires)
+
+pub lay_bytes-requires : goal.lay_bytes-requires
+lay_bytes-requires c =
+    omega (arith, length-append (name c.args.sizes c.args.word) c.args.ending.now, c.requires)
+
+pub returns : goal.returns
+returns c =
+    laid_next c.lay_bytes-start.ensures (laid_next c.lay_name-end.ensures c.lay_bytes.ensures)

@@ -9,7 +9,7 @@ use Rattle.page.specs.Lines.{PageLine, Indented, indented, plain, read_lines}
 use Rattle.page.specs.Page.{lines_bytes}
 use Rattle.page.specs.Reading.{read_page}
 use Rattle.page.proofs.ReadBack.{lines-read-page}
-use Rattle.page.proofs.Fits.{All-none, All-more}
+use Rattle.page.proofs.Fits.{all_none, all_more}
 use Rattle.page.proofs.Fits as page-fits
 use Rattle.page_words.specs.Trees.{Within, line_tree, Named, Declares, line-fits}
 use Rattle.page_words.specs.declared.Names.{Names}
@@ -38,12 +38,12 @@ plain-levels sizes (line ∷ lines) around b = after (λ a. plain-levels sizes l
 module _ (names : Names) (few_variables : names.variables ≤ 256) (few_behind : names.declared + names.temporaries ≤ 8256) (few_arrays : names.arrays ≤ 32) (sizes : Sizes) (within : Within sizes names) where
   levels-fit : (lines : List LineContent) (around : Open) → AllFit names lines → page-fits.AllFit (Named sizes names within) names.arrays (Declares sizes names within) (levels sizes lines around)
   unfolding AllFit levels
-  levels-fit [] around h = All-none
-  levels-fit (line ∷ lines) around h = All-more (line-fits sizes names within line h.0) (after (λ a. levels-fit lines a h.1) (behind line around))
+  levels-fit [] around h = all_none
+  levels-fit (line ∷ lines) around h = all_more (line-fits sizes names within line h.0) (after (λ a. levels-fit lines a h.1) (behind line around))
     where
       after : ((a : Open) → page-fits.AllFit (Named sizes names within) names.arrays (Declares sizes names within) (levels sizes lines a)) → (o : Option Open)
           → page-fits.AllFit (Named sizes names within) names.arrays (Declares sizes names within) (onward [] (λ a. levels sizes lines a) o)
-      after ih none = All-none
+      after ih none = all_none
       after ih (some a) = ih a
 
   -- What page/Reading and page/Lines read, and the rows that were counted.

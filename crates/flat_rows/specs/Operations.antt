@@ -63,7 +63,7 @@ assigned-atom : (i : ℕ) {e : Expression} → IsAtom e → assigned i e ≡ cop
 assigned-atom i constant-atom = refl
 assigned-atom i variable_atom = refl
 
-five-of : (p : Parts) (o : ℕ) (t l r d : ℤ) → o ≡ operation_number p → t ≡ pos p.target → l ≡ word_of p.left → r ≡ word_of p.right → d ≡ p.distance-is → pos o ∷ t ∷ l ∷ r ∷ d ∷ [] ≡ five_words p
+five-of : (p : Parts) (o : ℕ) (t l r d : ℤ) → o ≡ operation_number p → t ≡ pos p.target → l ≡ word_of p.left → r ≡ word_of p.right → d ≡ p.distance_is → pos o ∷ t ∷ l ∷ r ∷ d ∷ [] ≡ five_words p
 five-of p o t l r d a b c e f = rw (a, b, c, e, f)
 
 -- The words of a test and of a jump.

@@ -1,0 +1,9 @@
+-- variable := - atom: the rows up to its operand are all.
+use Rattle.writers_rows.proofs.Words.{worded, minus-words}
+use borrow.Author.Rules.{rules}
+use Rattle.writers_rows.proofs.assignments.put_minus.Goals as goal
+
+pub returns : goal.returns
+returns c =
+    let start = c.before.before.before in
+    worded _ _ _ _ c.put_operand.ensures (minus-words start.args.base start.args.follows start.args.number start.args.operand)

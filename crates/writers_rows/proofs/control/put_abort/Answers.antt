@@ -1,0 +1,9 @@
+-- An abort is an item of one row.
+use Rattle.writers_rows.proofs.Words.{worded, abort-words}
+use borrow.Author.Rules.{rules}
+use Rattle.writers_rows.proofs.control.put_abort.Goals as goal
+
+pub returns : goal.returns
+returns c =
+    let start = c.before.before.before in
+    worded _ _ _ _ c.put_item.ensures (abort-words start.args.base start.args.follows)

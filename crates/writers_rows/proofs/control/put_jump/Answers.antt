@@ -1,0 +1,15 @@
+-- The end of a case's test: an if, a block of a goto, and an empty block.
+use mathlib.Core.Path.{refl}
+use Rattle.writers_rows.specs.declared.KernelAtom.TheVariants.{Variable}
+use Rattle.writers_rows.specs.Chain.{put_next, reworded}
+use Rattle.writers_rows.proofs.Words.{rows-put, if-put, jump-words}
+use borrow.Author.Rules.{rules}
+use Rattle.writers_rows.proofs.control.put_jump.Goals as goal
+
+pub returns : goal.returns
+returns c =
+    let start = c.before.before.before.before.before.before.before.before.before in
+    let test = if-put _ _ _ _ _ (Variable start.args.number) c.put_if.ensures in
+    let on-true = rows-put 2 _ _ _ c.put_goto_block.ensures refl in
+    let on-false = rows-put 1 _ _ _ c.put_block.ensures refl in
+    reworded _ (put_next (put_next test on-true) on-false) (jump-words start.args.number start.args.target start.args.base)

@@ -1,0 +1,9 @@
+-- A label is an item of one row.
+use Rattle.writers_rows.proofs.Words.{worded, label-words}
+use borrow.Author.Rules.{rules}
+use Rattle.writers_rows.proofs.control.put_label.Goals as goal
+
+pub returns : goal.returns
+returns c =
+    let start = c.before.before.before in
+    worded _ _ _ _ c.put_item.ensures (label-words start.args.base start.args.follows start.args.number)

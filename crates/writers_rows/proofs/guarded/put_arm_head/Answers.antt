@@ -1,0 +1,11 @@
+-- The if with its atom, and the row of a block.
+use mathlib.Core.Path.{refl}
+use Rattle.writers_rows.specs.Chain.{put_next}
+use Rattle.writers_rows.proofs.Words.{rows-put, if-put}
+use borrow.Author.Rules.{rules}
+use Rattle.writers_rows.proofs.guarded.put_arm_head.Goals as goal
+
+pub returns : goal.returns
+returns c =
+    let start = c.before.before.before.before.before.before in
+    (put_next (if-put _ _ _ _ _ start.args.guard c.put_if.ensures) (rows-put 1 _ _ _ c.put_block.ensures refl)).table

@@ -1,0 +1,9 @@
+-- Whether anything stands behind.
+use mathlib.Core.Path.{sym}
+use native.Mathlib.Omega.{arith}
+use Rattle.writers_rows.specs.Chain.{more-some}
+use borrow.Author.Rules.{rules}
+use Rattle.writers_rows.proofs.rows.more.Goals as goal
+
+pub returns : goal.returns
+returns c = sym (more-some _ c.args.rows (omega arith))

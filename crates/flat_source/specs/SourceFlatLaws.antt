@@ -110,7 +110,7 @@ module _ (header rows : List ℤ) (accepted : source_refusal header rows ≡ Acc
     shared = record {
       end-together = (forth, back);
       same_ending = λ b d s t. let k = first.end-together.0 (record { budget = b; ends = s }) in second.same_ending k.budget d k.ends t ∙ first.same_ending b k.budget s k.ends;
-      same-cells = λ b d s t. let k = first.end-together.0 (record { budget = b; ends = s }) in ap (take (store_size (layout_of Source header))) (second.same_Store k.budget d k.ends t) ∙ first.same-cells b k.budget s k.ends;
+      same-cells = λ b d s t. let k = first.end-together.0 (record { budget = b; ends = s }) in ap (take (store_size (layout_of Source header))) (second.same_store k.budget d k.ends t) ∙ first.same-cells b k.budget s k.ends;
     }
       where
         forth : SourceEnds header rows K (flattened R) store declared flatDeclared temporaryWords → FlatEnds header rows K (flattened R) store declared flatDeclared temporaryWords

@@ -1,0 +1,13 @@
+-- `shut_item`, by what the line stands among.
+use native.Mathlib.Omega.{arith}
+use borrow.Author.Rules.{rules}
+use Rattle.page_scan.proofs.blocks.shut_item.Goals as goal
+
+pub returns-in-Items : goal.returns-in-Items
+returns-in-Items c = record { around_after = rw c.in-Items.is c.shut.ensures.around_after; result_bound = c.shut.ensures.result_bound }
+
+pub returns-in-Arguments : goal.returns-in-Arguments
+returns-in-Arguments c = record { around_after = rw c.in-Arguments.is; result_bound = (omega arith, c.requires.1) }
+
+pub returns-in-Parameters : goal.returns-in-Parameters
+returns-in-Parameters c = record { around_after = rw c.in-Parameters.is; result_bound = (omega arith, c.requires.1) }

@@ -481,7 +481,7 @@ module _ (bounds : Bounds) (rows other : List ℤ) (s : Structured Kernel bounds
           let rest : list_at rows (link rows row 5) ≡ list_at other (link other that 5) = cc in
           fields k i refl refl refl refl (λ g. w) (λ c. absurd (let z : ◌≡◌ {A = ℕ} 0 1 = cc in omega arith))
           (no-link k i 1 refl) (taken-child (link rows row 2) (link other that 2) (parameters-at bounds rows s row n k) (parameters-at bounds other t that m i) words)
-          (body-child k i (one.body-is ∙ ap block inner ∙ sym two.body-is)) (no-link k i 4 refl) (next-child f g rest)
+          (body-child k i (one.body_is ∙ ap block inner ∙ sym two.body_is)) (no-link k i 4 refl) (next-child f g rest)
 
       -- of two rows with the same tree neither is a label or a definition where the other is not
       item-same : Same row that

@@ -2,6 +2,7 @@
 ghost use Rattle.std.specs.Prelude.{◌≤◌};
 
 use super::verdict::check_table;
+use std::io;
 use words::Form;
 
 // A number as a word; 0 for one that is none.
@@ -73,34 +74,35 @@ fn leading(form: Form) -> usize
     }
 }
 
-fn check_rows(form: Form, rows: &[i32], count: usize) {
+fn check_rows(rt: &impl Print, form: Form, rows: &[i32], count: usize) -> io::Result<()> {
     let header = [0i32; 3];
     let words = leading(form);
     if count < 65536 {
         if 6 * count <= rows.len() {
-            check_table(form, &header[..words], &rows[..6 * count]);
+            return check_table(rt, form, &header[..words], &rows[..6 * count]);
         }
     }
+    Ok(())
 }
 
 // A table of depth `count`.
-pub fn check_nested(form: Form, count: usize) {
+pub fn check_nested(rt: &impl Print, form: Form, count: usize) -> io::Result<()> {
     let mut rows = [0i32; 245880];
     put_blocks(&mut rows, count);
-    check_rows(form, &rows, count);
+    check_rows(rt, form, &rows, count)
 }
 
 // A table with one list of all its other rows.
-pub fn check_list(count: usize) {
+pub fn check_list(rt: &impl Print, count: usize) -> io::Result<()> {
     let mut rows = [0i32; 12294];
     put(&mut rows, 0, 42, 1, 0);
     put_list(&mut rows, 40, 1, before(count), 0);
-    check_rows(Form::Source, &rows, count);
+    check_rows(rt, Form::Source, &rows, count)
 }
 
 // A table that is one switch, over the constant of row 2, of the cases from row 3 on; the last has the value of the case at position
 // `last`.
-pub fn check_switch(distance: usize, last: usize) {
+pub fn check_switch(rt: &impl Print, distance: usize, last: usize) -> io::Result<()> {
     let mut rows = [0i32; 12288];
     put(&mut rows, 0, 42, 1, 0);
     put(&mut rows, 1, 47, 2, 0);
@@ -108,27 +110,27 @@ pub fn check_switch(distance: usize, last: usize) {
     put(&mut rows, 2, 1, 0, 0);
     put_list(&mut rows, 48, 3, 2047, distance);
     put(&mut rows, 2047, 48, spread(last, distance), 0);
-    check_rows(Form::Source, &rows, 2048);
+    check_rows(rt, Form::Source, &rows, 2048)
 }
 
 // A kernel table of nested blocks, in the innermost a list of gotos at the given depth, their labels in the outermost.
-pub fn check_gotos(depth: usize) {
+pub fn check_gotos(rt: &impl Print, depth: usize) -> io::Result<()> {
     let mut rows = [0i32; 245880];
     put_blocks(&mut rows, depth);
     put(&mut rows, 1, 42, 2, 20700);
     put_list(&mut rows, 52, before(depth), 20699, 1);
     put_list(&mut rows, 53, 20700, 40979, 1);
-    check_rows(Form::Kernel, &rows, 40980);
+    check_rows(rt, Form::Kernel, &rows, 40980)
 }
 
 // Rows that are all 0, one more than the kernel form may have.
-pub fn check_many() {
+pub fn check_many(rt: &impl Print) -> io::Result<()> {
     let rows = [0i32; 245886];
-    check_rows(Form::Kernel, &rows, 40981);
+    check_rows(rt, Form::Kernel, &rows, 40981)
 }
 
 // An empty block, and no header word.
-pub fn check_no_header() {
+pub fn check_no_header(rt: &impl Print) -> io::Result<()> {
     let none = [0i32; 1];
-    check_table(Form::Source, &none[..0], &[42, 0, 0, 0, 0, 0]);
+    check_table(rt, Form::Source, &none[..0], &[42, 0, 0, 0, 0, 0])
 }

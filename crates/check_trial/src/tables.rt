@@ -1,8 +1,10 @@
 // The tables of a text: a line with a title, whose first byte is the form, s or k; a line with the header; a line for each row.
-ghost use Rattle.std.specs.Prelude.{◌<◌, ◌≤◌, length};
+ghost use Rattle.std.specs.Prelude.{◌<◌, ◌≤◌, IfOk, length};
 
 use super::number::numbers;
 use super::verdict;
+use console::write_all;
+use std::io;
 use words::Form;
 
 // The position behind the first such byte from `start` on, or the end.
@@ -28,36 +30,45 @@ fn form_of(letter: u8) -> Form {
 }
 
 // Checks the table with this header and these rows; the slices lend room for the words.
-fn check_words(form: Form, heading: &[u8], body: &[u8], header: &mut [i32], rows: &mut [i32]) {
+fn check_words(
+    rt: &impl Print,
+    form: Form,
+    heading: &[u8],
+    body: &[u8],
+    header: &mut [i32],
+    rows: &mut [i32],
+) -> io::Result<()> {
     let h = numbers(heading, header);
     let r = numbers(body, rows);
-    verdict::check_table(form, &header[..h], &rows[..r]);
+    verdict::check_table(rt, form, &header[..h], &rows[..r])
 }
 
 // Checks the table of at most 200 rows whose title begins at `start`, and answers where the next title begins. Titles end in a newline, tables in a #.
-fn check_table(text: &[u8], start: usize) -> usize
+fn check_table(rt: &impl Print, text: &[u8], start: usize) -> io::Result<usize>
     requires { start < length text.now }
-    ensures { (start < result) × (result ≤ length text.now) }
+    ensures { IfOk result (λ end. (start < end) × (end ≤ length text.now)) }
 {
     let title = behind(text, start, b'\n');
     let line = behind(text, title, b'\n');
     let end = behind(text, line, b'#');
-    io::write_all(1, &text[start..title]);
+    write_all(rt, &text[start..title])?;
     let mut header = [0i32; 64];
     let mut rows = [0i32; 1200];
     check_words(
+        rt,
         form_of(text[start]),
         &text[title..line],
         &text[line..end],
         &mut header,
         &mut rows,
-    );
-    end
+    )?;
+    Ok(end)
 }
 
-pub fn check_all(text: &[u8]) {
+pub fn check_all(rt: &impl Print, text: &[u8]) -> io::Result<()> {
     let mut at: usize = 0;
     while at < text.len() {
-        at = check_table(text, at);
+        at = check_table(rt, text, at)?;
     }
+    Ok(())
 }

@@ -1,24 +1,24 @@
 // Checks a table, and writes what the check answers: accepted, or refused with its number and place.
+use console::{print_decimal, write_all};
+use std::io;
 use words::{Form, Verdict};
 
-fn write(verdict: Verdict) {
+fn write(rt: &impl Print, verdict: Verdict) -> io::Result<()> {
     match verdict {
-        Verdict::Accepted => {
-            io::write_all(1, b"accepted\n");
-        }
+        Verdict::Accepted => write_all(rt, b"accepted\n"),
         Verdict::Refused(refusal) => {
-            io::write_all(1, b"refused ");
-            io::print_decimal(1, refusal.number as u64);
-            io::write_all(1, b" ");
-            io::print_decimal(1, refusal.place as u64);
-            io::write_all(1, b"\n");
+            write_all(rt, b"refused ")?;
+            print_decimal(rt, refusal.number as u64)?;
+            write_all(rt, b" ")?;
+            print_decimal(rt, refusal.place as u64)?;
+            write_all(rt, b"\n")
         }
     }
 }
 
-pub fn check_table(form: Form, header: &[i32], rows: &[i32]) {
+pub fn check_table(rt: &impl Print, form: Form, header: &[i32], rows: &[i32]) -> io::Result<()> {
     match form {
-        Form::Source => write(check_source::check(header, rows)),
-        Form::Kernel => write(check_kernel::check(header, rows)),
+        Form::Source => write(rt, check_source::check(header, rows)),
+        Form::Kernel => write(rt, check_kernel::check(header, rows)),
     }
 }

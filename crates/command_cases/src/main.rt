@@ -7,7 +7,7 @@
 mod arguments; // arguments.rt: the words of a line of arguments
 mod stream; // stream.rt: where the parts of a case stand
 
-ghost use Rattle.std.specs.Prelude.{◌≤◌, ◌<◌, length};
+ghost use Rattle.std.specs.Prelude.{◌≤◌, ◌<◌, IfOk, length};
 ghost use Rattle.words.specs.declared.Form.TheVariants.{Kernel};
 ghost use Rattle.command_request.specs.Inputs.{bytes_read};
 ghost use Rattle.command_text.specs.Texts.{Roomy, output_room};
@@ -18,7 +18,8 @@ use command_answer::answer::inputs_answer;
 use command_program::buffers::{header_table, output_buffer, row_table};
 use command_request::Input;
 use command_request::request::{Request, reads_store, reads_text, request_of};
-use libc::{STDIN_FILENO, STDOUT_FILENO};
+use console::{read_full, write_all};
+use std::io;
 
 // What is read where something is wanted: all of the bytes.
 fn input_of(wanted: bool, bytes: &[u8]) -> Input
@@ -31,13 +32,14 @@ fn input_of(wanted: bool, bytes: &[u8]) -> Input
 }
 
 fn answer_request(
+    rt: &impl Print,
     request: Request,
     stored: &[u8],
     text: &[u8],
     header: &mut [i32],
     rows: &mut [i32],
     out: &mut [u8],
-)
+) -> io::Result<()>
     requires roomy { Roomy Kernel header.old rows.old }
     requires output_room_in_bounds { output_room ≤ length out.old }
 {
@@ -53,7 +55,7 @@ fn answer_request(
         rows,
         out,
     );
-    io::write_all(STDOUT_FILENO, &out[..bytes]);
+    write_all(rt, &out[..bytes])
 }
 
 fn request_from(line: &[u8]) -> Request {
@@ -65,49 +67,58 @@ fn request_from(line: &[u8]) -> Request {
 
 // Answers the case at `start`, and tells where the next one begins.
 fn answer_case(
+    rt: &impl Print,
     input: &[u8],
     start: usize,
     header: &mut [i32],
     rows: &mut [i32],
     out: &mut [u8],
-) -> usize
+) -> io::Result<usize>
     requires start_in_bounds { start < length input.now }
     requires roomy { Roomy Kernel header.old rows.old }
     requires output_room_in_bounds { output_room ≤ length out.old }
-    ensures { (start < result) × (result ≤ length input.now) }
+    ensures { IfOk result (λ next. (start < next) × (next ≤ length input.now)) }
 {
     let line = find(input, start, b'\n');
     let store = behind(input, start, b'\n');
     let store_end = find(input, store, b'%');
     let text = behind(input, store_end, b'\n');
     let text_end = find(input, text, b'#');
-    io::write_all(STDOUT_FILENO, &input[start..text]);
+    write_all(rt, &input[start..text])?;
     answer_request(
+        rt,
         request_from(&input[start..line]),
         &input[store..store_end],
         &input[text..text_end],
         header,
         rows,
         out,
-    );
-    behind(input, text_end, b'\n')
+    )?;
+    Ok(behind(input, text_end, b'\n'))
 }
 
-fn answer_cases(input: &[u8], header: &mut [i32], rows: &mut [i32], out: &mut [u8])
+fn answer_cases(
+    rt: &impl Print,
+    input: &[u8],
+    header: &mut [i32],
+    rows: &mut [i32],
+    out: &mut [u8],
+) -> io::Result<()>
     requires roomy { Roomy Kernel header.old rows.old }
     requires output_room_in_bounds { output_room ≤ length out.old }
 {
     let mut at: usize = 0;
     while at < input.len() {
-        at = answer_case(input, at, header, rows, out);
+        at = answer_case(rt, input, at, header, rows, out)?;
     }
+    Ok(())
 }
 
-fn main() {
+fn main(rt: HostRuntime) -> io::Result<()> {
     let mut input = [0u8; 262144];
-    let filled = io::read_full(STDIN_FILENO, &mut input);
+    let filled = read_full(&rt, &mut input)?;
     let mut header = header_table();
     let mut rows = row_table();
     let mut out = output_buffer();
-    answer_cases(&input[..filled], &mut header, &mut rows, &mut out);
+    answer_cases(&rt, &input[..filled], &mut header, &mut rows, &mut out)
 }

@@ -1,11 +1,10 @@
 -- Files: what came of reading a file that was opened.
-use Rattle.std.specs.Prelude.{◌≡◌, true, ℕ, ℤ, pos}
-use Rattle.std.specs.Int.Signed.{lt_z}
+use Rattle.std.specs.Prelude.{◌≡◌, Bool, true, false, ℕ}
 use Rattle.command_request.specs.Inputs.{Fetched}
 use Rattle.command_request.specs.declared.Input.{Input}
 use Rattle.command_request.specs.declared.Input.TheVariants.{Unreadable}
 
--- What a descriptor gives; a negative one says that the file could not be opened.
-pub record Opened (descriptor : ℤ) (input : Input) (room : ℕ) : Type 0 where
+-- What opening a file gives: something to read it by, or nothing, where it could not be opened.
+pub record Opened (is_opened : Bool) (input : Input) (room : ℕ) : Type 0 where
   pub fetched : Fetched true input room
-  pub unopened : lt_z descriptor (pos 0) ≡ true → input ≡ Unreadable
+  pub unopened : is_opened ≡ false → input ≡ Unreadable

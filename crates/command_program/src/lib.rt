@@ -1,10 +1,10 @@
 // The command: reads the arguments, standard input and the file that is named, has `command_answer` put the bytes together, and writes them to
-// standard output. What is read and written is C's to say; all that this crate makes of it is in the contracts.
+// standard output. What is read and written is the system's to say; all that this crate makes of it is in the contracts.
 #![tactic(auto)]
 
 pub mod buffers; // buffers.rt: the tables and buffers that a request is answered in
 
-ghost use Rattle.std.specs.Prelude.{◌≡◌, ◌-◌, ◌≤◌, length};
+ghost use Rattle.std.specs.Prelude.{◌≡◌, ◌-◌, ◌≤◌, IfOk, length};
 ghost use Rattle.words.specs.declared.Form.TheVariants.{Kernel};
 ghost use Rattle.command_text.specs.Texts.{Roomy, output_room};
 ghost use Rattle.command_program.specs.Responses.{Responds, Answered};
@@ -14,7 +14,9 @@ use command_answer::answer::inputs_answer;
 use command_files::{read_file, read_text};
 use command_request::Input;
 use command_request::request::{Request, file_argument, reads_store, request_of};
-use libc::STDOUT_FILENO;
+use console::{argument, argument_count, write_all};
+use std::io;
+use std::rt::{Env, Files};
 
 // What was read for a request, and how many bytes are printed for it.
 #[derive(Clone, Copy)]
@@ -27,6 +29,7 @@ pub struct Response {
 // Reads what the request is about, and puts its answer at the start of `out`. The tables are lent to work in; what stands in them after
 // it is free.
 fn respond_in(
+    rt: &(impl io::Input + Env + Files),
     request: Request,
     text: &mut [u8],
     stored: &mut [u8],
@@ -38,8 +41,8 @@ fn respond_in(
     requires output_room_in_bounds { output_room ≤ length out.old }
     ensures { Responds request result text.new stored.new out.old out.new }
 {
-    let text_input = read_text(request, text);
-    let store_input = read_file(reads_store(request), file_argument(request), stored);
+    let text_input = read_text(rt, request, text);
+    let store_input = read_file(rt, reads_store(request), file_argument(request), stored);
     let bytes = inputs_answer(
         request,
         text_input,
@@ -58,8 +61,8 @@ fn respond_in(
 }
 
 // Answers a request: everything that was put at the start of `out` is printed.
-fn respond(request: Request) -> Response
-    ensures { Answered request result }
+fn respond(rt: &(impl io::Input + Env + Files + Print), request: Request) -> io::Result<Response>
+    ensures { IfOk result (λ response. Answered request response) }
 {
     let mut text = text_buffer();
     let mut stored = store_buffer();
@@ -67,6 +70,7 @@ fn respond(request: Request) -> Response
     let mut rows = row_table();
     let mut out = output_buffer();
     let response = respond_in(
+        rt,
         request,
         &mut text,
         &mut stored,
@@ -75,8 +79,8 @@ fn respond(request: Request) -> Response
         &mut out,
     );
     let bytes = response.bytes;
-    io::write_all(STDOUT_FILENO, &out[..bytes]);
-    response
+    write_all(rt, &out[..bytes])?;
+    Ok(response)
 }
 
 // How many of a program's arguments stand behind its name.
@@ -90,11 +94,15 @@ fn behind_name(count: usize) -> usize
 }
 
 // The whole command.
-pub fn run_command() {
-    let mut first = io::buffer();
-    let first_bytes = os::arg(1, &mut first);
-    let mut second = io::buffer();
-    let second_bytes = os::arg(2, &mut second);
-    let count = behind_name(os::arg_count());
-    respond(request_of(count, &first[..first_bytes], &second[..second_bytes]));
+pub fn run_command(rt: &(impl io::Input + Env + Files + Print)) -> io::Result<()> {
+    let mut first = [0u8; 4096];
+    let first_bytes = argument(rt, 1, &mut first);
+    let mut second = [0u8; 4096];
+    let second_bytes = argument(rt, 2, &mut second);
+    let count = behind_name(argument_count(rt));
+    respond(
+        rt,
+        request_of(count, &first[..first_bytes], &second[..second_bytes]),
+    )?;
+    Ok(())
 }

@@ -6,13 +6,14 @@
 mod output; // output.rt: what is printed for an input
 
 use self::output::day;
-use libc::{STDIN_FILENO, STDOUT_FILENO};
+use console::{read_full, write_all};
+use std::io;
 
-fn main() {
+fn main(rt: HostRuntime) -> io::Result<()> {
     // No input of more than 93,221 bytes is accepted, and the first of them tell its refusal: docs/DECISIONS.md.
     let mut input = [0u8; 98304];
-    let length = io::read_full(STDIN_FILENO, &mut input);
+    let length = read_full(&rt, &mut input)?;
     let mut printed = [0u8; 310800];
     let size = day(&input[..length], &mut printed);
-    io::write_all(STDOUT_FILENO, &printed[..size]);
+    write_all(&rt, &printed[..size])
 }

@@ -8,15 +8,16 @@ use cases::lines::print_kernel_run;
 use clight::runs::{kernel_check, kernel_run};
 use clight::texts::{read_kernel, write_kernel};
 use clight::translate::translate;
-use libc::STDOUT_FILENO;
+use console::write_all;
+use std::io;
 use text_form::{ReadAnswer, WriteAnswer};
 use translator::TranslateAnswer;
 use words::layout::{header_store, store_size};
 use words::{Ending, Form, RunAnswer, RunVerdict, Verdict};
 use words_copying::put;
 
-fn print(text: &[u8]) {
-    io::write_all(STDOUT_FILENO, text);
+fn print(rt: &impl Print, text: &[u8]) -> io::Result<()> {
+    write_all(rt, text)
 }
 
 fn is_same(left: &[i32], right: &[i32]) -> bool {
@@ -34,28 +35,39 @@ fn is_same(left: &[i32], right: &[i32]) -> bool {
 }
 
 // Reads the text back, and says so where it gives other words.
-fn compare_text(header: &[i32], rows: &[i32], text: &[u8], read_rows: &mut [i32]) {
+fn compare_text(
+    rt: &impl Print,
+    header: &[i32],
+    rows: &[i32],
+    text: &[u8],
+    read_rows: &mut [i32],
+) -> io::Result<()> {
     let mut read_header = [0i32; 35];
     let answer = read_kernel(text, &mut read_header, read_rows);
     let ReadAnswer::Read(header_words, row_words) = answer else {
-        print(b"unequal\n");
-        return;
+        return print(rt, b"unequal\n");
     };
     if !is_same(header, &read_header[..header_words]) {
-        print(b"unequal\n");
-        return;
+        return print(rt, b"unequal\n");
     }
     if !is_same(rows, &read_rows[..row_words]) {
-        print(b"unequal\n");
+        return print(rt, b"unequal\n");
     }
+    Ok(())
 }
 
 // "Rows written and read give the same rows": prints nothing where that holds.
-fn try_text(header: &[i32], rows: &[i32], text: &mut [u8], read_rows: &mut [i32]) {
+fn try_text(
+    rt: &impl Print,
+    header: &[i32],
+    rows: &[i32],
+    text: &mut [u8],
+    read_rows: &mut [i32],
+) -> io::Result<()> {
     let answer = write_kernel(header, rows, text);
     match answer {
-        WriteAnswer::Refused(_) => print(b"unwritten\n"),
-        WriteAnswer::Written(n) => compare_text(header, rows, &text[..n], read_rows),
+        WriteAnswer::Refused(_) => print(rt, b"unwritten\n"),
+        WriteAnswer::Written(n) => compare_text(rt, header, rows, &text[..n], read_rows),
     }
 }
 
@@ -72,85 +84,95 @@ fn enough(rows: usize, count: u32) -> u32
 
 // Runs a kernel program on the store, of S+D+T words, whose first S+D are the source's start words, and prints the first `shown` words: S.
 fn run_from(
+    rt: &impl Print,
     header: &[i32],
     rows: &[i32],
     start: &[i32],
     store: &mut [i32],
     shown: usize,
     budget: u32,
-)
+) -> io::Result<()>
     requires { (shown ≤ 8256) × (shown ≤ length store.old) }
 {
     if store.len() < start.len() {
-        print(b"kernel-refused\n");
-        return;
+        return print(rt, b"kernel-refused\n");
     }
     put(start, store);
     let verdict = kernel_run(header, rows, store, budget);
     match verdict {
-        RunVerdict::Refused(_) => print(b"kernel-refused\n"),
+        RunVerdict::Refused(_) => print(rt, b"kernel-refused\n"),
         RunVerdict::Ran(answer) => {
             let ending = answer.ending;
-            print_kernel_run(ending, &store[..shown]);
+            print_kernel_run(rt, ending, &store[..shown])
         }
     }
 }
 
 // Runs a legal kernel program from the source's start words, with a budget that is enough. The temporaries begin with a word that is
 // not 0.
-fn run_translation(header: &[i32], rows: &[i32], start: &[i32], count: u32)
+fn run_translation(
+    rt: &impl Print,
+    header: &[i32],
+    rows: &[i32],
+    start: &[i32],
+    count: u32,
+) -> io::Result<()>
     requires { refusal_of Kernel header.now rows.now ≡ Accepted }
 {
     let mut store = [1234567891i32; 16448];
     let words = header_store(Form::Kernel, header);
     let shown = store_size(Form::Kernel, header);
     run_from(
+        rt,
         header,
         rows,
         start,
         &mut store[..words],
         shown,
         enough(rows.len() / 6, count),
-    );
+    )
 }
 
 // A legal kernel program: its text, and its run where the source's ended.
 fn answer_legal(
+    rt: &impl Print,
     header: &[i32],
     rows: &[i32],
     start: &[i32],
     source: RunAnswer,
     text: &mut [u8],
     read_rows: &mut [i32],
-)
+) -> io::Result<()>
     requires { refusal_of Kernel header.now rows.now ≡ Accepted }
 {
-    try_text(header, rows, text, read_rows);
+    try_text(rt, header, rows, text, read_rows)?;
     let ending = source.ending;
     match ending {
-        Ending::Spent => (),
-        Ending::Plain => run_translation(header, rows, start, source.count),
-        Ending::Fault(_) => run_translation(header, rows, start, source.count),
+        Ending::Spent => Ok(()),
+        Ending::Plain => run_translation(rt, header, rows, start, source.count),
+        Ending::Fault(_) => run_translation(rt, header, rows, start, source.count),
     }
 }
 
 fn answer_kernel(
+    rt: &impl Print,
     header: &[i32],
     rows: &[i32],
     start: &[i32],
     source: RunAnswer,
     text: &mut [u8],
     read_rows: &mut [i32],
-) {
+) -> io::Result<()> {
     let verdict = kernel_check(header, rows);
     match verdict {
-        Verdict::Refused(_) => print(b"illegal\n"),
-        Verdict::Accepted => answer_legal(header, rows, start, source, text, read_rows),
+        Verdict::Refused(_) => print(rt, b"illegal\n"),
+        Verdict::Accepted => answer_legal(rt, header, rows, start, source, text, read_rows),
     }
 }
 
 // Translates a program that ran from these start words with this answer, and tries its kernel form.
 pub fn answer_translation(
+    rt: &impl Print,
     header: &[i32],
     rows: &[i32],
     start: &[i32],
@@ -158,12 +180,13 @@ pub fn answer_translation(
     kernel_rows: &mut [i32],
     text: &mut [u8],
     read_rows: &mut [i32],
-) {
+) -> io::Result<()> {
     let mut kernel_header = [0i32; 35];
     let answer = translate(header, rows, &mut kernel_header, kernel_rows);
     match answer {
-        TranslateAnswer::Refused(_) => print(b"untranslated\n"),
+        TranslateAnswer::Refused(_) => print(rt, b"untranslated\n"),
         TranslateAnswer::Translated(header_words, row_words) => answer_kernel(
+            rt,
             &kernel_header[..header_words],
             &kernel_rows[..row_words],
             start,

@@ -9,105 +9,118 @@ mod kernel; // kernel.rt: the translation of a case's program: its form, its tex
 mod source; // source.rt: a case's program: read, checked and run
 mod stream; // stream.rt: where the cases stand in the input
 
-ghost use Rattle.std.specs.Prelude.{◌≤◌, length};
+ghost use Rattle.std.specs.Prelude.{◌≤◌, IfOk, length};
 
 use self::source::answer_text;
 use self::stream::{Found, find_case, keep_rest};
-use libc::{STDIN_FILENO, STDOUT_FILENO};
+use console::{read_full, write_all};
+use std::io;
 
 // Answers the case at the start of the input, and tells how many bytes it took: none where no whole case stands there.
 fn answer_case(
+    rt: &impl Print,
     input: &[u8],
     kernel_rows: &mut [i32],
     text: &mut [u8],
     read_rows: &mut [i32],
-) -> usize
-    ensures { result ≤ length input.now }
+) -> io::Result<usize>
+    ensures { IfOk result (λ used. used ≤ length input.now) }
 {
     let found = find_case(input);
     let Found::Whole(case) = found else {
-        return 0;
+        return Ok(0);
     };
     let words = case.words;
     let line = case.line;
     let end = case.end;
     answer_text(
+        rt,
         case.budget,
         &input[words..line],
         &input[line + 1..end],
         kernel_rows,
         text,
         read_rows,
-    );
-    end
+    )?;
+    Ok(end)
 }
 
 // Answers the whole cases of the input, and tells how many bytes they took.
 fn answer_cases(
+    rt: &impl Print,
     input: &[u8],
     kernel_rows: &mut [i32],
     text: &mut [u8],
     read_rows: &mut [i32],
-) -> usize
-    ensures { result ≤ length input.now }
+) -> io::Result<usize>
+    ensures { IfOk result (λ used. used ≤ length input.now) }
 {
     let mut at: usize = 0;
     while at < input.len() {
-        let used = answer_case(&input[at..], kernel_rows, text, read_rows);
+        let used = answer_case(rt, &input[at..], kernel_rows, text, read_rows)?;
         if used == 0 {
-            return at;
+            return Ok(at);
         }
         at += used;
     }
-    at
+    Ok(at)
 }
 
 // Answers the whole cases of the buffer's first `filled` bytes, and reads on behind what is left of them. Tells how many bytes the
 // buffer then holds: none at the end.
 fn answer_buffer(
+    rt: &(impl Input + Print),
     buffer: &mut [u8],
     filled: usize,
     kernel_rows: &mut [i32],
     text: &mut [u8],
     read_rows: &mut [i32],
-) -> usize
+) -> io::Result<usize>
     requires { filled ≤ length buffer.old }
-    ensures { result ≤ length buffer.old }
+    ensures { IfOk result (λ kept. kept ≤ length buffer.old) }
 {
-    let used = answer_cases(&buffer[..filled], kernel_rows, text, read_rows);
+    let used = answer_cases(rt, &buffer[..filled], kernel_rows, text, read_rows)?;
     if used == 0 {
-        io::write_all(STDOUT_FILENO, b"unread\n");
-        return 0;
+        write_all(rt, b"unread\n")?;
+        return Ok(0);
     }
     keep_rest(buffer, used, filled);
     let kept = filled - used;
-    kept + io::read_full(STDIN_FILENO, &mut buffer[kept..])
+    Ok(kept + read_full(rt, &mut buffer[kept..])?)
 }
 
 // Answers all cases of the input. Nothing says that the input ends, so the loop counts its turns down, from a number that no run
 // uses up.
 fn answer_input(
+    rt: &(impl Input + Print),
     buffer: &mut [u8],
     kernel_rows: &mut [i32],
     text: &mut [u8],
     read_rows: &mut [i32],
-) {
-    let mut filled = io::read_full(STDIN_FILENO, buffer);
+) -> io::Result<()> {
+    let mut filled = read_full(rt, buffer)?;
     let mut turns = u64::MAX;
     while turns > 0 {
         if filled == 0 {
-            return;
+            return Ok(());
         }
-        filled = answer_buffer(buffer, filled, kernel_rows, text, read_rows);
+        filled = answer_buffer(rt, buffer, filled, kernel_rows, text, read_rows)?;
         turns -= 1;
     }
+    Ok(())
 }
 
 // The largest kernel table has 40,980 rows.
-fn main() {
+fn main(rt: HostRuntime) -> io::Result<()> {
     let mut buffer = [0u8; 1048576];
     let mut kernel_rows = [0i32; 245880];
     let mut text = [0u8; 2097152];
     let mut read_rows = [0i32; 245880];
-    answer_input(&mut buffer, &mut kernel_rows, &mut text, &mut read_rows);
+    answer_input(
+        &rt,
+        &mut buffer,
+        &mut kernel_rows,
+        &mut text,
+        &mut read_rows,
+    )
 }

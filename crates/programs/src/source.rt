@@ -9,6 +9,7 @@ use cases::lines::{print_refusal, print_source_run};
 use cases::start::start_words;
 use clight::runs::{check, run};
 use clight::texts::read_source;
+use std::io;
 use text_form::ReadAnswer;
 use words::layout::{store_size, store_words};
 use words::{Form, RunVerdict, Verdict};
@@ -39,6 +40,7 @@ fn shown_of(size: usize, n: usize) -> usize
 // Runs a program on the store, which holds the start words, and prints the first `shown` words, then runs its translation from the start
 // words.
 fn answer_run(
+    rt: &impl Print,
     header: &[i32],
     rows: &[i32],
     budget: u32,
@@ -48,23 +50,33 @@ fn answer_run(
     kernel_rows: &mut [i32],
     text: &mut [u8],
     read_rows: &mut [i32],
-)
+) -> io::Result<()>
     requires { (shown ≤ 8256) × (shown ≤ length store.old) }
 {
     let verdict = run(header, rows, store, budget);
     match verdict {
-        RunVerdict::Refused(refusal) => print_refusal(refusal),
+        RunVerdict::Refused(refusal) => print_refusal(rt, refusal),
         RunVerdict::Ran(answer) => {
             let ending = answer.ending;
             let written = count_of(header, rows);
-            print_source_run(ending, answer.count, &store[..shown], written);
-            answer_translation(header, rows, start, answer, kernel_rows, text, read_rows);
+            print_source_run(rt, ending, answer.count, &store[..shown], written)?;
+            answer_translation(
+                rt,
+                header,
+                rows,
+                start,
+                answer,
+                kernel_rows,
+                text,
+                read_rows,
+            )
         }
     }
 }
 
 // An accepted program: its run from the start words, or from zeros.
 fn answer_accepted(
+    rt: &impl Print,
     header: &[i32],
     rows: &[i32],
     budget: u32,
@@ -72,7 +84,7 @@ fn answer_accepted(
     kernel_rows: &mut [i32],
     text: &mut [u8],
     read_rows: &mut [i32],
-)
+) -> io::Result<()>
     requires { refusal_of Source header.now rows.now ≡ Accepted }
 {
     let mut start = [0i32; 8256];
@@ -80,6 +92,7 @@ fn answer_accepted(
     let mut store = start;
     let shown = shown_of(store_size(Form::Source, header), n);
     answer_run(
+        rt,
         header,
         rows,
         budget,
@@ -89,10 +102,11 @@ fn answer_accepted(
         kernel_rows,
         text,
         read_rows,
-    );
+    )
 }
 
 fn answer_program(
+    rt: &impl Print,
     header: &[i32],
     rows: &[i32],
     budget: u32,
@@ -100,11 +114,12 @@ fn answer_program(
     kernel_rows: &mut [i32],
     text: &mut [u8],
     read_rows: &mut [i32],
-) {
+) -> io::Result<()> {
     let verdict = check(header, rows);
     match verdict {
-        Verdict::Refused(refusal) => print_refusal(refusal),
+        Verdict::Refused(refusal) => print_refusal(rt, refusal),
         Verdict::Accepted => answer_accepted(
+            rt,
             header,
             rows,
             budget,
@@ -119,19 +134,21 @@ fn answer_program(
 // Answers a case, given its budget, its start words and its program's text. The tables and the buffer lent are room for the kernel
 // rows, their text, and the rows read back from it.
 pub fn answer_text(
+    rt: &impl Print,
     budget: u32,
     words: &[u8],
     source: &[u8],
     kernel_rows: &mut [i32],
     text: &mut [u8],
     read_rows: &mut [i32],
-) {
+) -> io::Result<()> {
     let mut header = [0i32; 33];
     let mut rows = [0i32; 12288];
     let answer = read_source(source, &mut header, &mut rows);
     match answer {
-        ReadAnswer::Refused(refusal) => print_refusal(refusal),
+        ReadAnswer::Refused(refusal) => print_refusal(rt, refusal),
         ReadAnswer::Read(header_words, row_words) => answer_program(
+            rt,
             &header[..header_words],
             &rows[..row_words],
             budget,

@@ -1,59 +1,62 @@
 // Two texts beside each other, line by line, with blanks for tabs.
-ghost use Rattle.std.specs.Prelude.{◌≤◌, ◌<◌, length};
+ghost use Rattle.std.specs.Prelude.{◌≤◌, ◌<◌, IfOk, length};
 
-use libc::STDOUT_FILENO;
+use console::write_all;
+use std::io;
 use text_lines::line::piece_end;
 
 // Where the second text's column begins.
 const COLUMN: usize = 28;
 
-fn print_byte(byte: u8) {
+fn print_byte(rt: &impl Print, byte: u8) -> io::Result<()> {
     if byte == b'\t' {
-        io::write_all(STDOUT_FILENO, b" ");
-        return;
+        return write_all(rt, b" ");
     }
-    io::write_all(STDOUT_FILENO, &[byte]);
+    write_all(rt, &[byte])
 }
 
-fn print_bytes(bytes: &[u8]) {
+fn print_bytes(rt: &impl Print, bytes: &[u8]) -> io::Result<()> {
     let mut i: usize = 0;
     while i < bytes.len() {
-        print_byte(bytes[i]);
+        print_byte(rt, bytes[i])?;
         i += 1;
     }
+    Ok(())
 }
 
 // Blanks from column `from` up to column `to`.
-fn print_gap(from: usize, to: usize) {
+fn print_gap(rt: &impl Print, from: usize, to: usize) -> io::Result<()> {
     let mut column = from;
     while column < to {
-        io::write_all(STDOUT_FILENO, b" ");
+        write_all(rt, b" ")?;
         column += 1;
     }
+    Ok(())
 }
 
 // Prints the line from byte `at` on, with blanks up to `width`, and tells where the next line begins.
-fn print_line(text: &[u8], at: usize, width: usize) -> usize
+fn print_line(rt: &impl Print, text: &[u8], at: usize, width: usize) -> io::Result<usize>
     requires { at ≤ length text.now }
-    ensures lower_bound { (at ≤ result) × (result ≤ length text.now) }
-    ensures lower_bound_2 { at < length text.now → at < result }
+    ensures lower_bound { IfOk result (λ next. (at ≤ next) × (next ≤ length text.now)) }
+    ensures lower_bound_2 { IfOk result (λ next. at < length text.now → at < next) }
 {
     let end = piece_end(text, at, b'\n');
-    print_bytes(&text[at..end]);
-    print_gap(end - at, width);
+    print_bytes(rt, &text[at..end])?;
+    print_gap(rt, end - at, width)?;
     if end < text.len() {
-        return end + 1;
+        return Ok(end + 1);
     }
-    end
+    Ok(end)
 }
 
 // Prints both texts; where one has no line left, blanks stand in its place.
-pub fn print_columns(left: &[u8], right: &[u8]) {
+pub fn print_columns(rt: &impl Print, left: &[u8], right: &[u8]) -> io::Result<()> {
     let mut at: usize = 0;
     let mut beside: usize = 0;
     while at < left.len() || beside < right.len() {
-        at = print_line(left, at, COLUMN);
-        beside = print_line(right, beside, 0);
-        io::write_all(STDOUT_FILENO, b"\n");
+        at = print_line(rt, left, at, COLUMN)?;
+        beside = print_line(rt, right, beside, 0)?;
+        write_all(rt, b"\n")?;
     }
+    Ok(())
 }

@@ -9,42 +9,42 @@ mod columns; // columns.rt: two texts beside each other
 mod forms; // forms.rt: a rule's kernel form, and both runs
 
 use self::forms::show_text;
-use libc::{STDIN_FILENO, STDOUT_FILENO};
+use console::{read_full, write_all};
+use std::io;
 use text_lines::line::piece_end;
 
 // A rule without both lines before its text is none.
-fn print_no_rule() {
-    io::write_all(STDOUT_FILENO, b"no rule\n");
+fn print_no_rule(rt: &impl Print) -> io::Result<()> {
+    write_all(rt, b"no rule\n")
 }
 
 // The rule that stands in these bytes.
-fn show_rule(rule: &[u8]) {
+fn show_rule(rt: &impl Print, rule: &[u8]) -> io::Result<()> {
     let name = piece_end(rule, 0, b'\n');
     if name >= rule.len() {
-        print_no_rule();
-        return;
+        return print_no_rule(rt);
     }
     let start = piece_end(rule, name + 1, b'\n');
     if start >= rule.len() {
-        print_no_rule();
-        return;
+        return print_no_rule(rt);
     }
-    io::write_all(STDOUT_FILENO, &rule[..name + 1]);
-    show_text(&rule[name + 1..start], &rule[start + 1..]);
-    io::write_all(STDOUT_FILENO, b"\n");
+    write_all(rt, &rule[..name + 1])?;
+    show_text(rt, &rule[name + 1..start], &rule[start + 1..])?;
+    write_all(rt, b"\n")
 }
 
-fn show_rules(input: &[u8]) {
+fn show_rules(rt: &impl Print, input: &[u8]) -> io::Result<()> {
     let mut at: usize = 0;
     while at < input.len() {
         let end = piece_end(input, at + 1, b'#');
-        show_rule(&input[at..end]);
+        show_rule(rt, &input[at..end])?;
         at = end;
     }
+    Ok(())
 }
 
-fn main() {
+fn main(rt: HostRuntime) -> io::Result<()> {
     let mut input = [0u8; 65536];
-    let n = io::read_full(STDIN_FILENO, &mut input);
-    show_rules(&input[..n]);
+    let n = read_full(&rt, &mut input)?;
+    show_rules(&rt, &input[..n])
 }

@@ -7,13 +7,14 @@ mod output; // output.rt: what is printed for a text
 mod runs; // runs.rt: both runs, each from zeros, and their lines
 
 use self::output::trial;
-use libc::{STDIN_FILENO, STDOUT_FILENO};
+use console::{read_full, write_all};
+use std::io;
 
-fn main() {
+fn main(rt: HostRuntime) -> io::Result<()> {
     // One byte more than a text may have, so that a longer one is seen to be longer.
     let mut text = [0u8; 16385];
-    let length = io::read_full(STDIN_FILENO, &mut text);
+    let length = read_full(&rt, &mut text)?;
     let mut printed = [0u8; 24672];
     let size = trial(&text[..length], &mut printed);
-    io::write_all(STDOUT_FILENO, &printed[..size]);
+    write_all(&rt, &printed[..size])
 }

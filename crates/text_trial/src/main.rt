@@ -9,23 +9,25 @@
 
 mod source; // source.rt: the input's lines, and the texts that they stand for
 
-ghost use Rattle.std.specs.Prelude.{◌≤◌};
+ghost use Rattle.std.specs.Prelude.{◌≡◌, ◌≤◌, length};
 
 use self::source::{expanded, line_end};
+use console::{print_decimal, read_full, write_all};
+use std::io;
 use text_form::{ReadAnswer, WriteAnswer};
 use words::{Form, Refusal};
 
-fn print_space(n: usize) {
-    io::write_all(1, &[b' ']);
-    io::print_decimal(1, n as u64);
+fn print_space(rt: &impl Print, n: usize) -> io::Result<()> {
+    write_all(rt, &[b' '])?;
+    print_decimal(rt, n as u64)
 }
 
-fn print_refusal(refusal: Refusal) {
+fn print_refusal(rt: &impl Print, refusal: Refusal) -> io::Result<()> {
     let number = refusal.number;
     let place = refusal.place;
-    io::write_all(1, &[b'r', b'e', b'f', b'u', b's', b'e', b'd']);
-    print_space(number as usize);
-    print_space(place);
+    write_all(rt, &[b'r', b'e', b'f', b'u', b's', b'e', b'd'])?;
+    print_space(rt, number as usize)?;
+    print_space(rt, place)
 }
 
 // The number of the cause; 0 where there is none.
@@ -78,49 +80,93 @@ fn least(n: usize, most: usize) -> usize
 }
 
 // Prints what a text buffer too short by one gives.
-fn write_short(form: Form, header: &[i32], rows: &[i32], n: usize, buffer: &mut [u8]) {
+fn write_short(
+    rt: &impl Print,
+    form: Form,
+    header: &[i32],
+    rows: &[i32],
+    n: usize,
+    buffer: &mut [u8],
+) -> io::Result<()> {
     let short = less_one(n, buffer.len());
-    print_space(write_number(text_form::write(form, header, rows, &mut buffer[0..short])));
+    print_space(
+        rt,
+        write_number(text_form::write(form, header, rows, &mut buffer[0..short])),
+    )
 }
 
 // Writes a header and rows, and prints whether that gave the text.
-fn write_again(form: Form, text: &[u8], header: &[i32], rows: &[i32], buffer: &mut [u8]) {
+fn write_again(
+    rt: &impl Print,
+    form: Form,
+    text: &[u8],
+    header: &[i32],
+    rows: &[i32],
+    buffer: &mut [u8],
+) -> io::Result<()> {
     let answer = text_form::write(form, header, rows, buffer);
     let WriteAnswer::Written(n) = answer else {
-        return;
+        return Ok(());
     };
     if is_same(text, buffer, n) {
-        io::write_all(1, &[b' ', b's', b'a', b'm', b'e']);
+        write_all(rt, &[b' ', b's', b'a', b'm', b'e'])?;
     }
-    write_short(form, header, rows, n, buffer);
+    write_short(rt, form, header, rows, n, buffer)
 }
 
 // Prints what a header table too short by one gives.
-fn read_short_header(form: Form, text: &[u8], words: usize, header: &mut [i32], rows: &mut [i32]) {
+fn read_short_header(
+    rt: &impl Print,
+    form: Form,
+    text: &[u8],
+    words: usize,
+    header: &mut [i32],
+    rows: &mut [i32],
+) -> io::Result<()> {
     let short = less_one(words, header.len());
-    print_space(read_number(text_form::read(form, text, &mut header[0..short], rows)));
+    print_space(
+        rt,
+        read_number(text_form::read(form, text, &mut header[0..short], rows)),
+    )
 }
 
 // Prints what a row table too short by one gives.
-fn read_short_rows(form: Form, text: &[u8], words: usize, header: &mut [i32], rows: &mut [i32]) {
+fn read_short_rows(
+    rt: &impl Print,
+    form: Form,
+    text: &[u8],
+    words: usize,
+    header: &mut [i32],
+    rows: &mut [i32],
+) -> io::Result<()> {
     let short = less_one(words, rows.len());
-    print_space(read_number(text_form::read(form, text, header, &mut rows[0..short])));
+    print_space(
+        rt,
+        read_number(text_form::read(form, text, header, &mut rows[0..short])),
+    )
 }
 
 // Reads a text, and prints the answer.
-fn read_text(form: Form, text: &[u8], buffer: &mut [u8], header: &mut [i32], rows: &mut [i32]) {
+fn read_text(
+    rt: &impl Print,
+    form: Form,
+    text: &[u8],
+    buffer: &mut [u8],
+    header: &mut [i32],
+    rows: &mut [i32],
+) -> io::Result<()> {
     let answer = text_form::read(form, text, header, rows);
     match answer {
-        ReadAnswer::Refused(refusal) => print_refusal(refusal),
+        ReadAnswer::Refused(refusal) => print_refusal(rt, refusal),
         ReadAnswer::Read(header_words, row_words) => {
-            io::write_all(1, &[b'r', b'e', b'a', b'd']);
-            print_space(header_words);
-            print_space(row_words);
+            write_all(rt, &[b'r', b'e', b'a', b'd'])?;
+            print_space(rt, header_words)?;
+            print_space(rt, row_words)?;
             let numbers = least(header_words, header.len());
             let words = least(row_words, rows.len());
-            write_again(form, text, &header[0..numbers], &rows[0..words], buffer);
-            read_short_header(form, text, header_words, header, rows);
-            read_short_rows(form, text, row_words, header, rows);
+            write_again(rt, form, text, &header[0..numbers], &rows[0..words], buffer)?;
+            read_short_header(rt, form, text, header_words, header, rows)?;
+            read_short_rows(rt, form, text, row_words, header, rows)
         }
     }
 }
@@ -134,42 +180,59 @@ fn form_of(letter: u8) -> Form {
 
 // Reads the text that a line of the input stands for.
 fn read_line(
+    rt: &impl Print,
     line: &[u8],
     text: &mut [u8],
     buffer: &mut [u8],
     header: &mut [i32],
     rows: &mut [i32],
-) {
+) -> io::Result<()> {
     if line.len() == 0 {
-        return;
+        return Ok(());
     }
     let form = form_of(line[0]);
     let n = expanded(line, text);
-    read_text(form, &text[0..n], buffer, header, rows);
-    io::write_all(1, &[b'\n']);
+    read_text(rt, form, &text[0..n], buffer, header, rows)?;
+    write_all(rt, &[b'\n'])
 }
 
 fn read_lines(
+    rt: &impl Print,
     input: &[u8],
     text: &mut [u8],
     buffer: &mut [u8],
     header: &mut [i32],
     rows: &mut [i32],
-) {
+) -> io::Result<()> {
     let mut at: usize = 0;
     while at < input.len() {
         let end = line_end(input, at);
-        read_line(&input[at..end], text, buffer, header, rows);
+        read_line(rt, &input[at..end], text, buffer, header, rows)?;
         at = end + 1;
     }
+    Ok(())
 }
 
-fn main() {
+// Room for a text.
+fn text_buffer() -> [u8; 524288]
+    ensures { 524288 ≡ length result }
+{
+    [0; 524288]
+}
+
+fn main(rt: HostRuntime) -> io::Result<()> {
     let mut input = [0u8; 16384];
-    let n = io::read_full(0, &mut input);
-    let mut text = [0u8; 524288];
-    let mut buffer = [0u8; 524288];
+    let n = read_full(&rt, &mut input)?;
+    let mut text = text_buffer();
+    let mut buffer = text_buffer();
     let mut header = [0i32; 40];
     let mut rows = [0i32; 245900];
-    read_lines(&input[..n], &mut text, &mut buffer, &mut header, &mut rows);
+    read_lines(
+        &rt,
+        &input[..n],
+        &mut text,
+        &mut buffer,
+        &mut header,
+        &mut rows,
+    )
 }

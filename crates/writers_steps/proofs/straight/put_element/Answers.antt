@@ -1,0 +1,42 @@
+-- A value that waited into an element: its atom, and that of the index above it.
+use native.Mathlib.Omega.{arith}
+use Rattle.language.specs.Trees.{element}
+use Rattle.language.specs.Writes.{index_writes}
+use Rattle.language.specs.Decode.{expression_at}
+use Rattle.translation.specs.Translate.{atom_of}
+use Rattle.translation.proofs.TranslateBounds.{taken_most}
+use Rattle.translation.proofs.HeldCode.{copied-most}
+use Rattle.measures_table.specs.MeasureLaws.{whole-asks}
+use Rattle.writers_steps.specs.AtomLaws.{held-is, above-held, stored-element}
+use Rattle.writers_rows.specs.LeafLaws.{recoded}
+use Rattle.measures_table.specs.Parts.{called_in}
+use borrow.Author.Rules.{rules}
+use Rattle.writers_steps.proofs.straight.put_element.Goals as goal
+
+pub held_atom-source-requires : goal.held_atom-source-requires
+held_atom-source-requires c = (c.requires.writing, c.requires.value_inside, omega (arith, c.requires.level_low))
+
+pub taken_at-requires : goal.taken_at-requires
+taken_at-requires c = whole-asks c.requires.writing.measured c.requires.value_inside
+
+pub overflow_add-above : goal.overflow_add-above
+overflow_add-above c = omega (arith, c.requires.level_low, c.taken_at.ensures, taken_most (atom_of (called_in c.args.rows.now) (expression_at c.args.rows.now c.args.value)), c.requires.copies_are, copied-most (atom_of (called_in c.args.rows.now) (expression_at c.args.rows.now c.args.value)) (index_writes (called_in c.args.rows.now) (element c.args.array (expression_at c.args.rows.now c.args.index))))
+
+pub overflow_add-above-2 : goal.overflow_add-above-2
+overflow_add-above-2 c = omega (arith, c.requires.level_low, c.taken_at.ensures, taken_most (atom_of (called_in c.args.rows.now) (expression_at c.args.rows.now c.args.value)), c.requires.copies_are, copied-most (atom_of (called_in c.args.rows.now) (expression_at c.args.rows.now c.args.value)) (index_writes (called_in c.args.rows.now) (element c.args.array (expression_at c.args.rows.now c.args.index))))
+
+pub atom_at-index_atom-requires : goal.atom_at-index_atom-requires
+atom_at-index_atom-requires c = (c.requires.writing, c.requires.index_inside, omega (arith, c.requires.level_low, c.taken_at.ensures, taken_most (atom_of (called_in c.args.rows.now) (expression_at c.args.rows.now c.args.value)), c.requires.copies_are, copied-most (atom_of (called_in c.args.rows.now) (expression_at c.args.rows.now c.args.value)) (index_writes (called_in c.args.rows.now) (element c.args.array (expression_at c.args.rows.now c.args.index)))))
+
+pub put_store-requires : goal.put_store-requires
+put_store-requires c = (c.requires.room, omega (arith, c.requires.low), c.atom_at-index_atom.ensures.fits, c.held_atom-source.ensures.fits)
+
+pub returns : goal.returns
+returns c =
+    let args = c.args in
+    let index = expression_at args.rows.now args.index in
+    let value = expression_at args.rows.now args.value in
+    let W = index_writes (called_in args.rows.now) (element args.array index) in
+    let copies = c.requires.copies_are in
+    recoded _ _ _ _ _ _ c.put_store.ensures
+    (stored-element (called_in args.rows.now) args.at.store args.array index value args.usage args.at.level _ (above-held args.at.level (atom_of (called_in args.rows.now) value) W c.taken_at.ensures copies) c.atom_at-index_atom.ensures.is (held-is W copies c.held_atom-source.ensures))

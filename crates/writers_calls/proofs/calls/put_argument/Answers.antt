@@ -1,0 +1,19 @@
+-- The row of an argument, and its atom.
+use Prim.Native.Nat.{◌+◌}
+use mathlib.Core.Path.{refl}
+use Rattle.writers_rows.specs.Chain.{put_next, reworded}
+use Rattle.writers_rows.proofs.Words.{rows-put, atom-put, atom-words, pick-most}
+use borrow.Author.Rules.{rules}
+use Rattle.writers_calls.proofs.calls.put_argument.Goals as goal
+
+pub put_row-requires : goal.put_row-requires
+put_row-requires c = let low = pick-most c.args.follows (c.args.base + 2) in search rules
+
+pub returns : goal.returns
+returns c =
+    let start = c.before.before.before.before.before.before.before in
+    let own_row = rows-put 1 _ _ _ c.put_row.ensures refl in
+    let value = atom-put _ _ start.args.value c.put_atom.ensures in
+    let words = atom-words start.args.value (start.args.base + 1) in
+    let next = c.behind.ensures in
+    reworded _ (put_next own_row value) (rw (words, next))

@@ -13,3 +13,5 @@ pub mod ParameterLaws
 pub mod ResolvedNames
 -- The resolved table is structured as the table is, over a store with D words behind the first S.
 pub mod ResolvedStructured
+-- Examples: resolved tables, by computing.
+pub mod Examples

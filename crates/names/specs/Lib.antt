@@ -5,8 +5,6 @@
 pub mod Names
 -- Scope: the rows in a declaration's scope, as a relation in the request's words.
 pub mod Scope
--- Examples: resolved tables, by computing.
-pub mod Examples
 -- ---- laws
 -- Laws of two tables with the same links: what is said along the links of one holds of the other.
 pub mod SameLinks

@@ -5,3 +5,5 @@ pub mod InitialLaws
 pub mod DeclarationLaws
 -- The theorem: the three causes accept exactly the tables whose declarations are as the request demands; so a table without declarations.
 pub mod AcceptsDeclared
+-- Examples: what the causes answer to small tables, by computing.
+pub mod Examples

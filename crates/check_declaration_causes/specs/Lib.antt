@@ -5,5 +5,3 @@
 pub mod Causes
 -- Demands: what the request demands of declarations, as relations in its words.
 pub mod Demands
--- Examples: what the causes answer to small tables, by computing.
-pub mod Examples

@@ -7,9 +7,9 @@ ghost use Rattle.text_rules.specs.Rules.{store_room};
 ghost use Rattle.day_run.specs.Days.{store_pairs};
 ghost use Rattle.day_run.specs.Conditions.{LineDone};
 
-use machine::whole::run_source_table;
-use words::Ending;
+use machine::whole::run;
 use words::table::natural;
+use words::{Ending, Form};
 use words_copying::put;
 
 // Stores a value at a place. A place that the store does not have stores nothing.
@@ -46,7 +46,7 @@ fn do_on_copy(
 {
     put(store, copy);
     store_pairs(pairs, copy);
-    let answer = run_source_table(header, rows, copy, 100000);
+    let answer = run(Form::Source, header, rows, copy, 100000);
     let ending = answer.ending;
     match ending {
         Ending::Plain => {

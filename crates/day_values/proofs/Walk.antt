@@ -12,7 +12,7 @@ use mir.Facts.{to_z_pos}
 use Rattle.words.specs.Laws.{back}
 use Rattle.words.specs.OverLaws.{part, back_in}
 use Rattle.text_numbers.specs.Writer.{Put}
-use Rattle.text_numbers.specs.PutLaws.{put-none, put_next, Put-as, put-length, put-inside, put-space}
+use Rattle.text_numbers.specs.PutLaws.{put-none, put_next, put_as, put-length, put-inside, put-space}
 use Rattle.day_form.specs.Settings.{most_values}
 use Rattle.day_form.specs.Plans.{Sets}
 use Rattle.day_form.specs.declared.setting.Setting.{Setting}
@@ -44,7 +44,7 @@ module _ (line : ℤ → List ℕ) where
   module _ {lowest : ℤ} {values : ℕ} {buffer : List ℕ} {done end : ℕ} {output : List ℕ} (m : Made lowest values buffer done end output) where
     pub made-end : values ≤ done → Put (values_output line lowest values) buffer end output
     made-end h =
-        Put-as (sym (m.same ∙ ap (λ (l : List ℕ). m.bytes ++ l) (none_left (lowest +ℤ pos done) (values - done) (omega arith)) ∙ append-nil m.bytes)) m.put
+        put_as (sym (m.same ∙ ap (λ (l : List ℕ). m.bytes ++ l) (none_left (lowest +ℤ pos done) (values - done) (omega arith)) ∙ append-nil m.bytes)) m.put
 
     -- there is room for the next line
     module _ (few : values ≤ most_values) (roomy : day_room ≤ length buffer) where

@@ -6,7 +6,7 @@ use mathlib.Core.List.{List}
 use Rattle.words.specs.Table.{row_count}
 use Rattle.words.specs.Declarations.{declaration_count, declaration_limit}
 use Rattle.words.specs.Layout.{header_fits, count_fits, layout_of, store_size, declared_of, header_store, store_words, row_limit}
-use Rattle.words.specs.Laws.{header_fits-facts, count_fits-facts}
+use Rattle.words.specs.Laws.{header_fits-facts, count_fits-facts, row_limit-most}
 use Rattle.words.specs.StoreLaws.{source-store, source-small, kernel-small}
 use Rattle.words.specs.declared.Form.{Form}
 use Rattle.words.specs.declared.Form.TheVariants.{Source, Kernel}
@@ -72,7 +72,7 @@ module _ (form : Form) (header rows : List ℤ) (accepted : refusal_of form head
     sound = rw size (store-sound form header rows (accepted-structured form header rows accepted).1);
     calls = sound-calls rows accepted-functions (accepted-few form header rows accepted accepted-functions);
     words = size;
-    few_rows = accepted-rows;
+    few_rows = omega (arith, accepted-rows, row_limit-most form);
   }
 
 -- ---- source programs
@@ -91,6 +91,9 @@ module _ (header rows table : List ℤ) (is : table ≡ resolved_rows Source hea
     words = size ∙ sym (ap (store_words Source header) is ∙ resolved-store header rows);
     few_rows = omega (arith, ap length is, resolved-length (store_size (layout_of Source header)) rows, accepted-words header rows accepted);
   }
+
+  pub table-rows : refusal_of Source header rows ≡ Accepted → row_count table ≤ 2048
+  table-rows accepted = omega (arith, ap length is, resolved-length (store_size (layout_of Source header)) rows, accepted-words header rows accepted)
 
   pub table-run : (budget : ℕ) (store : List ℤ) → run_table Source header table budget store ≡ run_program Source header rows budget store
   unfolding run_program

@@ -3,19 +3,12 @@
 use borrow.Author.Rules.{rules}
 use Rattle.words.specs.declared.Form.TheVariants.{Source}
 use Rattle.program_runs.proofs.AcceptanceLaws.{check-accepts-legal, check-no-cause-if-legal}
-use Rattle.program_runs.proofs.check.Statement.{statement}
-use Rattle.program_runs.proofs.check.Tie as tie
+use Rattle.program_runs.proofs.check.Goals as goal
 
-check-requires : tie.Need-check-requires
-check-requires c κs = search rules
-
-returns : tie.Need-returns
+pub returns : goal.returns
 returns c =
-    let start = c.before in
+    let start = c in
     let told = c.check.ensures in
     let header = start.args.header.now in
     let rows = start.args.rows.now in
-    (told, (check-accepts-legal Source header rows _ told, rw told (check-no-cause-if-legal Source header rows)))
-
-pub check-spec : {M : Type 1} → statement M
-check-spec = tie.close (tie.spec check-requires returns)
+    record { value = told; accepts_legal = check-accepts-legal Source header rows _ told; no_cause_if_legal = rw told (check-no-cause-if-legal Source header rows) }

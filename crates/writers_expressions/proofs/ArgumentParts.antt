@@ -22,7 +22,7 @@ use Rattle.translation.proofs.HeldCode.{hold_by}
 use Rattle.language_emission.specs.Emission.{emit_items}
 use Rattle.measures_table.specs.Parts.{called_in}
 use Rattle.writers_rows.specs.Room.{Room, more_rows}
-use Rattle.writers_rows.specs.Chain.{part, back_in, Reach, put-length, put-reach, put-room, room-less, Wrote, wrote-put, wrote-next, Wrote-as}
+use Rattle.writers_rows.specs.Chain.{part, back_in, Reach, put-length, put-reach, put-room, room-less, Wrote, wrote-put, wrote-next, wrote_as}
 use Rattle.writers_steps.specs.Asks.{Writing}
 use Rattle.writers_steps.specs.AtomLaws.{rows-hold}
 use Rattle.writers_calls.specs.Arguments.{taken_by, size_by, levels_by, code_by}
@@ -166,7 +166,7 @@ module _ {S : ℕ} {rows : List ℤ} {table : List ℕ} {argument count copies l
       (table_is : holdWords ≡ over (emit_items follows (hold_by S (level + taken) (copies % 2) (atom_of (called_in rows) (expression_at rows e))) (base + (rest + own))) (part (rest + own) (back_in rest restTable value_words))) where
     all-wrote : Wrote follows (code_by (called_in rows) S (argument_list_at rows argument) copies level) base (rest + own + 4 * (copies % 2)) out (back_in (rest + own) (back_in rest restTable value_words) holdWords)
     all-wrote =
-        Wrote-as _
+        wrote_as _
         (wrote-next (rw held-is at value-wrote) (record { table = table_is; size = rows-hold S (level + taken) (copies % 2) (atom_of (called_in rows) (expression_at rows e)) (omega arith) }))
         (code_is found)
 

@@ -23,7 +23,7 @@ use Rattle.language_shapes.specs.CallLaws.{call-behind}
 use Rattle.measures_table.specs.Arguments.{argument_copies, call_copies}
 use Rattle.measures_table.specs.Parts.{called_in}
 use Rattle.writers_rows.specs.Room.{Room, more_rows}
-use Rattle.writers_rows.specs.Chain.{part, back_in, Reach, put-length, put-reach, put-room, room-less, more-some, Wrote, wrote-put, wrote-next, Wrote-as}
+use Rattle.writers_rows.specs.Chain.{part, back_in, Reach, put-length, put-reach, put-room, room-less, more-some, Wrote, wrote-put, wrote-next, wrote_as}
 use Rattle.writers_steps.specs.Asks.{Writing, TargetIs}
 use Rattle.writers_calls.specs.Arguments.{taken_by, size_by, levels_by, atoms_by, code_by}
 use Rattle.writers_calls.specs.ArgumentLaws.{link-inside, atoms-by, code-by}
@@ -154,7 +154,7 @@ module _ {S : ℕ} {rows : List ℤ} {table : List ℕ} {row : ℕ} {u : Use} {l
       (table_is : call_words ≡ over (emit_items follows (express (assign (variable number) (call r.function (atoms_by (called found) S (arguments found) copies level))) then none) (base + n)) (part n argumentsTable)) where
     all-wrote : Wrote follows (expression_code (called found) S (expression_at rows row) u level) base (n + (4 + 2 * count)) out (back_in n argumentsTable call_words)
     all-wrote =
-        Wrote-as _
+        wrote_as _
         (wrote-next (rw (sym (more-some follows (4 + 2 * count) (omega arith))) at arguments-wrote) (record { table = table_is; size = own-rows }))
         (code_is found)
 

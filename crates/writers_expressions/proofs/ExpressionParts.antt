@@ -28,7 +28,7 @@ use Rattle.writers_rows.specs.Room.{Room, more_rows}
 use Rattle.writers_rows.specs.Straight.{last_size}
 use Rattle.writers_steps.specs.Asks.{Writing}
 use Rattle.writers_steps.specs.AtomLaws.{rows-hold}
-use Rattle.writers_rows.specs.Chain.{part, back_in, Reach, put-length, put-reach, put-room, room-less, Wrote, wrote-put, wrote-next, Wrote-as}
+use Rattle.writers_rows.specs.Chain.{part, back_in, Reach, put-length, put-reach, put-room, room-less, Wrote, wrote-put, wrote-next, wrote_as}
 use Rattle.writers_expressions.specs.Code.{wait_code, last_code}
 use Rattle.writers_expressions.specs.Asks.{OperandAsks, CalledAsks, LastAsks}
 use Rattle.writers_expressions.specs.CodeLaws.{code-parts, rows-operand, wait-hold, hold-part, waits-some, rows_last}
@@ -265,7 +265,7 @@ module _ {S : ℕ} {rows : List ℤ} {table : List ℕ} {row : ℕ} {u : Use} {l
   last-wrote = record { table = rest.table_is; size = rows_last (called_in rows) S (expression_at rows row) u level ∙ sym (last-is sizes) }
 
   all-wrote : Wrote follows (operand_code (called_in rows) S (part_at rows row) u level) base (behind second + (all_rows - behind second)) out (back_in (behind second) (operands_table second) lastWords)
-  all-wrote = Wrote-as _ (wrote-next (rw rest.more_is at (both-wrote second)) last-wrote) (code_is sizes)
+  all-wrote = wrote_as _ (wrote-next (rw rest.more_is at (both-wrote second)) last-wrote) (code_is sizes)
 
   pub expression-length : length (back_in (behind second) (operands_table second) lastWords) ≡ length out
   expression-length = put-length (wrote-put all-wrote) (omega (arith, sizes-within sizes, sizes.all-is, asked.asks.room.inside))

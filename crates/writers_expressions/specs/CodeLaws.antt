@@ -24,7 +24,7 @@ use Rattle.measures_table.specs.MeasureLaws.{size-parts, first-copied-most, own-
 use Rattle.words.specs.Over.{over}
 use Rattle.writers_rows.specs.Room.{more_rows}
 use Rattle.writers_rows.specs.Straight.{last_size}
-use Rattle.writers_rows.specs.Chain.{Wrote, more_is, Block-words}
+use Rattle.writers_rows.specs.Chain.{Wrote, more_is, block_words}
 use Rattle.writers_steps.specs.AtomLaws.{rows-hold}
 use Rattle.writers_rows.specs.declared.KernelAtom.{KernelAtom}
 use Rattle.writers_rows.specs.declared.KernelAtom.TheVariants.{Constant, Variable}
@@ -165,4 +165,4 @@ branch-words xs ys base k end first more ex ey ef em =
     ap₂ (λ (f : Bool) (b : ℕ). emit_items f xs (base + 1) ++ emit_items false ys b) (em ∙ ap (more_rows false) (sym ey) ∙ sym (more_is false ys)) (sym at) ∙ sym (emit-append false xs ys (base + 1)) in
     append_assoc (row_of 42 (pos first) 0 0 0 0) (emit_items more xs (base + 1)) (emit_items false ys (base + (1 + k)))
     ∙ ap₂ (λ (n : ℕ) (l : List ℤ). row_of 42 (pos n) 0 0 0 0 ++ l) ef both
-    ∙ Block-words (xs ⧺ ys) base (k + end) (rows_append xs ys ∙ ap₂ ◌+◌ ex ey)
+    ∙ block_words (xs ⧺ ys) base (k + end) (rows_append xs ys ∙ ap₂ ◌+◌ ex ey)

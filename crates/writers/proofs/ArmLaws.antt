@@ -30,7 +30,7 @@ use Rattle.writers_steps.specs.Asks.{AtomAt}
 use Rattle.writers_rows.specs.declared.KernelAtom.{KernelAtom}
 use Rattle.writers_rows.specs.Straight.{loop_head}
 use Rattle.writers_rows.specs.Guarded.{arm_head, arm_end, round_over, rounds_end}
-use Rattle.writers_rows.specs.Chain.{part, back_in, PutWords, reworded, Wrote, wrote-put, choice-words, Block-words}
+use Rattle.writers_rows.specs.Chain.{part, back_in, PutWords, reworded, Wrote, wrote-put, choice-words, block_words}
 use Rattle.writers.specs.Items.{first_only}
 use Rattle.writers.proofs.Sequence.{put-behind, wrote-behind, append-four, more-append, more-true}
 use Rattle.writers.proofs.ListLaws.{Progress, step, above, above-some, above-less, optional-inside, le_of_lt}
@@ -162,7 +162,7 @@ arm-words x B target base n one size =
     let jump = row_of 52 (pos target) 0 0 0 0 in
     let other = row_of 42 (pos 0) 0 0 0 0 in
     let body : emit_statement (block Y) (base + 2) 0 ≡ row_of 42 (pos (base + 2 + 1)) 0 0 0 0 ++ (emit_items true B (base + 2 + 1) ++ jump) =
-    sym (Block-words Y (base + 2) (suc n) rows_are) ∙ ap (λ (ws : List ℤ). row_of 42 (pos (base + 2 + 1)) 0 0 0 0 ++ ws) (emit-append false B (goto target then none) (base + 2 + 1)) in
+    sym (block_words Y (base + 2) (suc n) rows_are) ∙ ap (λ (ws : List ℤ). row_of 42 (pos (base + 2 + 1)) 0 0 0 0 ++ ws) (emit-append false B (goto target then none) (base + 2 + 1)) in
     let words : ℕ → ℕ → ℕ → List ℤ = λ to next from. ((row_of 43 (pos (base + 1)) (base + 2) to 0 next ++ E) ++ (row_of 42 (pos from) 0 0 0 0 ++ (emit_items true B from ++ jump))) ++ other in
     append-six (row_of 43 (pos (base + 1)) (base + 2) (base + 4 + n) 0 (base + 5 + n)) E (row_of 42 (pos (base + 3)) 0 0 0 0) (emit_items true B (base + 3)) jump other
     ∙ ap₂ (λ (to next : ℕ). words to next (base + 3)) second after

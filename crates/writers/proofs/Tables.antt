@@ -12,7 +12,7 @@ use Rattle.translation.specs.TranslateSize.{statement_size, arms_size, items_siz
 use Rattle.language_shapes.specs.Shapes.{OptionalOnward}
 use Rattle.measures_table.specs.Parts.{called_in}
 use Rattle.measures_table.specs.Measures.{sums, past_labels, default_place, statement_rows_slot, statement_labels_slot, list_rows_slot, list_cases_slot, list_default_slot, arms_rows_slot, arms_labels_slot, slot, slot_at, SlotAsks, Measured, MeasuredFrom}
-use Rattle.measures_table.specs.MeasureLaws.{limited-small, list-rows, List-cases, list-default, arms-rows, arms-labels, slot-asks}
+use Rattle.measures_table.specs.MeasureLaws.{limited-small, list-rows, list_cases, list-default, arms-rows, arms-labels, slot-asks}
 
 -- ---- the label of a list's default, from its place
 
@@ -78,7 +78,7 @@ module _ (rows : List ℤ) (table : List ℕ) (measured : Measured rows table) w
   rows-of-list list inside h = list-rows rows table later-measured list (as-link list inside) ∙ limited-small _ (omega arith)
 
   pub cases-of-list : (list : ℕ) → list < row_count rows → cases (list_at rows list) ≤ 40980 → slot_at table list list_cases_slot ≡ cases (list_at rows list)
-  cases-of-list list inside h = List-cases rows table later-measured list (as-link list inside) ∙ limited-small _ (omega arith)
+  cases-of-list list inside h = list_cases rows table later-measured list (as-link list inside) ∙ limited-small _ (omega arith)
 
   pub rows-of-arms : (arms : ℕ) → arms < row_count rows → arms_size (called_in rows) (arm_list_at rows arms) ≤ 40980 → slot_at table arms arms_rows_slot ≡ arms_size (called_in rows) (arm_list_at rows arms)
   rows-of-arms arms inside h = arms-rows rows table later-measured arms (as-link arms inside) ∙ limited-small _ (omega arith)

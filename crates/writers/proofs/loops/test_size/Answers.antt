@@ -1,0 +1,22 @@
+-- The rows of a loop's test: those of its expression and five more.
+use native.Mathlib.Omega.{arith}
+use Rattle.language.specs.Decode.{part_at}
+use Rattle.measures_table.specs.Parts.{called_in}
+use Rattle.writers.proofs.LoopLaws.{test_some, test-most}
+use borrow.Author.Rules.{rules}
+use Rattle.writers.proofs.loops.test_size.Goals as goal
+
+pub operand_size-requires : goal.operand_size-requires
+operand_size-requires c =
+    let start = c.before.before in
+    (start.requires.0, start.requires.1, omega (arith, test-most (called_in start.args.rows.now) (part_at start.args.rows.now start.args.test), start.requires.2))
+
+pub overflow_add-result : goal.overflow_add-result
+overflow_add-result c =
+    let start = c.before.before.before in
+    omega (arith, c.operand_size.ensures, test-most (called_in start.args.rows.now) (part_at start.args.rows.now start.args.test), start.requires.2)
+
+pub returns : goal.returns
+returns c =
+    let start = c.before.before.before in
+    omega (arith, c.operand_size.ensures, test_some start.args.rows.now start.args.test c.if-test-eq0.false)

@@ -1,0 +1,13 @@
+-- The variables and declared words of the rows so far; the invariant is `Variables`.
+use Prim.Native.Nat.{◌-◌}
+use native.Mathlib.Omega.{arith}
+use Rattle.words.specs.Table.{row_count}
+use Rattle.write_sets_programs.proofs.UnionLaws.{Variables, variables-start, variables-next, variables-end}
+use borrow.Author.Rules.{rules}
+use Rattle.write_sets_programs.proofs.program.any_variables.Given as goal
+
+abbrev pub invariant-loop-row : goal.invariant-loop-row
+invariant-loop-row l = Variables l.store l.rows l.any l.row
+
+abbrev pub decreases-loop-row : goal.decreases-loop-row
+decreases-loop-row l = row_count l.rows - l.row

@@ -11,7 +11,7 @@ use Rattle.words.specs.Table.{row_count}
 use Rattle.words.specs.Layout.{layout_of, store_size, header_store, declared_of, temporaries_of}
 use Rattle.words.specs.Laws.{by_cases, header_fits-facts, count_fits-facts}
 use Rattle.words.specs.declared.Form.TheVariants.{Kernel}
-use Rattle.language.specs.Trees.{Expression, constant, read, minus, binary, call, variable, element, no_more, Items}
+use Rattle.language.specs.Trees.{Expression, constant, read, minus, binary, call, variable, element, no_more, Items, and, assign, comma, compound, conditional, not, or, postfix, prefix}
 use Rattle.language.specs.Program.{contents}
 use Rattle.check_fields.specs.Fields.{bounds_of}
 use Rattle.check_kernel.specs.Legal.{Legal}
@@ -21,7 +21,7 @@ use Rattle.page.specs.declared.Sizes.{Sizes}
 use Rattle.page.specs.Lines.{PageLine, parameter, last_parameter, Indented, indented, items_lines, plain, read_lines}
 use Rattle.page.proofs.LinesLaws.{lines-read-back}
 use Rattle.page.specs.Page.{first_temporary, lines_bytes, page_bytes}
-use Rattle.page.proofs.Fits.{fits-constant, fits-variable, value-atom, value-element, value-minus, value-binary, value-call, fits-empty, fits-abort, fits-goto, fits-label, fits-store, fits-put, fits-return, fits-opens, fits-while, fits-if, fits-turns, fits-closes, fits-call, fits-argument, fits-last-argument, fits-function, fits-parameters, fits-parameter, fits-last-parameter, All-none, All-more}
+use Rattle.page.proofs.Fits.{fits-constant, fits-variable, value-atom, value-element, value-minus, value-binary, value-call, fits-empty, fits-abort, fits-goto, fits-label, fits-store, fits-put, fits-return, fits-opens, fits-while, fits-if, fits-turns, fits-closes, fits-call, fits-argument, fits-last-argument, fits-function, fits-parameters, fits-parameter, fits-last-parameter, all_none, all_more}
 use Rattle.page.proofs.Fits as page-fits
 use Rattle.page.specs.Tables.{sizes_of, table_lines, table_page}
 use Rattle.page_tables.specs.TableLaws.{lines_fit, lines-of-rows, page-columns}
@@ -81,6 +81,19 @@ module _ (names : Names) (sizes : Sizes) (within : Within sizes names) where
   atom-of : (e : Expression) → page-fits.AtomFits Named names.arrays e → IsAtom e
   atom-of (constant v) (fits-constant h) = record { found = Constant v; tree = refl; fits = h }
   atom-of (read (variable i)) (fits-variable h) = let n = name-of i h in record { found = n.found; tree = n.reads; fits = n.atom_fits }
+  atom-of (read (element _ _)) x5 = elim x5 [ ]
+  atom-of (minus _) x3 = elim x3 [ ]
+  atom-of (not _) x4 = elim x4 [ ]
+  atom-of (binary _ _ _) x7 = elim x7 [ ]
+  atom-of (and _ _) x7 = elim x7 [ ]
+  atom-of (or _ _) x8 = elim x8 [ ]
+  atom-of (comma _ _) x9 = elim x9 [ ]
+  atom-of (conditional _ _ _) x11 = elim x11 [ ]
+  atom-of (assign _ _) x11 = elim x11 [ ]
+  atom-of (compound _ _ _) x13 = elim x13 [ ]
+  atom-of (prefix _ _) x13 = elim x13 [ ]
+  atom-of (postfix _ _) x14 = elim x14 [ ]
+  atom-of (call _ _) x15 = elim x15 [ ]
 
   record IsValue (e : Expression) : Type 0 where
     found : Value
@@ -149,8 +162,8 @@ module _ (names : Names) (sizes : Sizes) (within : Within sizes names) where
 
   lines-of : (lines : List Indented) → page-fits.AllFit Named names.arrays Declares lines → AreLines lines
   unfolding plain AllFit
-  lines-of [] All-none = record { found = []; tree = refl; fits = tt; many = refl }
-  lines-of (indented level line ∷ lines) (All-more f h) =
+  lines-of [] all_none = record { found = []; tree = refl; fits = tt; many = refl }
+  lines-of (indented level line ∷ lines) (all_more f h) =
       let l = line-of line f in
       let r = lines-of lines h in
       record { found = l.found ∷ r.found; tree = ap₂ (λ x xs. x ∷ xs) l.tree r.tree; fits = (l.fits, r.fits); many = ap suc r.many }

@@ -2,7 +2,7 @@
 // the rows (page_scan); one from the last to the first writes them, with a stack of row numbers.
 #![tactic(auto)]
 
-pub mod names; // names.rt: the names that a header gives
+pub mod header_names; // header_names.rt: the names that a header gives
 pub mod rows; // rows.rt: the pass that writes the rows
 pub mod waiting; // waiting.rt: the rows that wait for the lines that open their blocks
 
@@ -13,7 +13,7 @@ ghost use Rattle.page_blocks.specs.Scans.{scan as scan_of, names_of};
 ghost use Rattle.page_blocks.specs.declared.Scan.TheVariants.{Whole};
 ghost use Rattle.page_reader.specs.Reads.{answer_and_rows, refused_as, read_scanned, page_result, GivesRows};
 
-use self::names::names_of;
+use self::header_names::names_of;
 use self::rows::write_rows;
 use page::sizes_of;
 use page_blocks::Scan;

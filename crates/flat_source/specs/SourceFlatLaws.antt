@@ -32,7 +32,7 @@ use Rattle.check_plain.specs.Plain.{Plain}
 use Rattle.check_plain.specs.Refusal.{plain_refusal}
 use Rattle.language_emission.specs.Emission.{emit}
 use Rattle.language_emission.specs.KernelKinds.{a_block}
-use Rattle.language_emission.specs.Emitted.{emitted}
+use Rattle.language_emission.proofs.EmittedLaws.{emitted}
 use Rattle.translation_legal.specs.FormKinds.{program-kinds}
 use Rattle.translation_legal.proofs.EmittedLegal.{translated-contents}
 use Rattle.translation_fate.specs.Fate.{SharedFate as SourceKernelFate}

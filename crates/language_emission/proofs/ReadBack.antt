@@ -22,7 +22,8 @@ use Rattle.language.specs.Program.{contents}
 use Rattle.language_emission.specs.Emission.{operator_number, arguments_link, list_link, parameters_link, emit}
 use Rattle.language_emission.specs.EmissionLaws.{length-emit}
 use Rattle.language_emission.specs.KernelKinds.{StatementInKernel, a_block, ItemsInKernel}
-use Rattle.language_emission.specs.Emitted.{Row, EmittedExpression, constant-at, read_at, minus-at, binary-at, assign-at, call_at, EmittedPlace, variable-at, element-at, EmittedArguments, no-more-at, argument-at, EmittedParameters, no_parameter_at, parameter-at, EmittedStatement, empty-at, express-at, block_at, if-at, while-at, goto-at, abort-at, return-at, EmittedItems, none-at, then_at, label_at, define-at, emitted}
+use Rattle.language_emission.specs.Emitted.{Row, EmittedExpression, constant-at, read_at, minus-at, binary-at, assign-at, call_at, EmittedPlace, variable-at, element-at, EmittedArguments, no-more-at, argument-at, EmittedParameters, no_parameter_at, parameter-at, EmittedStatement, empty-at, express-at, block_at, if-at, while-at, goto-at, abort-at, return-at, EmittedItems, none-at, then_at, label_at, define-at}
+use Rattle.language_emission.proofs.EmittedLaws.{emitted}
 
 -- ---- links forward
 

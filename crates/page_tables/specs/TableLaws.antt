@@ -26,7 +26,7 @@ use Rattle.translation.specs.Translate.{translate, temporaries, kernel_header}
 use Rattle.language_emission.specs.Emission.{emit}
 use Rattle.language_emission.specs.EmissionLaws.{length-emit}
 use Rattle.language_emission.specs.KernelKinds.{a_block}
-use Rattle.language_emission.specs.Emitted.{emitted}
+use Rattle.language_emission.proofs.EmittedLaws.{emitted}
 use Rattle.language_emission.proofs.ReadBack.{decode-emit}
 use Rattle.translation_legal.specs.FormKinds.{program-kinds}
 use Rattle.translation_legal.proofs.EmittedStructured.{emitted-structured}

@@ -19,7 +19,7 @@ use Rattle.check_kernel.specs.Legal.{Legal}
 use Rattle.language_emission.specs.Emission.{emit}
 use Rattle.language_emission.specs.EmissionLaws.{length-emit}
 use Rattle.language_emission.specs.KernelKinds.{a_block}
-use Rattle.language_emission.specs.Emitted.{emitted}
+use Rattle.language_emission.proofs.EmittedLaws.{emitted}
 use Rattle.language_emission.proofs.ReadBack.{decode-emit, contents-emit}
 use Rattle.translation_legal.specs.FormKinds.{program-kinds}
 use Rattle.translation_legal.proofs.EmittedStructured.{emitted-structured}

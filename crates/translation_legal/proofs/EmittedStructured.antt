@@ -16,7 +16,8 @@ use Rattle.check_fields.specs.Fields.{bounds_of, number_fits}
 use Rattle.check_structure.specs.Structured.{Structured}
 use Rattle.language_emission.specs.Emission.{list_link, emit}
 use Rattle.language_emission.specs.EmissionLaws.{length-emit}
-use Rattle.language_emission.specs.Emitted.{Row, EmittedStatement, block_at, emitted}
+use Rattle.language_emission.specs.Emitted.{Row, EmittedStatement, block_at}
+use Rattle.language_emission.proofs.EmittedLaws.{emitted}
 use Rattle.language_emission.specs.KernelKinds.{a_block}
 use Rattle.translation_legal.specs.FormKinds.{program-kinds}
 use Rattle.translation_legal.specs.Suits.{RowLegal}

@@ -73,10 +73,10 @@ list-labels-requires t c κs =
     (counted.before.before.before.requires.1.0.measured, (listed t counted).inside, omega (arith, (takes t counted).labels_low))
 
 -- The sizes are known.
-abbrev own : (t : ℕ) → Sized → ℕ
+abbrev own : (t : ℕ) (c : lts.After-list-labels (write-function-claims t) (write-function-at t) reads.Post) → ℕ
 own t c = 1 + c.before.before.before.parameter-count.result
 
-abbrev all : (t : ℕ) → Sized → ℕ
+abbrev all : (t : ℕ) (c : lts.After-list-labels (write-function-claims t) (write-function-at t) reads.Post) → ℕ
 all t c = own t c + 1 + c.before.before.list-size.result
 
 fits : (t : ℕ) (c : lts.After-list-labels (write-function-claims t) (write-function-at t) reads.Post) → all t c ≤ c.before.before.before.before.before.before.args.size
@@ -154,7 +154,7 @@ put-parameters-requires t c κs =
     }
 
 -- The parameters are written.
-abbrev passed-table : (t : ℕ) → Passed → List ℤ
+abbrev passed-table : (t : ℕ) (c : lts.After-out2 (write-function-claims t) (write-function-at t) reads.Post) → List ℤ
 passed-table t c = back_in 1 c.before.before.before.before.put-row.new.1.1.1.1.1.0 c.before.put-parameters.new.1.1.1.1.0
 
 passed_length : (t : ℕ) (c : lts.After-out2 (write-function-claims t) (write-function-at t) reads.Post) → length (passed-table t c) ≡ length c.before.before.before.before.before.before.before.before.before.before.before.before.before.before.before.before.args.out.now
@@ -189,7 +189,7 @@ write-block-requires t c κs =
     let asks = start.requires.1.1 in
     let writing = start.requires.1.0 in
     let counted = sized.before.before.before in (
-      record { measured = writing.decreases; small_store = omega (arith, asks.takes.store_low, above t sized, (takes t counted).levels_are); few_levels = writing.few_levels },
+      record { measured = writing.measured; small_store = omega (arith, asks.takes.store_low, above t sized, (takes t counted).levels_are); few_levels = writing.few_levels },
       record {
         inside = (listed t counted).inside;
         room = room-behind (own t sized) _ (passed-table t passed) asks.takes.room (passed_length t passed) (omega (arith, (takes t counted).total));
@@ -199,7 +199,7 @@ write-block-requires t c κs =
     )
 
 -- The block is written.
-abbrev blocked-table : (t : ℕ) → Blocked → List ℤ
+abbrev blocked-table : (t : ℕ) (c : lts.After-out3 (write-function-claims t) (write-function-at t) reads.Post) → List ℤ
 blocked-table t c = back_in (own t c.before.before.before.before.before.before.before.before.before.before.before.before.before) (passed-table t c.before.before.before) c.before.write-block.new.1.1.1.1.1.1.1.1.0
 
 blocked-length : (t : ℕ) (c : lts.After-out3 (write-function-claims t) (write-function-at t) reads.Post) → length (blocked-table t c) ≡ length c.before.before.before.before.before.before.before.before.before.before.before.before.before.before.before.before.before.before.before.args.out.now
@@ -237,7 +237,7 @@ write-front-requires t c κs =
         record {
           inside = asks.next_inside;
           numbers = asks.numbers_behind;
-          takes t = record {
+          takes = record {
             size_is = rest;
             levels_are = above t sized;
             store_low = omega (arith, asks.takes.store_low, above t sized, (takes t counted).levels_are);

@@ -25,7 +25,7 @@ use Rattle.accepted_kernel.proofs.Kernel.{legal-block}
 use Rattle.page.specs.declared.Sizes.{Sizes}
 use Rattle.page.specs.Lines.{Indented, indented, branch_lines, items_lines, statement_lines}
 use Rattle.page.specs.Page.{name, page_bytes, lines_bytes}
-use Rattle.page.proofs.Fits.{AllFit, All-none, All-more}
+use Rattle.page.proofs.Fits.{AllFit, all_none, all_more}
 use Rattle.page.proofs.Widths.{line-width}
 use Rattle.page.specs.Tables.{sizes_of, table_lines, table_page, GivenBack}
 use Rattle.page_tables.specs.TableLaws.{lines_fit, name-width, parameter-width, few_arrays, lines-of-rows, page-columns, gives_back}
@@ -61,8 +61,8 @@ passed-all words i p h = record {
 narrow-fit : {Names Parameters : ℕ → Type 0} {arrays : ℕ} (sizes : Sizes) → ((i : ℕ) → Names i → length (name sizes i) ≤ 5) → ((i : ℕ) → Parameters i → length (name sizes i) ≤ 5) → arrays ≤ 32
     → (lines : List Indented) → AllFit Names arrays Parameters lines → Narrow sizes lines
 unfolding Narrow
-narrow-fit sizes names parameters few [] All-none = tt
-narrow-fit sizes names parameters few (indented level line ∷ lines) (All-more f h) = (omega (arith, line-width sizes names parameters few line f), narrow-fit sizes names parameters few lines h)
+narrow-fit sizes names parameters few [] all_none = tt
+narrow-fit sizes names parameters few (indented level line ∷ lines) (all_more f h) = (omega (arith, line-width sizes names parameters few line f), narrow-fit sizes names parameters few lines h)
 
 module _ (header rows : List ℤ) (legal : Legal header rows) (words : (i : ℕ) → mag (get_or rows i (pos 0)) < 2 ^ 31) where
   readable : Readable rows

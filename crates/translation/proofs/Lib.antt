@@ -25,6 +25,8 @@ pub mod FunctionPreserves
 pub mod TranslateRows
 -- The translation preserves runs: demand 3 on trees.
 pub mod TranslatePreserves
+-- What it is for both runs to make the same writes.
+pub mod WritesShown
 -- Both runs make the same writes, also where they never end.
 pub mod SameWrites
 -- No label stands twice.

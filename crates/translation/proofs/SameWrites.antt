@@ -17,19 +17,7 @@ use Rattle.language.specs.WellFormed.{SourceTree}
 use Rattle.translation.specs.Translate.{translate, temporaries}
 use Rattle.translation.specs.Related.{Measure, Logs, logs_none, logs_both, logs_kernel}
 use Rattle.translation.proofs.TranslatePreserves.{source_program, kernel_program, source_run, kernel_run, runs-logged}
-
--- ---- what is shown
-
--- "kernel rows × N steps"
-abbrev pub kernel_steps : ℕ → Items → ℕ → ℕ
-kernel_steps first program N = statement_rows (block (translate first program)) * N
-
--- Change 14 on trees, for a program, a store and temporaries.
-pub record SameWrites (L : Layout) (first : ℕ) (program : Items) (store temporaryWords : List ℤ) : Type 0 where
-  pub kernel_follows : (N : ℕ) → FirstOf (made (store_size L) (source_run L program store (steps N))) (made (store_size L) (kernel_run L first program store temporaryWords (steps (kernel_steps first program N))))
-  -- how many steps of the source are enough
-  pub source_steps : ℕ → ℕ
-  pub source_follows : (N : ℕ) → FirstOf (made (store_size L) (kernel_run L first program store temporaryWords (steps N))) (made (store_size L) (source_run L program store (steps (source_steps N))))
+use Rattle.translation.proofs.WritesShown.{kernel_steps, SameWrites}
 
 -- ---- logs
 

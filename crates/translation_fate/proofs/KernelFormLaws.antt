@@ -27,7 +27,8 @@ use Rattle.language.specs.Sizes.{statement_rows, statement_depth}
 use Rattle.language.specs.WellFormed.{SourceTree}
 use Rattle.translation.specs.Translate.{translate, temporaries}
 use Rattle.translation.proofs.TranslatePreserves.{source_program, kernel_program, SameWords, SharedFate as TreesShareFate, translation-preserves}
-use Rattle.translation.proofs.SameWrites.{SameWrites as TreesWriteAlike, translation-writes}
+use Rattle.translation.proofs.WritesShown.{SameWrites as TreesWriteAlike}
+use Rattle.translation.proofs.SameWrites.{translation-writes}
 use Rattle.translation_form.proofs.TemporariesHidden.{Shown, temporaries-hidden}
 use Rattle.translation.proofs.TranslateBounds.{rows_bound, temporaries-bound}
 use Rattle.translation.specs.Copies.{statement_copies, own_copies, own_results, program_total}

@@ -1,9 +1,9 @@
 -- Laws of previews: the tally is 0 exactly where none of the first S words differs; a run gives what was previewed.
 use Rattle.std.specs.Prelude.{◌≡◌, refl, Bool, true, false, ℕ, zero, suc, ◌+◌, ◌≤◌, ◌<◌, ltb, leb, eqb, ℤ, pos, get_or, take}
 use Rattle.std.proofs.Math.Path.{sym, ap}
-use Rattle.std.proofs.Common.{ap₂, ◌∙◌, subst, arith, add-one, drop_of_length-le, length-append, ext_get_or, take_at, get_or-take, length-take-le, ltb-true, ltb-false, eqb-true, eq-eqb, ne_eqb, le-leb}
+use Rattle.std.proofs.Common.{ap₂, ◌∙◌, subst, arith, add-one, length-append, ext_get_or, take_at, get_or-take, length-take-le, ltb-true, ltb-false, eqb-true, eq-eqb, ne_eqb, le-leb}
 use Rattle.std.proofs.lemmas.Bool.{false≢true, lt-leb}
-use mathlib.Core.List.{List, ◌++◌, append-nil}
+use mathlib.Core.List.{List, ◌++◌}
 use Rattle.std.proofs.Math.ListN.{length, drop}
 use Rattle.words.specs.Word.{same_word, pick}
 use Rattle.words.specs.Laws.{by_cases, same_word-refl, same_word-equal}
@@ -22,8 +22,8 @@ use Rattle.language.specs.Program.{Finished}
 use Rattle.language_programs.specs.Program.{source_size, run_program}
 use Rattle.language_programs.specs.ProgramLaws.{store_length, budget-zero}
 use Rattle.machine.specs.Whole.{finished_of}
-use Rattle.program_runs.specs.Runs.{RunResult, ran, run_refused, run_after, run_result, refusal_of}
-use Rattle.program_previews.specs.Previews.{one_unless, difference, differences, told_run, tally_of, PreviewResult, answer_and_words, preview_refused, preview_of, preview_if, preview_after, preview_of_run, preview_result, accepted_preview, Foretells, NoneIfEqual, RunAsPreviewed}
+use Rattle.program_runs.specs.Runs.{ran, run_refused, run_after, run_result, refusal_of}
+use Rattle.program_previews.specs.Previews.{one_unless, difference, differences, told_run, tally_of, answer_and_words, preview_refused, preview_of, preview_if, preview_after, preview_of_run, preview_result, accepted_preview, Foretells, NoneIfEqual, RunAsPreviewed}
 use Rattle.program_previews.specs.declared.PreviewAnswer.{PreviewAnswer}
 use Rattle.program_previews.specs.declared.PreviewVerdict.{PreviewVerdict}
 use Rattle.program_previews.specs.declared.PreviewVerdict.TheVariants.{Previewed, Refused as PreviewRefused}

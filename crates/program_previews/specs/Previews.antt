@@ -3,7 +3,7 @@ use Rattle.std.specs.Prelude.{◌≡◌, Bool, true, false, List, ℕ, zero, suc
 use Rattle.words.specs.Word.{same_word}
 use Rattle.words.specs.Over.{over}
 use Rattle.words.specs.Numbers.{Numbers, run_numbers}
-use Rattle.words.specs.Layout.{layout_of, store_size, store_words}
+use Rattle.words.specs.Layout.{store_words}
 use Rattle.words.specs.declared.Form.TheVariants.{Source}
 use Rattle.words.specs.declared.Refusal.{Refusal}
 use Rattle.words.specs.declared.Verdict.TheVariants.{Accepted}

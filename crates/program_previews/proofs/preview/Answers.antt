@@ -1,6 +1,5 @@
 -- `preview` hands the check's refusal on, or the preview of an accepted program.
 use mathlib.Core.Path.{sym, ◌∙◌}
-use borrow.Author.Rules.{rules}
 use Rattle.program_runs.specs.Runs.{run_result}
 use Rattle.program_previews.specs.Previews.{preview_result}
 use Rattle.program_previews.proofs.preview.Goals as goal

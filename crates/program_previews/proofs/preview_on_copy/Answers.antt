@@ -2,7 +2,6 @@
 use mathlib.Core.Path.{sym, ap, ◌∙◌}
 use Prim.Native.Nat.{ℕ}
 use native.Mathlib.Omega.{arith}
-use borrow.Author.Rules.{rules}
 use Rattle.words.specs.StoreLaws.{size-least}
 use Rattle.words.specs.declared.Form.TheVariants.{Source}
 use Rattle.language_programs.specs.Program.{source_size, run_program}
@@ -15,33 +14,22 @@ pub put-requires : goal.put-requires
 put-requires c = omega (arith, c.requires.store_len, c.requires.copy_len)
 
 pub run_accepted-run-requires : goal.run_accepted-run-requires
-run_accepted-run-requires c =
-    let copied = c in
-    let start = copied.before.before in
-    record { rows_value = start.requires.rows_value; store_len = copied.put.auto.out ∙ start.requires.copy_len }
+run_accepted-run-requires c = record { rows_value = c.requires.rows_value; store_len = c.put.auto.out ∙ c.requires.copy_len }
 
 pub store_size-size-requires : goal.store_size-size-requires
-store_size-size-requires c =
-    let start = c in
-    accepted-header Source start.args.header.now start.args.rows.now start.requires.rows_value
+store_size-size-requires c = accepted-header Source c.args.header.now c.args.rows.now c.requires.rows_value
 
 pub count_differences-requires : goal.count_differences-requires
 count_differences-requires c =
-    let ran = c in
-    let copied = ran.before.before.before in
-    let start = copied.before.before in
     let size = c.store_size-size.ensures in
-    let least = size-least Source start.args.header.now start.args.rows.now in
-    (omega (arith, size, least, start.requires.1.0), omega (arith, size, least, ran.run-accepted.auto.1.1.1.0, copied.put.auto.1.0, start.requires.1.1))
+    let least = size-least Source c.args.header.now c.args.rows.now in
+    (omega (arith, size, least, c.requires.store_len), omega (arith, size, least, c.run_accepted-run.auto.store, c.put.auto.out, c.requires.copy_len))
 
 pub shape_of-copy : goal.shape_of-copy
 shape_of-copy c = c.run_accepted-run.auto.store ∙ c.put.auto.out
 
 pub returns : goal.returns
 returns c =
-    let ran = c in
-    let copied = ran.before.before.before in
-    let start = copied.before.before in
-    foretold (run_program Source start.args.header.now start.args.rows.now start.args.budget) ran.run-accepted.result start.args.store.now start.args.copy.now _ _ (source_size start.args.header.now) c.count_differences.result
-    (start.requires.1.0 ∙ sym start.requires.1.1) copied.put.ensures ran.run-accepted.ensures
-    (c.count_differences.ensures ∙ ap (λ (n : ℕ). differences n start.args.store.now ran.run-accepted.new.1.1.1.0) c.store_size-size.ensures)
+    foretold (run_program Source c.args.header.now c.args.rows.now c.args.budget) c.run_accepted-run.result c.args.store.now c.args.copy.now _ _ (source_size c.args.header.now) c.count_differences.result
+    (c.requires.store_len ∙ sym c.requires.copy_len) c.put.ensures c.run_accepted-run.ensures
+    (c.count_differences.ensures ∙ ap (λ (n : ℕ). differences n c.args.store.now c.run_accepted-run.new.store) c.store_size-size.ensures)

@@ -14,7 +14,7 @@ use Rattle.words.specs.Word.{same_word, pick}
 use Rattle.words.specs.Laws.{back}
 use Rattle.words.specs.OverLaws.{part, back_in}
 use Rattle.text_numbers.specs.Writer.{Put}
-use Rattle.text_numbers.specs.PutLaws.{put-none, Put-as, put-length, put_next, put-space, put-inside}
+use Rattle.text_numbers.specs.PutLaws.{put-none, put_as, put-length, put_next, put-space, put-inside}
 use Rattle.command_preview_lines.specs.Changes.{change_line, change_at, change_lines}
 
 pub unchanged : (place : ℕ) (v w : ℤ) → same_word v w ≡ true → [] ≡ change_at place v w
@@ -56,7 +56,7 @@ module _ {shown : ℕ} {store left : List ℤ} {i at : ℕ} {buffer text : List 
   pub passed-end : shown ≤ i → Put (change_lines shown store left) buffer at text
   passed-end h =
       let e : i ≡ shown = omega (arith, b.inside) in
-      Put-as (ap (λ (n : ℕ). change_lines n store left) e) b.put
+      put_as (ap (λ (n : ℕ). change_lines n store left) e) b.put
 
   module _ (more : i < shown) where
     pub passed-space : 46 ≤ length (part at text)
@@ -69,5 +69,5 @@ module _ {shown : ℕ} {store left : List ℤ} {i at : ℕ} {buffer text : List 
       inside = omega arith;
       few = omega (arith, b.few);
       room = b.room;
-      put = Put-as (lines_next i store left) (put_next b.put (change_at i (word_of i store) (word_of i left)) size lent (Put-as (ap₂ (change_at i) (back (word_of i store) f) (back (word_of i left) g)) p));
+      put = put_as (lines_next i store left) (put_next b.put (change_at i (word_of i store) (word_of i left)) size lent (put_as (ap₂ (change_at i) (back (word_of i store) f) (back (word_of i left) g)) p));
     }

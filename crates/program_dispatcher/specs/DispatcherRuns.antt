@@ -4,7 +4,6 @@ use Rattle.words.specs.Word.{pick}
 use Rattle.words.specs.Answers.{ending_number}
 use Rattle.words.specs.Numbers.{Numbers, done, refused}
 use Rattle.words.specs.Layout.{layout_of, store_size, behind_of, zeros}
-use Rattle.words.specs.declared.Ending.{Ending}
 use Rattle.words.specs.declared.Form.TheVariants.{Kernel}
 use Rattle.words.specs.declared.Refusal.{Refusal}
 use Rattle.words.specs.declared.Verdict.{Verdict}

@@ -1,6 +1,5 @@
 -- `dispatcher_run` hands the check's refusal on, or the answer for an accepted program.
 use mathlib.Core.Path.{sym, ◌∙◌}
-use borrow.Author.Rules.{rules}
 use Rattle.program_dispatcher.specs.DispatcherRuns.{dispatcher_result}
 use Rattle.program_dispatcher.proofs.dispatcher_run.Goals as goal
 

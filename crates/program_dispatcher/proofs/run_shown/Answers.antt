@@ -1,7 +1,6 @@
 -- `run_shown` gives cause 11 for another number of words, and else the dispatcher's view of the run.
 use mathlib.Core.Path.{◌≡◌, ap}
 use native.Mathlib.Omega.{arith}
-use borrow.Author.Rules.{rules}
 use borrow.Author.Tests.{eq-eqb, ne_eqb}
 use lib.ListN.{length}
 use Rattle.words.specs.Layout.{layout_of, store_size}

@@ -27,6 +27,7 @@ use Rattle.check_structure.specs.Structured.{Leads, Structured}
 use Rattle.check_structure.specs.StructuredLaws.{structured-tree}
 use Rattle.check_structure.specs.RoleLaws.{RoleLink, of-definition, of_parameter, role-linked}
 use Rattle.accepted.specs.Sorts.{sort-is, item-next, between-true}
+use Rattle.accepted.specs.NamedWords.{NamesVariable, NamesDeclared, DeclaredNames}
 
 -- The field of a kind is one of a, b, c, d and next, and its sort passes the test.
 abbrev pub holds : (ℕ → Bool) → Kind → ℕ → Bool
@@ -38,18 +39,6 @@ links_other sort = is_link sort && not (eqb sort optional_parameter)
 
 abbrev pub no_link : ℕ → Bool
 no_link sort = not (is_link sort)
-
--- A variable number within the bounds: "numbers V to S−1 name nothing".
-abbrev pub NamesVariable : Bounds → ℕ → Type 0
-NamesVariable bounds number = (number < bounds.variables) ⊎ ((bounds.store ≤ number) × (number < bounds.words))
-
--- The number of a declaration or a parameter within the bounds.
-abbrev pub NamesDeclared : Bounds → ℕ → Type 0
-NamesDeclared bounds number = (bounds.declared.first ≤ number) × (number < bounds.declared.past)
-
--- Those are numbers of variables or of words behind the first S.
-abbrev pub DeclaredNames : Bounds → Type 0
-DeclaredNames bounds = (number : ℕ) → NamesDeclared bounds number → NamesVariable bounds number
 
 pub header-declared : (form : Form) (header : List ℤ) → DeclaredNames (bounds_of form header)
 unfolding bounds_of header_store

@@ -16,7 +16,8 @@ use Rattle.check_fields.specs.Fields.{bounds_in, bounds_of}
 use Rattle.check_fields.specs.declared.NumberRange.{NumberRange}
 use Rattle.check_fields.specs.declared.Bounds.{Bounds}
 use Rattle.check_structure.specs.Structured.{Structured}
-use Rattle.accepted.proofs.Fields.{NamesVariable, DeclaredNames, stays, names-variable, names-declared}
+use Rattle.accepted.specs.NamedWords.{NamesVariable, DeclaredNames}
+use Rattle.accepted.proofs.Fields.{stays, names-variable, names-declared}
 use Rattle.accepted.proofs.Expressions.{ExpressionRow}
 use Rattle.accepted.proofs.NamedBelow.{named-below, named-part-below}
 use Rattle.accepted.proofs.Statements.{PartRow, StatementRow, empty-row, express-row, block-row, if_then-row, if_else-row, while-row, do_while-row, for-row, switch-row, case_row, default_row, break-row, continue-row, goto-row, label-row, guarded_if-row, guarded_do-row, abort-row, declare-row, return-row, definition-row, ArmsRow, no-arms, arm-row, ListRow, no_items, item, case-item, default-item, label-item, definition-item, ParametersRow, no-parameters, parameter-row, root-inside, program-list, program-contents, program-block}

@@ -42,18 +42,11 @@ use Rattle.accepted.specs.Sums.{total_from, along, brought, total-one, gathers}
 use Rattle.accepted.proofs.Expressions.{ExpressionRow, constant-row, variable-row, element-row, minus-row, not-row, binary-row, and-row, or-row, comma-row, conditional-row, assign-row, compound-row, prefix-row, postfix-row, call-row, ArgumentsRow, no_arguments, argument-row, place_at, whole-rows, place-expression, expression-row, arguments-some, arguments-row}
 use Rattle.accepted.proofs.Definitions.{Defines, defines}
 use Rattle.accepted.proofs.Statements.{StatementRow, empty-row, express-row, block-row, if_then-row, if_else-row, while-row, do_while-row, for-row, switch-row, case_row, default_row, break-row, continue-row, goto-row, label-row, guarded_if-row, guarded_do-row, abort-row, declare-row, return-row, definition-row, ParametersRow, no-parameters, parameter-row, ArmsRow, no-arms, arm-row, list-some, arms-some, parameters-some, root-inside, root-kind, root-other, root-statement, statement-held, arms-row, parameters-row}
+use Rattle.accepted.specs.TreeRows.{tree_rows}
 
 unfoldable all : (ℕ → Bool) → ℕ → ℕ → Bool
 all test from zero = true
 all test from (suc count) = test from && all test (from + 1) count
-
--- The rows of the tree at a row; from a statement on, with the items behind it; from an arm, an argument or a parameter on, with those behind it.
-unfoldable pub tree_rows : List ℤ → ℕ → ℕ
-tree_rows rows row =
-    pick (is_expression rows row) (expression_rows (expression_at rows row))
-    (pick (is_arm rows row) (arms_rows (arms_at rows row))
-    (pick (is_argument rows row) (arguments_rows (arguments_at rows row))
-    (pick (is_parameter rows row) (length (parameters_at rows row)) (items_rows (items_at rows row)))))
 
 module _ (form : Form) (bounds : Bounds) (rows : List ℤ) (s : Structured form bounds rows) (ordered : (row : ℕ) → row < row_count rows → DefinedInOrder rows row) where
   whole : Whole rows

@@ -23,7 +23,8 @@ use Rattle.check_structure.specs.StructuredLaws.{structured-tree}
 use Rattle.accepted.specs.Sorts.{sort-is, operand-is}
 use Rattle.accepted.proofs.Expressions.{whole-rows}
 use Rattle.accepted.specs.Sums.{total_from, along, brought, total-one, gathers}
-use Rattle.accepted.proofs.Rows.{tree_rows, expression-weight, row-adds}
+use Rattle.accepted.specs.TreeRows.{tree_rows}
+use Rattle.accepted.proofs.Rows.{expression-weight, row-adds}
 
 -- one term of a sum
 term-most : (f : ℕ → ℕ) (field : ℕ) → 1 ≤ field → field < 6 → f field ≤ total_from f 1 5

@@ -5,6 +5,10 @@
 pub mod Worded
 -- Gives: runs that give a value with a property.
 pub mod Gives
+-- Named words: the numbers that name a word of the store within the bounds of a table.
+pub mod NamedWords
+-- Tree rows: how many rows the tree at a row has.
+pub mod TreeRows
 -- ---- laws
 -- Sorts: the table of kinds by kind: what each field of a row of a kind holds.
 pub mod Sorts

@@ -22,7 +22,8 @@ use Rattle.check_labels.specs.Ahead.{Label}
 use Rattle.check_plain.specs.Plain.{Plain}
 use Rattle.accepted.specs.Sums.{total, total_from, along, brought, gathers}
 use Rattle.accepted.proofs.Statements.{list-some, root-inside, root-statement, program-contents}
-use Rattle.flat_kernel_rows.proofs.Rows.{Lone, Listed, KernelRow, empty-row, assign-row, block-row, if-row, while-row, goto-row, label-row, abort-row, StatementLink, expression-or-statement, statement-link, next-at, block_at, kernel-row, label-list, statement-list, lone-list, linking-statement, label-statement, may_link, none-linked, as-expression}
+use Rattle.flat_kernel_rows.specs.StatementLinks.{StatementLink}
+use Rattle.flat_kernel_rows.proofs.Rows.{Lone, Listed, KernelRow, empty-row, assign-row, block-row, if-row, while-row, goto-row, label-row, abort-row, expression-or-statement, statement-link, next-at, block_at, kernel-row, label-list, statement-list, lone-list, linking-statement, label-statement, may_link, none-linked, as-expression}
 
 -- At most one of these is there.
 module _ (here? : ℕ → Bool) (single : (i j : ℕ) → here? i ≡ true → here? j ≡ true → i ≡ j) where

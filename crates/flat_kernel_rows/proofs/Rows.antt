@@ -32,6 +32,7 @@ use Rattle.accepted.specs.Sorts.{statement_number, between-true, number_is, sort
 use Rattle.accepted.proofs.Fields.{holds, Linked, MayLink, linked, may-link, item-link}
 use Rattle.accepted.proofs.Expressions.{whole-rows}
 use Rattle.accepted.proofs.Statements.{list-some}
+use Rattle.flat_kernel_rows.specs.StatementLinks.{StatementLink, next-item, first-item, true_branch, false_branch, loop_body}
 
 module _ (rows : List ℤ) where
   -- A link to a branch or body: a block with nothing behind it.
@@ -141,14 +142,6 @@ argument_tested number kind = pick (eqb (sort_in kind 0) argument_row) (is_funct
 argument-number : (rows : List ℤ) (row : ℕ) → is_argument rows row ≡ true → is_function_number (number_at rows row 0) ≡ true
 unfolding is_argument sort_at sort_of every_line kinds is_function_number sort_in kind_row expression_fields statement_fields mark_fields definition_fields member_fields
 argument-number rows row e = rw e at (every-number argument_tested refl (λ number. refl) (number_at rows row 0))
-
--- A field that links a statement.
-pub data StatementLink (rows : List ℤ) (row : ℕ) : ℕ → Type 0 where
-  next-item : {field : ℕ} → field ≡ 5 → is_statement rows row ≡ true → StatementLink rows row field
-  first-item : {field : ℕ} → field ≡ 1 → number_at rows row 0 ≡ 42 → StatementLink rows row field
-  true_branch : {field : ℕ} → field ≡ 2 → number_at rows row 0 ≡ 43 → StatementLink rows row field
-  false_branch : {field : ℕ} → field ≡ 3 → number_at rows row 0 ≡ 43 → StatementLink rows row field
-  loop_body : {field : ℕ} → field ≡ 2 → number_at rows row 0 ≡ 44 → StatementLink rows row field
 
 -- an expression, a place or an arm is no statement
 not-statement : (rows : List ℤ) (row least most : ℕ) → (statement_row < least) ⊎ (most < statement_row) → between least most (sort_at rows row 0) ≡ true → is_statement rows row ≡ false

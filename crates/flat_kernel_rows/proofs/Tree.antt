@@ -15,7 +15,8 @@ use Rattle.check_fields.specs.Fields.{bounds_of, bounds_in}
 use Rattle.check_structure.specs.StructuredLaws.{structured-tree}
 use Rattle.translation.specs.KernelForm.{KernelName, name_variable, name_temporary, KernelTree}
 use Rattle.check_plain.specs.Plain.{Plain}
-use Rattle.accepted.proofs.Fields.{NamesVariable, header-declared}
+use Rattle.accepted.specs.NamedWords.{NamesVariable}
+use Rattle.accepted.proofs.Fields.{header-declared}
 use Rattle.accepted.proofs.Names.{named-contents}
 use Rattle.accepted.proofs.Statements.{root-inside, root-statement, program-contents}
 use Rattle.accepted_kernel.proofs.Kernel.{legal-form, legal-calls, legal-rows, legal-depth}

@@ -1,1 +1,4 @@
 -- What stands at each row of a legal kernel program, whatever the numbering. A line of comment for each file.
+
+-- Statement links: the fields of a kernel row that link a statement.
+pub mod StatementLinks

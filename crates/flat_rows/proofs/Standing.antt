@@ -25,7 +25,8 @@ use Rattle.check_structure.specs.NoteLaws.{above_zero, note-root, note-link}
 use Rattle.check_plain.specs.Plain.{Plain}
 use Rattle.accepted.proofs.Statements.{list-some}
 use Rattle.accepted_kernel.proofs.Kernel.{legal-rows, plain-program}
-use Rattle.flat_kernel_rows.proofs.Rows.{Lone, Listed, BlockRow, IfRow, WhileRow, KernelRow, empty-row, assign-row, block-row, if-row, while-row, goto-row, label-row, abort-row, StatementLink, next-item, first-item, true_branch, false_branch, loop_body, expression-or-statement, statement-link, next-at, kernel-row, label-list, statement-list, lone-list, linking-statement, label-statement, as-expression, block_at, if-of, while-of}
+use Rattle.flat_kernel_rows.specs.StatementLinks.{StatementLink, next-item, first-item, true_branch, false_branch, loop_body}
+use Rattle.flat_kernel_rows.proofs.Rows.{Lone, Listed, BlockRow, IfRow, WhileRow, KernelRow, empty-row, assign-row, block-row, if-row, while-row, goto-row, label-row, abort-row, expression-or-statement, statement-link, next-at, kernel-row, label-list, statement-list, lone-list, linking-statement, label-statement, as-expression, block_at, if-of, while-of}
 use Rattle.flat_kernel_rows.proofs.Labels.{plain-once}
 use Rattle.flat_kernel_rows.proofs.Tree.{root-items}
 use Rattle.flat.specs.Lines.{FlatLine}

@@ -18,7 +18,8 @@ use Rattle.check_grammar.specs.GrammarLaws.{kind-links-none}
 use Rattle.check_structure.specs.LinkLaws.{owner_of}
 use Rattle.check_structure.specs.NoteLaws.{above_zero}
 use Rattle.check_kernel.specs.Accepts.{structured-labels}
-use Rattle.flat_kernel_rows.proofs.Rows.{KernelTable, Lone, Listed, BlockRow, StatementLink, next-item, first-item, true_branch, false_branch, loop_body, statement-link, next-at, block_at, if-of, while-of, linking-statement, statement-number, may_link, none-linked}
+use Rattle.flat_kernel_rows.specs.StatementLinks.{StatementLink, next-item, first-item, true_branch, false_branch, loop_body}
+use Rattle.flat_kernel_rows.proofs.Rows.{KernelTable, Lone, Listed, BlockRow, statement-link, next-at, block_at, if-of, while-of, linking-statement, statement-number, may_link, none-linked}
 use Rattle.flat_fate.specs.Code.{operand_of, always, statement_lines}
 use Rattle.flat_fate.proofs.CodeStands.{first_at, second_at, body_at}
 use Rattle.flat_fate.proofs.Addresses.{address_in}

@@ -37,7 +37,7 @@ use Rattle.translation_legal.specs.FormKinds.{program-kinds}
 use Rattle.translation_legal.proofs.EmittedLegal.{translated-contents}
 use Rattle.translation_fate.specs.Fate.{SharedFate as SourceKernelFate}
 use Rattle.translation_fate.specs.KernelForms.{kernel_header_of, kernel_rows_of, KernelFormOf}
-use Rattle.translation_fate.proofs.KernelFormLaws.{has-kernel-form}
+use Rattle.translation_fate.proofs.HasKernelForm.{has-kernel-form}
 use Rattle.flat.specs.Refusal.{refusal as flat_refusal}
 use Rattle.flat.proofs.Accepts.{legal_accepted as flat-accepts}
 use Rattle.flat_fate.proofs.Addresses.{flat_of}

@@ -48,7 +48,8 @@ use Rattle.join.proofs.JoinedSeams.{some_first, some-second, stands-first, stand
 use Rattle.join.proofs.JoinedStructured.{joined-structured}
 use Rattle.join.specs.JoinedTrees.{behind_front, joined_items}
 use Rattle.join_names.specs.JoinedCalls.{first_number, second_number, first-number}
-use Rattle.join_names.proofs.JoinedWords.{moved_name, moved-outer, moved-declared, moved_none, moved-below, moved_apart}
+use Rattle.join_names.specs.WordsOfJoin.{moved_name}
+use Rattle.join_names.proofs.JoinedWords.{moved-outer, moved-declared, moved_none, moved-below, moved_apart}
 use Rattle.join_names.specs.MovedNames.{declaration-names, name-names, resolved-holds}
 use Rattle.join_names.specs.MovedScope.{Outside, scope-hands}
 use Rattle.join_names.specs.ResolvedFronts.{resolved-definition, resolved-functions, definition-number, resolved-in-order}

@@ -14,17 +14,7 @@ use Rattle.names.specs.Names.{word_of}
 use Rattle.names.proofs.ScopeLaws.{before-later, word_after, word_below, word-later}
 use Rattle.join.specs.Join.{before}
 use Rattle.join.proofs.Counting.{counted}
-
--- The declaration with so many before it, among so many rows; 0 where there is none.
-unfoldable pub declaration_from : ℕ → List ℤ → ℕ → ℕ
-declaration_from zero rows earlier = 0
-declaration_from (suc row) rows earlier =
-    let rest = declaration_from row rows earlier in
-    pick (is_declaration rows row && eqb (declarations_before rows row) earlier) row rest
-
--- The word of the join that stands for a word of one of its programs, whose row r is row ρ r there: the first S stay.
-unfoldable pub moved_name : ℕ → List ℤ → List ℤ → (ℕ → ℕ) → ℕ → ℕ
-moved_name S joined rows ρ word = pick (ltb word S) word (word_of S joined (ρ (declaration_from (row_count rows) rows (word - S))))
+use Rattle.join_names.specs.WordsOfJoin.{declaration_from, moved_name}
 
 -- ---- laws
 

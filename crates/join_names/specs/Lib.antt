@@ -5,6 +5,8 @@
 pub mod JoinedFate
 -- Examples: joins of programs that declare a number, their names resolved, by computing.
 pub mod Examples
+-- WordsOfJoin: the word of a join that stands for a word of one of its programs.
+pub mod WordsOfJoin
 -- ---- laws
 -- MovedScope: the scope of a moved row, and what a number means there, are the moved ones.
 pub mod MovedScope

@@ -15,7 +15,7 @@ use Rattle.language.specs.Trees.{Expression, constant, read, minus, binary, call
 use Rattle.language.specs.Program.{contents}
 use Rattle.check_fields.specs.Fields.{bounds_of}
 use Rattle.check_kernel.specs.Legal.{Legal}
-use Rattle.accepted.proofs.Fields.{NamesVariable}
+use Rattle.accepted.specs.NamedWords.{NamesVariable}
 use Rattle.accepted_kernel.proofs.Kernel.{legal-form, legal-rows}
 use Rattle.page.specs.declared.Sizes.{Sizes}
 use Rattle.page.specs.Lines.{PageLine, parameter, last_parameter, Indented, indented, items_lines, plain, read_lines}

@@ -33,7 +33,8 @@ use Rattle.translation_legal.proofs.EmittedStructured.{emitted-structured}
 use Rattle.translation_legal.proofs.Parameters.{OwnWords, OwnParameters, FrontParameters, own-front}
 use Rattle.translation_legal.proofs.EmittedLegal.{translated-legal, translated-decodes}
 use Rattle.check_kernel.specs.Legal.{Legal}
-use Rattle.accepted.proofs.Fields.{NamesVariable, header-declared}
+use Rattle.accepted.specs.NamedWords.{NamesVariable}
+use Rattle.accepted.proofs.Fields.{header-declared}
 use Rattle.accepted.proofs.Names.{named-contents}
 use Rattle.accepted.specs.Worded.{ValuedStatement, ValuedItems, IsWord}
 use Rattle.accepted.proofs.Words.{structured-worded}

@@ -29,7 +29,8 @@ use Rattle.translation.specs.Translate.{translate, temporaries}
 use Rattle.translation.proofs.TranslatePreserves.{source_program, kernel_program, SameWords, SharedFate as TreesShareFate, translation-preserves}
 use Rattle.translation.proofs.WritesShown.{SameWrites as TreesWriteAlike}
 use Rattle.translation.proofs.SameWrites.{translation-writes}
-use Rattle.translation_form.proofs.TemporariesHidden.{Shown, temporaries-hidden}
+use Rattle.translation_form.proofs.TemporariesHidden.{Shown}
+use Rattle.translation_form.proofs.HiddenTemporaries.{temporaries-hidden}
 use Rattle.translation.proofs.TranslateBounds.{rows_bound, temporaries-bound}
 use Rattle.translation.specs.Copies.{statement_copies, own_copies, own_results, program_total}
 use Rattle.translation.proofs.CopyLaws.{copies-exactly}
@@ -72,14 +73,14 @@ same_view S more most r q h = ap₂ (λ (ending : Ending) (words : List ℤ). re
     words = sym (take-take S more (final r).store most) ∙ ap (take S) h.same_words ∙ take-take S more (final q).store most
 
 module _ (header rows : List ℤ) (legal : Legal header rows) where
-  abbrev L : Layout
+  abbrev pub L : Layout
   L = layout_of Source header
 
-  abbrev program : Items
+  abbrev pub program : Items
   program = contents (resolved_rows Source header rows)
 
   -- where the temporaries begin
-  abbrev first : ℕ
+  abbrev pub first : ℕ
   first = store_words Source header rows
 
   inside : store_size L ≤ first
@@ -88,19 +89,19 @@ module _ (header rows : List ℤ) (legal : Legal header rows) where
   tree : SourceTree L first program
   tree = rw (source-store header rows) (table-tree header rows legal)
 
-  source-rows : statement_rows (block program) ≡ row_count rows
+  pub source-rows : statement_rows (block program) ≡ row_count rows
   source-rows = table-rows header rows legal
 
   few-source-rows : row_count rows ≤ 2048
   few-source-rows = let c = count_fits-facts Source (length rows) legal.structured.count-fits in omega (arith, c.most)
 
-  few : statement_rows (block program) ≤ 2048
+  pub few : statement_rows (block program) ≤ 2048
   few = omega (arith, source-rows, few-source-rows)
 
-  shallow : statement_depth (block program) ≤ 64
+  pub shallow : statement_depth (block program) ≤ 64
   shallow = table-depth header rows legal
 
-  own : OwnParameters (store_size L) (declaration_count rows) program
+  pub own : OwnParameters (store_size L) (declaration_count rows) program
   own = own-parameters (store_size L) rows (structured-tree Source _ rows legal.structured) (table-functions header rows legal)
 
   -- ---- the kernel's tables say the translation
@@ -109,12 +110,12 @@ module _ (header rows : List ℤ) (legal : Legal header rows) where
   unfolding kernel_header_of
   kernel-layout = header-layout L (declaration_count rows) (temporaries program)
 
-  kernel-temporaries : temporaries_of Kernel (kernel_header_of header rows) ≡ temporaries program
+  pub kernel-temporaries : temporaries_of Kernel (kernel_header_of header rows) ≡ temporaries program
   unfolding kernel_header_of
   kernel-temporaries = header-temporaries L (declaration_count rows) (temporaries program)
 
   -- "At most 64."
-  declared : declaration_count rows ≤ 64
+  pub declared : declaration_count rows ≤ 64
   declared = legal-declarations header rows legal
 
   kernel-declared : declared_of Kernel (kernel_header_of header rows) ≡ declaration_count rows
@@ -129,7 +130,7 @@ module _ (header rows : List ℤ) (legal : Legal header rows) where
   unfolding kernel_rows_of
   kernel-contents = rw (source-store header rows) (translated-contents header program legal.header-fits few shallow (declaration_count rows) declared (table-tree header rows legal))
 
-  kernel-rows : row_count (kernel_rows_of header rows) ≡ statement_rows (block (translate first program))
+  pub kernel-rows : row_count (kernel_rows_of header rows) ≡ statement_rows (block (translate first program))
   unfolding kernel_rows_of
   kernel-rows = let l = length-emit (block (translate first program)) in omega arith
 
@@ -234,7 +235,7 @@ module _ (header rows : List ℤ) (legal : Legal header rows) where
     ends-kernel : Ends (kernel_program L first program) (start (common ++ temporaryWords)) → KernelEnds header rows K R store declaredWords kernelDeclared temporaryWords
     ends-kernel e = record { budget = e.budget; ends = rw (kernel-on e.budget) (settled-ends (kernel_on e.budget) e.settled) }
 
-    shared-fate : SharedFate header rows K R store declaredWords kernelDeclared temporaryWords
+    pub shared-fate : SharedFate header rows K R store declaredWords kernelDeclared temporaryWords
     shared-fate = record {
       end-together = (λ e. ends-kernel (fate.ends_together.0 (source-ends e)), λ e. ends-source (fate.ends_together.1 (kernel-ends e)));
       same_ending = λ b d s t. rw (source-ending b, kernel-on d) (fate.same_ending b d (source-settled b s) (kernel-settled d t));
@@ -250,34 +251,18 @@ module _ (header rows : List ℤ) (legal : Legal header rows) where
     source-writes : (N : ℕ) → made (store_size L) (run_under (steps N) Source header rows (store ++ declaredWords)) ≡ made (store_size L) (source_on N)
     source-writes N = declared-write-alike header rows legal store kernelDeclared declaredWords outer kernel-all all (steps N) ∙ ap (made (store_size L)) (source-under common temporaryWords common-words enough N)
 
-    same_writes : SameWrites header rows K R store declaredWords kernelDeclared temporaryWords
+    pub same_writes : SameWrites header rows K R store declaredWords kernelDeclared temporaryWords
     same_writes = record {
       kernel_follows = λ N. rw (kernel-rows, source-writes N, kernel-on-under (statement_rows (block (translate first program)) * N)) (writes-on.kernel_follows N);
       source_follows = λ N. record { within = writes-on.source_steps N; as_first = rw (kernel-on-under N, source-writes (writes-on.source_steps N)) (writes-on.source_follows N) };
     }
 
-  hides_temporaries : HidesTemporaries (kernel_header_of header rows) (kernel_rows_of header rows)
+  pub hides_temporaries : HidesTemporaries (kernel_header_of header rows) (kernel_rows_of header rows)
   hides_temporaries store temporaryWords others words are others-are budget =
       let all_words : length store ≡ first = rw (kernel-layout, kernel-declared, ← source-store header rows) at words in
       let h = temporaries-hidden L first inside program tree store all_words (steps budget) temporaryWords others (omega (arith, are, others-are)) in
       rw (kernel-run store temporaryWords all_words are budget, kernel-run store others all_words others-are budget, kernel-layout) (same_view (store_size L) first inside _ _ h)
 
-  copies_allowed : statement_copies first (decode (kernel_rows_of header rows)) ≡ program_total (own_copies (functions_write program)) program + program_total (own_results (functions_write program)) program
+  pub copies_allowed : statement_copies first (decode (kernel_rows_of header rows)) ≡ program_total (own_copies (functions_write program)) program + program_total (own_results (functions_write program)) program
   unfolding statement_copies store_size
   copies_allowed = ap (statement_copies first) kernel-tree ∙ copies-exactly L first program tree
-
-  kernel-form-of : KernelFormOf header rows (kernel_header_of header rows) (kernel_rows_of header rows)
-  unfolding kernel_header_of kernel_rows_of
-  kernel-form-of = record {
-    accepted = (kernel-accepts (kernel_header_of header rows) (kernel_rows_of header rows)).1 (rw (source-store header rows) (translated-legal header program legal.header-fits few shallow (declaration_count rows) declared (table-tree header rows legal) own));
-    share_fate = λ store own others temporaryWords s d k t. shared-fate store own others temporaryWords s d k t;
-    write_alike = λ store own others temporaryWords s d k t. same_writes store own others temporaryWords s d k t;
-    hides_temporaries = hides_temporaries;
-    few_rows = omega (arith, kernel-rows, rows_bound first program, source-rows);
-    few_temporaries = omega (arith, kernel-temporaries, temporaries-bound program, source-rows);
-    copies_allowed = copies_allowed;
-  }
-
--- Demands 2 and 3 and Changes 9 and 14, for every accepted program.
-pub has-kernel-form : (header rows : List ℤ) → HasKernelForm header rows
-has-kernel-form header rows e = kernel-form-of header rows ((source-accepts header rows).0 e)

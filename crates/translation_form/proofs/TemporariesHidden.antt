@@ -23,7 +23,7 @@ use Rattle.translation_form.specs.BlindCode.{Ground, after, BlindItems, items-no
 use Rattle.translation_form.specs.TranslateBlind.{items-blind}
 
 -- Fewer words seen where a run stops.
-blind-fewer : {A : Type 0} {few many P : Words} {Q : A → Words} {m : Computation A} → few within many → Blind many P Q m → Blind few P Q m
+pub blind-fewer : {A : Type 0} {few many P : Words} {Q : A → Words} {m : Computation A} → few within many → Blind many P Q m → Blind few P Q m
 blind-fewer {A} {few} {many} {Q = Q} h b = record { same = λ l σ τ g. fewer (b.same l σ τ g) }
   where
     fewer : {r q : Result A} → Same many Q r q → Same few Q r q
@@ -102,7 +102,7 @@ module _ (L : Layout) (first : ℕ) (inside : store_size L ≤ first) where
     abbrev code : Items
     code = translate first program
 
-    calls_blind : (calls : ℕ) → CallsBlind (call_by calls L code)
+    pub calls_blind : (calls : ℕ) → CallsBlind (call_by calls L code)
     unfolding call_by translate
     calls_blind zero f values P seen = blind-ret P (pos 0) (λ i p. p)
     calls_blind (suc calls) f values P seen =
@@ -111,7 +111,7 @@ module _ (L : Layout) (first : ℕ) (inside : store_size L ≤ first) where
     abbrev main_ground : Ground
     main_ground = ground (call_by (function_count code) L code) (calls_blind (function_count code)) Visible (λ i v. v)
 
-    translated-blind : Blind Visible Visible (after main_ground Visible) (exec (context_of L code) (block code))
+    pub translated-blind : Blind Visible Visible (after main_ground Visible) (exec (context_of L code) (block code))
     unfolding translate perform context_of
     translated-blind =
         blind-then Visible (blind-step Visible (λ i v. v)) (λ _. rw (code-main (functions_write program) first (context_of L code) program 1 next)
@@ -135,14 +135,14 @@ take_same (suc n) (x ∷ s) (y ∷ t) e h = ap (λ (v : ℤ). v ∷ take n s) (h
 
 -- The temporaries begin at the store word `S`.
 module _ (L : Layout) (S : ℕ) (inside : store_size L ≤ S) (program : Items) (tree : SourceTree L S program) (store : List ℤ) (All-words : length store ≡ S) where
-  start-agree : (temporaries others : List ℤ) → length temporaries ≡ length others → Agree (Visible L S inside) (start (store ++ temporaries)) (start (store ++ others))
+  pub start-agree : (temporaries others : List ℤ) → length temporaries ≡ length others → Agree (Visible L S inside) (start (store ++ temporaries)) (start (store ++ others))
   start-agree temporaries others e = record {
     counts = refl;
     lengths = omega (arith, length-append store temporaries, length-append store others);
     values = λ i k. get_or-append store temporaries (pos 0) i (omega arith) ∙ sym (get_or-append store others (pos 0) i (omega arith));
   }
 
-  shown : {r q : Result Signal} → Same (Visible L S inside) (after (main_ground L S inside program tree) (Visible L S inside)) r q → Shown S r q
+  pub shown : {r q : Result Signal} → Same (Visible L S inside) (after (main_ground L S inside program tree) (Visible L S inside)) r q → Shown S r q
   shown (same_ok {a = signal} {σ} {τ} g) = let a : Agree (Visible L S inside) σ τ = seen signal σ τ g in record { same_ending = refl; same_words = take_same S _ _ a.lengths a.values; same_count = a.counts }
     where
       seen : (signal : Signal) (σ τ : State) → Agree (after (main_ground L S inside program tree) (Visible L S inside) signal) σ τ → Agree (Visible L S inside) σ τ
@@ -153,9 +153,3 @@ module _ (L : Layout) (S : ℕ) (inside : store_size L ≤ S) (program : Items) 
       seen (returning v) σ τ g = g
   shown (same-stopped {why = spent} g) = record { same_ending = refl; same_words = take_same S _ _ g.lengths g.values; same_count = g.counts }
   shown (same-stopped {why = fault sort} g) = record { same_ending = refl; same_words = take_same S _ _ g.lengths g.values; same_count = g.counts }
-
-  -- Under every limit, runs that are cut off included.
-  pub temporaries-hidden : (limit : Limit) (temporaries others : List ℤ) → length temporaries ≡ length others
-      → Shown S (run limit (exec (context_of L (translate S program)) (block (translate S program))) (start (store ++ temporaries)))
-      (run limit (exec (context_of L (translate S program)) (block (translate S program))) (start (store ++ others)))
-  temporaries-hidden limit temporaries others e = shown ((translated-blind L S inside program tree).same limit _ _ (start-agree temporaries others e))

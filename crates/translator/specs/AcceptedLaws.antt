@@ -32,7 +32,8 @@ use Rattle.language_emission.specs.EmissionLaws.{length-emit}
 use Rattle.check_source.specs.Refusal.{refusal as source_refusal}
 use Rattle.check_source.specs.Legal.{Legal}
 use Rattle.check_source.proofs.AcceptsLegal.{accepts-legal}
-use Rattle.accepted.proofs.Fields.{NamesVariable, resolved-declared, names-variable, names-declared}
+use Rattle.accepted.specs.NamedWords.{NamesVariable}
+use Rattle.accepted.proofs.Fields.{resolved-declared, names-variable, names-declared}
 use Rattle.check_source.specs.DeclarationLaws.{legal-declarations}
 use Rattle.accepted.proofs.Names.{source-name}
 use Rattle.accepted.proofs.Resolved.{table-structured, table-sound, table-calls, table-rows}

@@ -2,7 +2,7 @@
 -- shares its fate is a theorem about the definitions.
 use mathlib.Core.Path.{sym, ◌∙◌}
 use borrow.Author.Rules.{rules}
-use Rattle.translation_fate.proofs.KernelFormLaws.{has-kernel-form}
+use Rattle.translation_fate.proofs.HasKernelForm.{has-kernel-form}
 use Rattle.translator.specs.Translation.{translate_result}
 use Rattle.translator.proofs.translate.Goals as goal
 

@@ -8,7 +8,7 @@ use Rattle.words.specs.declared.Verdict.TheVariants.{Accepted}
 use Rattle.check_source.specs.Refusal.{refusal as source_refusal}
 use Rattle.accepted_rows.specs.ResolvedPrograms.{undeclared-table}
 use Rattle.translation_fate.specs.KernelForms.{HasKernelForm}
-use Rattle.translation_fate.proofs.KernelFormLaws.{has-kernel-form}
+use Rattle.translation_fate.proofs.HasKernelForm.{has-kernel-form}
 use Rattle.translator.specs.declared.TranslateAnswer.{TranslateAnswer}
 use Rattle.translator.specs.Translation.{answer_and_tables, translate_after, translate_result, WritesKernelForm}
 use Rattle.translator.proofs.TranslationLaws.{accepted-result, writes-kernel-form}

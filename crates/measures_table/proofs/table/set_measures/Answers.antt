@@ -2,7 +2,6 @@
 use native.Mathlib.Omega.{arith}
 use lib.ListN.{length-set}
 use Rattle.measures_table.proofs.Stores.{nineteen-stores}
-use borrow.Author.Rules.{rules}
 use Rattle.measures_table.proofs.table.set_measures.Goals as goal
 
 pub bounds-table-at-2 : goal.bounds-table-at-2

@@ -1,6 +1,4 @@
 -- The use of the second operand's value.
-use borrow.Author.Rules.{rules}
-use Rattle.measures_table.proofs.uses.passed_on.Reads as passed-on-reads
 use Rattle.measures_table.proofs.uses.second_use.Goals as goal
 
 pub returns-then-passes : goal.returns-then-passes

@@ -2,10 +2,6 @@
 use Rattle.language_shapes.specs.ShapeLaws.{argued}
 use Rattle.write_sets_rows.proofs.WriteLaws.{link-held}
 use Rattle.write_sets_rows.proofs.ArgumentLaws.{argument-set, no-argument-set}
-use borrow.Author.Rules.{rules}
-use Rattle.write_sets_rows.proofs.table.set_at.Reads as set-at-reads
-use Rattle.language_shapes.proofs.rows.argument_at.Reads as argument-at-reads
-use Rattle.write_sets.proofs.nothing.Reads as nothing-reads
 use Rattle.write_sets_rows.proofs.arguments.argument_writes.Goals as goal
 
 pub set_at-requires : goal.set_at-requires

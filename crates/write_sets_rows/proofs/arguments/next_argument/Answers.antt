@@ -1,9 +1,6 @@
 -- The row of the argument behind, by the shape of the row.
 use Rattle.language_shapes.specs.ShapeLaws.{argued}
 use Rattle.write_sets_rows.proofs.ArgumentLaws.{argument-behind, no-argument-behind}
-use borrow.Author.Rules.{rules}
-use Rattle.language_shapes.proofs.rows.argument_at.Reads as argument-at-reads
-use Rattle.words.proofs.table.number_at.Reads as number-at-reads
 use Rattle.write_sets_rows.proofs.arguments.next_argument.Goals as goal
 
 pub returns-in-Argument : goal.returns-in-Argument

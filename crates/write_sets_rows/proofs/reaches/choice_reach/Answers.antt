@@ -3,7 +3,6 @@ use mathlib.Core.Path.{ap}
 use Rattle.language_shapes.specs.ShapeLaws.{expressed}
 use Rattle.language_shapes.specs.declared.ExpressionShape.TheVariants.{Choice}
 use Rattle.write_sets_rows.proofs.ReachLaws.{and-reach, or-reach, conditional-reach}
-use borrow.Author.Rules.{rules}
 use Rattle.write_sets_rows.proofs.reaches.choice_reach.Goals as goal
 
 pub returns-in-And : goal.returns-in-And

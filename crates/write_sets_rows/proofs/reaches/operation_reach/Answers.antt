@@ -3,7 +3,6 @@ use mathlib.Core.Path.{ap}
 use Rattle.language_shapes.specs.ShapeLaws.{expressed}
 use Rattle.language_shapes.specs.declared.ExpressionShape.TheVariants.{Operation}
 use Rattle.write_sets_rows.proofs.ReachLaws.{minus-reach, not-reach, binary-reach, comma-reach, assign-reach, compound-reach, prefix-reach, postfix-reach}
-use borrow.Author.Rules.{rules}
 use Rattle.write_sets_rows.proofs.reaches.operation_reach.Goals as goal
 
 pub update_reach-requires : goal.update_reach-requires

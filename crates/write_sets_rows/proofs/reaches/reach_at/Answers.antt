@@ -1,7 +1,6 @@
 -- The reach of an expression, by its shape.
 use Rattle.language_shapes.specs.ShapeLaws.{expressed}
 use Rattle.write_sets_rows.proofs.ReachLaws.{number-reach, called-reach}
-use borrow.Author.Rules.{rules}
 use Rattle.write_sets_rows.proofs.reaches.reach_at.Goals as goal
 
 pub read_reach-requires : goal.read_reach-requires

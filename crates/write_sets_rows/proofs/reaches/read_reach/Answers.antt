@@ -3,7 +3,6 @@ use mathlib.Core.Path.{ap}
 use Rattle.language_shapes.specs.ShapeLaws.{expressed}
 use Rattle.language_shapes.specs.declared.ExpressionShape.TheVariants.{Read}
 use Rattle.write_sets_rows.proofs.ReachLaws.{variable-reach, element-reach}
-use borrow.Author.Rules.{rules}
 use Rattle.write_sets_rows.proofs.reaches.read_reach.Goals as goal
 
 pub returns-in-Variable : goal.returns-in-Variable

@@ -1,7 +1,6 @@
 -- The reach of an update, by its place.
 use Rattle.language_shapes.specs.ShapeLaws.{placed}
 use Rattle.write_sets_rows.proofs.ReachLaws.{variable-update, element-update}
-use borrow.Author.Rules.{rules}
 use Rattle.write_sets_rows.proofs.reaches.update_reach.Goals as goal
 
 pub returns-in-Variable : goal.returns-in-Variable

@@ -1,7 +1,6 @@
 -- The set of a function, where it is known.
 use native.Mathlib.Omega.{arith}
 use Rattle.write_sets_rows.proofs.WriteLaws.{function-known, function-unknown}
-use borrow.Author.Rules.{rules}
 use Rattle.write_sets_rows.proofs.table.function_set.Goals as goal
 
 pub returns-then-function-known : goal.returns-then-function-known

@@ -2,7 +2,6 @@
 use native.Mathlib.Omega.{arith}
 use lib.ListN.{length-set}
 use Rattle.write_sets_rows.proofs.WriteLaws.{five-stores}
-use borrow.Author.Rules.{rules}
 use Rattle.write_sets_rows.proofs.table.put_set.Goals as goal
 
 pub bounds-sets-at-2 : goal.bounds-sets-at-2

@@ -2,7 +2,6 @@
 use mathlib.Core.Path.{sym, ◌∙◌}
 use native.Mathlib.Omega.{arith}
 use Rattle.write_sets_rows.proofs.WriteLaws.{set-some}
-use borrow.Author.Rules.{rules}
 use Rattle.write_sets_rows.proofs.table.set_at.Goals as goal
 
 pub set_of-requires : goal.set_of-requires

@@ -1,9 +1,6 @@
 -- One row more has its set.
 use native.Mathlib.Omega.{arith}
 use Rattle.write_sets_rows.proofs.WriteLaws.{one-set-more, functions-kept}
-use borrow.Author.Rules.{rules}
-use Rattle.write_sets_rows.proofs.table.put_set.Reads as put-set-reads
-use Rattle.write_sets_rows.proofs.writes.writes_at.Reads as writes-at-reads
 use Rattle.write_sets_rows.proofs.writes.fill_set.Goals as goal
 
 pub returns : goal.returns

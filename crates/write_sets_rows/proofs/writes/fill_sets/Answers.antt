@@ -1,10 +1,7 @@
 -- The rows from the loop's row on have their sets.
-use mathlib.Core.Path.{◌≡◌, refl, ◌∙◌}
-use Prim.Native.Nat.{◌≤◌, ◌-◌}
+use mathlib.Core.Path.{refl, ◌∙◌}
+use Prim.Native.Nat.{◌-◌}
 use native.Mathlib.Omega.{arith}
-use lib.ListN.{length}
-use Rattle.words.specs.Table.{row_count}
-use Rattle.write_sets_rows.specs.WriteSets.{FunctionSets, SetsFrom}
 use Rattle.write_sets_rows.proofs.WriteLaws.{sets-none, sets-less, functions-less}
 use Rattle.write_sets_rows.proofs.writes.fill_sets.Goals as goal
 

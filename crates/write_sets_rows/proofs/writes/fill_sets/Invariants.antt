@@ -1,11 +1,9 @@
 -- The rows from the loop's row on have their sets.
-use mathlib.Core.Path.{◌≡◌, refl, ◌∙◌}
+use mathlib.Core.Path.{◌≡◌}
 use Prim.Native.Nat.{◌≤◌, ◌-◌}
-use native.Mathlib.Omega.{arith}
 use lib.ListN.{length}
 use Rattle.words.specs.Table.{row_count}
 use Rattle.write_sets_rows.specs.WriteSets.{FunctionSets, SetsFrom}
-use Rattle.write_sets_rows.proofs.WriteLaws.{sets-none, sets-less, functions-less}
 use Rattle.write_sets_rows.proofs.writes.fill_sets.Given as goal
 
 abbrev pub invariant-loop-row : goal.invariant-loop-row

@@ -1,6 +1,5 @@
 -- What an expression writes: what its own row does, and what is written at its links.
 use native.Mathlib.Omega.{arith}
-use borrow.Author.Rules.{rules}
 use Rattle.write_sets_rows.proofs.WriteLaws.{link-held, part-link}
 use Rattle.write_sets_rows.proofs.ReachLaws.{row-reach, reach-set}
 use Rattle.write_sets_rows.proofs.writes.writes_at.Goals as goal

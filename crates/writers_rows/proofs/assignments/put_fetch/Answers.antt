@@ -1,6 +1,5 @@
 -- variable := array[atom]: the rows up to its index are all.
 use Rattle.writers_rows.proofs.Words.{worded, fetch-words}
-use borrow.Author.Rules.{rules}
 use Rattle.writers_rows.proofs.assignments.put_fetch.Goals as goal
 
 pub returns : goal.returns

@@ -1,6 +1,5 @@
 -- variable := - atom: the rows up to its operand are all.
 use Rattle.writers_rows.proofs.Words.{worded, minus-words}
-use borrow.Author.Rules.{rules}
 use Rattle.writers_rows.proofs.assignments.put_minus.Goals as goal
 
 pub returns : goal.returns

@@ -2,7 +2,6 @@
 use mathlib.Core.Path.{refl}
 use Rattle.writers_rows.specs.Chain.{put_next, reworded}
 use Rattle.writers_rows.proofs.Words.{rows-put, atom-put, store-words}
-use borrow.Author.Rules.{rules}
 use Rattle.writers_rows.proofs.assignments.put_store.Goals as goal
 
 pub returns : goal.returns

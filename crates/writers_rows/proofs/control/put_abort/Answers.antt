@@ -1,6 +1,5 @@
 -- An abort is an item of one row.
 use Rattle.writers_rows.proofs.Words.{worded, abort-words}
-use borrow.Author.Rules.{rules}
 use Rattle.writers_rows.proofs.control.put_abort.Goals as goal
 
 pub returns : goal.returns

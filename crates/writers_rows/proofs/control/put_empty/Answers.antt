@@ -1,6 +1,5 @@
 -- An empty statement is an item of one row.
 use Rattle.writers_rows.proofs.Words.{worded, empty-words}
-use borrow.Author.Rules.{rules}
 use Rattle.writers_rows.proofs.control.put_empty.Goals as goal
 
 pub returns : goal.returns

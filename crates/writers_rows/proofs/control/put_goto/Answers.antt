@@ -1,6 +1,5 @@
 -- A goto is an item of one row.
 use Rattle.writers_rows.proofs.Words.{worded, goto-words}
-use borrow.Author.Rules.{rules}
 use Rattle.writers_rows.proofs.control.put_goto.Goals as goal
 
 pub returns : goal.returns

@@ -2,7 +2,6 @@
 use mathlib.Core.Path.{refl}
 use Rattle.writers_rows.specs.Chain.{put_next}
 use Rattle.writers_rows.proofs.Words.{rows-put}
-use borrow.Author.Rules.{rules}
 use Rattle.writers_rows.proofs.control.put_goto_block.Goals as goal
 
 pub returns : goal.returns

@@ -3,7 +3,6 @@ use Prim.Native.Nat.{◌+◌}
 use mathlib.Core.Path.{refl}
 use Rattle.writers_rows.specs.Chain.{put_next, reworded}
 use Rattle.writers_rows.proofs.Words.{rows-put, atom-put, atom-words}
-use borrow.Author.Rules.{rules}
 use Rattle.writers_rows.proofs.control.put_if.Goals as goal
 
 pub returns : goal.returns

@@ -3,7 +3,6 @@ use mathlib.Core.Path.{refl}
 use Rattle.writers_rows.specs.declared.KernelAtom.TheVariants.{Variable}
 use Rattle.writers_rows.specs.Chain.{put_next, reworded}
 use Rattle.writers_rows.proofs.Words.{rows-put, if-put, jump-words}
-use borrow.Author.Rules.{rules}
 use Rattle.writers_rows.proofs.control.put_jump.Goals as goal
 
 pub returns : goal.returns

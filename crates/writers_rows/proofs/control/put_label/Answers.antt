@@ -1,6 +1,5 @@
 -- A label is an item of one row.
 use Rattle.writers_rows.proofs.Words.{worded, label-words}
-use borrow.Author.Rules.{rules}
 use Rattle.writers_rows.proofs.control.put_label.Goals as goal
 
 pub returns : goal.returns

@@ -2,7 +2,6 @@
 use Rattle.language.specs.Trees.{◌⧺◌}
 use Rattle.writers_rows.specs.Chain.{wrote-next}
 use Rattle.writers_rows.specs.LeafLaws.{abort-wrote, label-wrote}
-use borrow.Author.Rules.{rules}
 use Rattle.writers_rows.proofs.guarded.put_choice_end.Goals as goal
 
 pub returns : goal.returns

@@ -2,7 +2,6 @@
 use Rattle.language.specs.Trees.{◌⧺◌}
 use Rattle.writers_rows.specs.Chain.{put_next, wrote-put, wrote-next}
 use Rattle.writers_rows.specs.LeafLaws.{goto-wrote, label-wrote}
-use borrow.Author.Rules.{rules}
 use Rattle.writers_rows.proofs.guarded.put_rounds_end.Goals as goal
 
 pub returns : goal.returns

@@ -2,7 +2,6 @@
 use mathlib.Core.Path.{sym}
 use native.Mathlib.Omega.{arith}
 use Rattle.writers_rows.specs.Chain.{more-some}
-use borrow.Author.Rules.{rules}
 use Rattle.writers_rows.proofs.rows.more.Goals as goal
 
 pub returns : goal.returns

@@ -1,6 +1,5 @@
 -- A row's words, each the number that was cast to it.
 use native.Mathlib.Omega.{arith}
-use borrow.Author.Rules.{rules}
 use mir.Syntax.{w32}
 use mir.Facts.{to_z_pos}
 use Rattle.writers_rows.proofs.Words.{worded}

@@ -2,8 +2,7 @@
 use mathlib.Core.Path.{ap, ◌∙◌}
 use native.Mathlib.Omega.{arith}
 use Rattle.write_sets_functions.specs.Definitions.{is_definition}
-use Rattle.write_sets_functions.proofs.DefinitionLaws.{defines-none, defines-some}
-use borrow.Author.Rules.{rules}
+use Rattle.write_sets_functions.proofs.DefinitionLaws.{defines-some}
 use Rattle.write_sets_functions.proofs.definitions.is_definition.Goals as goal
 
 pub returns : goal.returns

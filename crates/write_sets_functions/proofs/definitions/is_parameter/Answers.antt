@@ -1,7 +1,6 @@
 -- Whether a link leads to a parameter.
 use native.Mathlib.Omega.{arith}
-use Rattle.write_sets_functions.proofs.DefinitionLaws.{parameter-none, parameter-some}
-use borrow.Author.Rules.{rules}
+use Rattle.write_sets_functions.proofs.DefinitionLaws.{parameter-some}
 use Rattle.write_sets_functions.proofs.definitions.is_parameter.Goals as goal
 
 pub returns : goal.returns

@@ -1,7 +1,6 @@
 -- What a function can write: its parameters, and what its block can.
 use native.Mathlib.Omega.{arith}
 use Rattle.write_sets_functions.proofs.DefinitionLaws.{parameters_inside, body-block, items-inside, function-written}
-use borrow.Author.Rules.{rules}
 use Rattle.write_sets_functions.proofs.functions.function_writes.Goals as goal
 
 pub parameter_words-parameters-requires : goal.parameter_words-parameters-requires

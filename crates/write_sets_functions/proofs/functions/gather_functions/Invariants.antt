@@ -1,11 +1,9 @@
 -- The functions before the loop's definition have their sets.
-use mathlib.Core.Path.{◌≡◌, refl, sym, ◌∙◌}
-use native.Mathlib.Omega.{arith}
+use mathlib.Core.Path.{◌≡◌}
 use lib.ListN.{length}
 use Rattle.words.specs.Table.{row_count}
-use Rattle.write_sets_rows.proofs.WriteLaws.{one-function-more}
 use Rattle.write_sets_rows.proofs.ArgumentLaws.{rows_left}
-use Rattle.write_sets_functions.proofs.DefinitionLaws.{there, Filling, filling-none, function-here, filling-next, filling-walks, filling-all, next-falls}
+use Rattle.write_sets_functions.proofs.DefinitionLaws.{Filling}
 use Rattle.write_sets_functions.proofs.functions.gather_functions.Given as goal
 
 abbrev pub invariant-loop-sets : goal.invariant-loop-sets

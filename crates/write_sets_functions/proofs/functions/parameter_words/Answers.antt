@@ -1,12 +1,8 @@
 -- The words of the parameters so far.
 use mathlib.Core.Path.{sym, ◌∙◌}
-use Prim.Native.Nat.{◌<◌}
 use native.Mathlib.Omega.{arith}
-use Rattle.words.specs.Table.{row_count}
-use Rattle.write_sets_rows.proofs.ArgumentLaws.{rows_left}
-use Rattle.write_sets_functions.proofs.WalkLaws.{Joined, joined-none}
-use Rattle.write_sets_functions.proofs.DefinitionLaws.{words_from, words-next, words-all, next_inside, next-falls, parameter-first}
-use borrow.Author.Rules.{rules}
+use Rattle.write_sets_functions.proofs.WalkLaws.{joined-none}
+use Rattle.write_sets_functions.proofs.DefinitionLaws.{words-next, words-all, next_inside, next-falls, parameter-first}
 use Rattle.write_sets_functions.proofs.functions.parameter_words.Goals as goal
 
 pub loop-any-init : goal.loop-any-init

@@ -1,13 +1,10 @@
 -- The sets of a statement, of a list and of arms, from those of their links. The measure is twice the rows that are left, and one more for a list.
-use Prim.Native.Nat.{◌+◌, ◌*◌, ◌≤◌, ℕ, ◌<◌}
+use Prim.Native.Nat.{◌<◌}
 use native.Mathlib.Omega.{arith}
-use borrow.Author.Rules.{rules}
-use Rattle.words.specs.Table.{row_count}
-use Rattle.write_sets_rows.proofs.ArgumentLaws.{rows_left, left_less}
+use Rattle.write_sets_rows.proofs.ArgumentLaws.{left_less}
 use Rattle.write_sets_functions.specs.Walks.{lower_called}
-use Rattle.write_sets_functions.proofs.WalkLaws.{link-inside, none-stepped, step_set, Joined, joined-none, items_from, items-next, items-all, arms_from, arms_next, arms-all, item-left, item_inside}
+use Rattle.write_sets_functions.proofs.WalkLaws.{link-inside, none-stepped, step_set, joined-none, items-next, items-all, arms_next, arms-all, item-left, item_inside}
 use Rattle.write_sets_functions.proofs.DefinitionLaws.{next_inside, next-falls}
-use Rattle.write_sets_functions.proofs.statements.+walk_statements.{statement}
 use Rattle.write_sets_functions.proofs.statements.+walk_statements.Goals as goal
 
 pub walk_arms-loop-row-init : goal.walk_arms-loop-row-init

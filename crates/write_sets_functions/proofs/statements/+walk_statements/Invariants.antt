@@ -1,13 +1,9 @@
 -- The sets of a statement, of a list and of arms, from those of their links. The measure is twice the rows that are left, and one more for a list.
-use Prim.Native.Nat.{◌+◌, ◌*◌, ◌≤◌, ℕ, ◌<◌}
-use native.Mathlib.Omega.{arith}
-use borrow.Author.Rules.{rules}
+use Prim.Native.Nat.{◌+◌, ◌*◌, ◌≤◌, ◌<◌}
 use Rattle.words.specs.Table.{row_count}
-use Rattle.write_sets_rows.proofs.ArgumentLaws.{rows_left, left_less}
+use Rattle.write_sets_rows.proofs.ArgumentLaws.{rows_left}
 use Rattle.write_sets_functions.specs.Walks.{lower_called}
-use Rattle.write_sets_functions.proofs.WalkLaws.{link-inside, none-stepped, step_set, Joined, joined-none, items_from, items-next, items-all, arms_from, arms_next, arms-all, item-left, item_inside}
-use Rattle.write_sets_functions.proofs.DefinitionLaws.{next_inside, next-falls}
-use Rattle.write_sets_functions.proofs.statements.+walk_statements.{statement}
+use Rattle.write_sets_functions.proofs.WalkLaws.{Joined, items_from, arms_from}
 use Rattle.write_sets_functions.proofs.statements.+walk_statements.Given as goal
 
 abbrev pub decreases-walk_arms : goal.decreases-walk_arms

@@ -1,7 +1,6 @@
 -- The links of an arm, by what the row is.
 use Rattle.language_shapes.specs.ShapeLaws.{armed}
 use Rattle.write_sets_functions.proofs.StepLaws.{some-arm, no-arm}
-use borrow.Author.Rules.{rules}
 use Rattle.write_sets_functions.proofs.steps.arm_links.Goals as goal
 
 pub returns-in-Arm : goal.returns-in-Arm

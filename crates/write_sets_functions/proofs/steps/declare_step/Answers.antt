@@ -1,7 +1,6 @@
 -- A declaration writes its word.
 use mathlib.Core.Path.{refl}
 use Rattle.write_sets_functions.proofs.StepLaws.{declare-step}
-use borrow.Author.Rules.{rules}
 use Rattle.write_sets_functions.proofs.steps.declare_step.Goals as goal
 
 pub returns : goal.returns

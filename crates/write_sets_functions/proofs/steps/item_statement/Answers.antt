@@ -2,7 +2,6 @@
 use mathlib.Core.Path.{refl}
 use Rattle.language_shapes.specs.ShapeLaws.{itemed}
 use Rattle.write_sets_functions.proofs.StepLaws.{statement-item, mark-item, definition-item}
-use borrow.Author.Rules.{rules}
 use Rattle.write_sets_functions.proofs.steps.item_statement.Goals as goal
 
 pub returns-in-Statement : goal.returns-in-Statement

@@ -1,7 +1,6 @@
 -- What a statement's own row writes, and the links at which more is written, by its shape.
 use Rattle.language_shapes.specs.ShapeLaws.{stated}
 use Rattle.write_sets_functions.proofs.StepLaws.{empty-step, express-step, block-step, if-step, while-step, do-step, for-step, switch-step, break-step, continue-step, goto-step, guarded-if-step, guarded-do-step, abort-step, return-step}
-use borrow.Author.Rules.{rules}
 use Rattle.write_sets_functions.proofs.steps.step_at.Goals as goal
 
 pub declare_step-requires : goal.declare_step-requires

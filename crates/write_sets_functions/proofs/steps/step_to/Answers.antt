@@ -1,7 +1,6 @@
 -- A row that writes nothing itself.
 use mathlib.Core.Path.{ap}
 use Rattle.write_sets.specs.declared.WriteSet.{WriteSet}
-use borrow.Author.Rules.{rules}
 use Rattle.write_sets_functions.proofs.steps.step_to.Goals as goal
 
 pub returns : goal.returns

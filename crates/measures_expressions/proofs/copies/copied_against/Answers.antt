@@ -2,7 +2,6 @@
 use native.Mathlib.Omega.{arith}
 use Rattle.measures_expressions.proofs.HolderLaws.{held-as}
 use Rattle.write_sets_rows.proofs.WriteLaws.{copied-number, copied-variable, copied-temporary}
-use borrow.Author.Rules.{rules}
 use Rattle.measures_expressions.proofs.copies.copied_against.Goals as goal
 
 pub returns-in-Number : goal.returns-in-Number

@@ -2,9 +2,6 @@
 use mathlib.Core.Path.{refl}
 use Rattle.language_shapes.specs.ShapeLaws.{expressed}
 use Rattle.write_sets_rows.proofs.WriteLaws.{copied_none, copied-choice}
-use borrow.Author.Rules.{rules}
-use Rattle.measures_expressions.proofs.copies.copied_operation.Reads as copied-operation-reads
-use Rattle.language_shapes.proofs.rows.expression_at.Reads as expression-at-reads
 use Rattle.measures_expressions.proofs.copies.copied_at.Goals as goal
 
 pub copied_operation-requires : goal.copied_operation-requires

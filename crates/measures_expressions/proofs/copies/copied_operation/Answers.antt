@@ -4,9 +4,6 @@ use Rattle.language_shapes.specs.ShapeLaws.{expressed}
 use Rattle.language_shapes.specs.declared.ExpressionShape.TheVariants.{Operation}
 use Rattle.measures_table.specs.MeasureLaws.{link-asks}
 use Rattle.write_sets_rows.proofs.WriteLaws.{copied_none, copied-binary, copied-assign, copied-compound, index_inside}
-use borrow.Author.Rules.{rules}
-use Rattle.measures_expressions.proofs.copies.copied_over.Reads as copied-over-reads
-use Rattle.measures_expressions.proofs.copies.index_at.Reads as index-at-reads
 use Rattle.measures_expressions.proofs.copies.copied_operation.Goals as goal
 
 pub copied_over-requires : goal.copied_over-requires

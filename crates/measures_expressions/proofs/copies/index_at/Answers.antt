@@ -1,8 +1,6 @@
 -- The row of the index of a place.
 use Rattle.language_shapes.specs.ShapeLaws.{placed}
 use Rattle.write_sets_rows.proofs.WriteLaws.{index-variable, index-element}
-use borrow.Author.Rules.{rules}
-use Rattle.language_shapes.proofs.rows.place_at.Reads as place-at-reads
 use Rattle.measures_expressions.proofs.copies.index_at.Goals as goal
 
 pub returns-in-Variable : goal.returns-in-Variable

@@ -3,7 +3,6 @@ use mathlib.Core.Path.{sym, ap, ◌∙◌}
 use mathlib.Core.Bool.{Bool}
 use native.Mathlib.Omega.{arith}
 use Rattle.words.specs.Word.{pick}
-use borrow.Author.Rules.{rules}
 use Rattle.measures_expressions.proofs.copies.written.Goals as goal
 
 pub returns-then-has : goal.returns-then-has

@@ -1,6 +1,5 @@
 -- The measures of a call, as the code puts them together.
 use Rattle.measures_expressions.proofs.PassedLaws.{call-words}
-use borrow.Author.Rules.{rules}
 use Rattle.measures_expressions.proofs.expressions.call_measures.Goals as goal
 
 pub returns : goal.returns

@@ -7,13 +7,6 @@ use Rattle.measures_table.specs.Parts.{called_in}
 use Rattle.measures_table.specs.Measures.{limited, levels_slot}
 use Rattle.measures_table.specs.MeasureLaws.{slot-asks}
 use Rattle.measures_expressions.proofs.ExpressionLaws.{levels-of, above_most}
-use borrow.Author.Rules.{rules}
-use Rattle.measures_table.proofs.table.larger.Reads as larger-reads
-use Rattle.measures_table.proofs.table.limited.Reads as limited-reads
-use Rattle.measures_table.proofs.table.measure_at.Reads as measure-at-reads
-use Rattle.measures_table.proofs.uses.levels_by.Reads as levels-by-reads
-use Rattle.measures_table.proofs.uses.levels_for.Reads as levels-for-reads
-use Rattle.measures_table.proofs.uses.second_use.Reads as second-use-reads
 use Rattle.measures_expressions.proofs.expressions.expression_levels.Goals as goal
 
 pub measure_at-first-requires : goal.measure_at-first-requires

@@ -6,12 +6,6 @@ use Rattle.measures_table.specs.Parts.{called_in}
 use Rattle.measures_table.specs.Measures.{rows_slot}
 use Rattle.measures_table.specs.MeasureLaws.{slot-asks}
 use Rattle.measures_expressions.proofs.ExpressionLaws.{rows-of, own-most, own-rows-by}
-use borrow.Author.Rules.{rules}
-use Rattle.measures_table.proofs.table.limited.Reads as limited-reads
-use Rattle.measures_table.proofs.table.measure_at.Reads as measure-at-reads
-use Rattle.measures_table.proofs.uses.rows_by.Reads as rows-by-reads
-use Rattle.measures_table.proofs.uses.rows_for.Reads as rows-for-reads
-use Rattle.measures_table.proofs.uses.second_use.Reads as second-use-reads
 use Rattle.measures_expressions.proofs.expressions.expression_rows.Goals as goal
 
 pub measure_at-first-requires : goal.measure_at-first-requires

@@ -6,7 +6,6 @@ use Rattle.language_shapes.specs.CallLaws.{call-arguments}
 use Rattle.measures_table.specs.MeasureLaws.{measured-less}
 use Rattle.write_sets_rows.proofs.WriteLaws.{set-nothing}
 use Rattle.measures_expressions.proofs.PassedLaws.{call-measured, number-no-call, read-no-call, operated-no-call, chosen-no-call}
-use borrow.Author.Rules.{rules}
 use Rattle.measures_expressions.proofs.expressions.measured_expression.Goals as goal
 
 pub measured_plain-requires : goal.measured_plain-requires

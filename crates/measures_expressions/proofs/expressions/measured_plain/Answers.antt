@@ -3,10 +3,6 @@ use mathlib.Core.Path.{sym}
 use Rattle.language.specs.Decode.{expression_at}
 use Rattle.measures_table.specs.Parts.{called_in}
 use Rattle.measures_table.specs.NoCalls.{copies-none}
-use Rattle.measures_expressions.proofs.copies.copied_at.Reads as copied-at-reads
-use Rattle.measures_expressions.proofs.expressions.expression_levels.Reads as expression-levels-reads
-use Rattle.measures_expressions.proofs.expressions.expression_rows.Reads as expression-rows-reads
-use Rattle.measures_expressions.proofs.parts.own_at.Reads as own-at-reads
 use Rattle.measures_expressions.proofs.expressions.measured_plain.Goals as goal
 
 pub copied_at-copied-requires : goal.copied_at-copied-requires

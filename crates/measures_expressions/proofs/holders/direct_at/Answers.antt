@@ -4,9 +4,6 @@ use Rattle.language_shapes.specs.ShapeLaws.{expressed}
 use Rattle.language_shapes.specs.declared.ExpressionShape.TheVariants.{Read}
 use Rattle.translation.specs.Uses.{direct}
 use Rattle.measures_expressions.proofs.HolderLaws.{direct-shape, operation-direct, choice-direct}
-use borrow.Author.Rules.{rules}
-use Rattle.measures_expressions.proofs.holders.direct_operation.Reads as direct-operation-reads
-use Rattle.language_shapes.proofs.rows.expression_at.Reads as expression-at-reads
 use Rattle.measures_expressions.proofs.holders.direct_at.Goals as goal
 
 pub returns-in-Number : goal.returns-in-Number

@@ -1,7 +1,5 @@
 -- What holds a value: by the row that it comes from.
 use Rattle.measures_expressions.proofs.HolderLaws.{held_same}
-use borrow.Author.Rules.{rules}
-use Rattle.measures_expressions.proofs.holders.plain_holder.Reads as plain-holder-reads
 use Rattle.measures_expressions.proofs.holders.holder_at.Goals as goal
 
 pub returns : goal.returns

@@ -3,8 +3,6 @@ use mathlib.Core.Path.{refl, ap}
 use Rattle.language_shapes.specs.ShapeLaws.{expressed}
 use Rattle.language_shapes.specs.declared.ExpressionShape.TheVariants.{Operation}
 use Rattle.measures_expressions.proofs.HolderLaws.{plain-holds, top-holds}
-use borrow.Author.Rules.{rules}
-use Rattle.measures_expressions.proofs.holders.updated_holder.Reads as updated-holder-reads
 use Rattle.measures_expressions.proofs.holders.operation_holder.Goals as goal
 
 pub updated_holder-requires : goal.updated_holder-requires

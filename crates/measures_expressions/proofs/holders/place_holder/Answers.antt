@@ -1,7 +1,6 @@
 -- A variable holds its own value; an element's goes into the temporary.
 use mathlib.Core.Path.{sym, ap}
 use Rattle.measures_table.specs.Parts.{place_holder}
-use borrow.Author.Rules.{rules}
 use Rattle.measures_expressions.proofs.holders.place_holder.Goals as goal
 
 pub returns-in-Variable : goal.returns-in-Variable

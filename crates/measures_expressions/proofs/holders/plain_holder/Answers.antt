@@ -5,9 +5,6 @@ use mir.Syntax.{w32}
 use Rattle.language_shapes.specs.ShapeLaws.{expressed}
 use Rattle.measures_expressions.proofs.HolderLaws.{plain-holds, place-holds, choice-holds, number-holds, top-holds}
 use borrow.Author.Rules.{rules}
-use Rattle.measures_expressions.proofs.holders.operation_holder.Reads as operation-holder-reads
-use Rattle.measures_expressions.proofs.holders.place_holder.Reads as place-holder-reads
-use Rattle.language_shapes.proofs.rows.expression_at.Reads as expression-at-reads
 use Rattle.measures_expressions.proofs.holders.plain_holder.Goals as goal
 
 pub operation_holder-requires : goal.operation_holder-requires

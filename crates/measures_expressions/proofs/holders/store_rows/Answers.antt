@@ -1,6 +1,4 @@
 -- The rows that store a value, by whether it goes straight into its variable.
-use borrow.Author.Rules.{rules}
-use Rattle.measures_expressions.proofs.holders.direct_at.Reads as direct-at-reads
 use Rattle.measures_expressions.proofs.holders.store_rows.Goals as goal
 
 pub returns-then-direct_at : goal.returns-then-direct_at

@@ -2,8 +2,6 @@
 use mathlib.Core.Path.{ap}
 use Rattle.translation.specs.Translate.{taken}
 use Rattle.measures_expressions.proofs.HolderLaws.{held-as}
-use borrow.Author.Rules.{rules}
-use Rattle.measures_expressions.proofs.holders.holder_at.Reads as holder-at-reads
 use Rattle.measures_expressions.proofs.holders.taken_at.Goals as goal
 
 pub returns-in-Number : goal.returns-in-Number

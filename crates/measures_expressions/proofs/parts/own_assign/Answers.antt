@@ -7,12 +7,6 @@ use Rattle.language_shapes.specs.ShapeLaws.{optional, placed}
 use Rattle.measures_table.specs.MeasureLaws.{link-asks, slot-asks, first-copied-most}
 use Rattle.measures_expressions.proofs.OwnLaws.{own-assign, store_asks}
 use Rattle.measures_table.specs.Parts.{called_in}
-use borrow.Author.Rules.{rules}
-use Rattle.measures_expressions.proofs.holders.taken_at.Reads as taken-at-reads
-use Rattle.measures_expressions.proofs.parts.own.Reads as own-reads
-use Rattle.measures_expressions.proofs.parts.own_store.Reads as own-store-reads
-use Rattle.measures_expressions.proofs.parts.value_at.Reads as value-at-reads
-use Rattle.language_shapes.proofs.rows.place_at.Reads as place-at-reads
 use Rattle.measures_expressions.proofs.parts.own_assign.Goals as goal
 
 pub own_store-requires : goal.own_store-requires

@@ -2,12 +2,6 @@
 use Rattle.language_shapes.specs.ShapeLaws.{expressed}
 use Rattle.measures_expressions.proofs.OwnLaws.{own-number}
 use Rattle.measures_expressions.proofs.PassedLaws.{called-otherwise}
-use borrow.Author.Rules.{rules}
-use Rattle.measures_expressions.proofs.parts.own.Reads as own-reads
-use Rattle.measures_expressions.proofs.parts.own_choice.Reads as own-choice-reads
-use Rattle.measures_expressions.proofs.parts.own_operation.Reads as own-operation-reads
-use Rattle.measures_expressions.proofs.parts.own_read.Reads as own-read-reads
-use Rattle.language_shapes.proofs.rows.expression_at.Reads as expression-at-reads
 use Rattle.measures_expressions.proofs.parts.own_at.Goals as goal
 
 pub own_read-requires : goal.own_read-requires

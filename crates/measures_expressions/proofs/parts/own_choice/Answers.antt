@@ -9,9 +9,6 @@ use Rattle.translation.proofs.TranslateBounds.{taken_most}
 use Rattle.measures_table.specs.MeasureLaws.{link-asks}
 use Rattle.measures_expressions.proofs.OwnLaws.{own-and, own-or, own-conditional}
 use Rattle.measures_table.specs.Parts.{called_in}
-use borrow.Author.Rules.{rules}
-use Rattle.measures_expressions.proofs.holders.taken_at.Reads as taken-at-reads
-use Rattle.measures_expressions.proofs.parts.own.Reads as own-reads
 use Rattle.measures_expressions.proofs.parts.own_choice.Goals as goal
 
 pub taken_at-requires : goal.taken_at-requires

@@ -3,7 +3,6 @@ use mathlib.Core.Path.{ap}
 use native.Mathlib.Omega.{arith}
 use Rattle.measures_table.specs.Parts.{comma_own}
 use Rattle.measures_table.specs.Measures.{value_slot}
-use Rattle.measures_table.proofs.table.measure_at.Reads as measure-at-reads
 use Rattle.measures_expressions.proofs.parts.own_comma.Goals as goal
 
 pub measure_at-requires : goal.measure_at-requires

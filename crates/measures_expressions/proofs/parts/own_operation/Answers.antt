@@ -9,14 +9,6 @@ use Rattle.language_shapes.specs.declared.ExpressionShape.TheVariants.{Operation
 use Rattle.measures_table.specs.MeasureLaws.{link-asks, slot-asks, measured-less, first-copied-most}
 use Rattle.measures_expressions.proofs.OwnLaws.{own-minus, own-not, own-binary, own-comma, own-compound, own-prefix}
 use Rattle.measures_table.specs.Parts.{called_in}
-use borrow.Author.Rules.{rules}
-use Rattle.measures_expressions.proofs.holders.taken_at.Reads as taken-at-reads
-use Rattle.measures_expressions.proofs.parts.own.Reads as own-reads
-use Rattle.measures_expressions.proofs.parts.own_assign.Reads as own-assign-reads
-use Rattle.measures_expressions.proofs.parts.own_comma.Reads as own-comma-reads
-use Rattle.measures_expressions.proofs.parts.own_postfix.Reads as own-postfix-reads
-use Rattle.measures_expressions.proofs.parts.place_own.Reads as place-own-reads
-use Rattle.measures_expressions.proofs.parts.result.Reads as result-reads
 use Rattle.measures_expressions.proofs.parts.own_operation.Goals as goal
 
 pub taken_at-requires : goal.taken_at-requires

@@ -7,11 +7,6 @@ use Rattle.language_shapes.specs.ShapeLaws.{placed}
 use Rattle.measures_table.specs.MeasureLaws.{link-asks, measured-less}
 use Rattle.measures_expressions.proofs.OwnLaws.{own-step-variable, own-step-element}
 use Rattle.measures_table.specs.Parts.{called_in}
-use borrow.Author.Rules.{rules}
-use Rattle.measures_expressions.proofs.holders.taken_at.Reads as taken-at-reads
-use Rattle.measures_expressions.proofs.parts.own.Reads as own-reads
-use Rattle.measures_expressions.proofs.parts.own_step.Reads as own-step-reads
-use Rattle.language_shapes.proofs.rows.place_at.Reads as place-at-reads
 use Rattle.measures_expressions.proofs.parts.own_postfix.Goals as goal
 
 pub taken_at-levels-requires : goal.taken_at-levels-requires

@@ -3,9 +3,6 @@ use mathlib.Core.Path.{ap}
 use Rattle.language_shapes.specs.ShapeLaws.{expressed}
 use Rattle.language_shapes.specs.declared.ExpressionShape.TheVariants.{Read}
 use Rattle.measures_expressions.proofs.OwnLaws.{own-variable, own-element}
-use borrow.Author.Rules.{rules}
-use Rattle.measures_expressions.proofs.parts.own.Reads as own-reads
-use Rattle.measures_expressions.proofs.parts.result.Reads as result-reads
 use Rattle.measures_expressions.proofs.parts.own_read.Goals as goal
 
 pub returns-in-Variable : goal.returns-in-Variable

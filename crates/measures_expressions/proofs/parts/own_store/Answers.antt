@@ -5,11 +5,6 @@ use Rattle.language_shapes.specs.ShapeLaws.{optional}
 use Rattle.measures_table.specs.Measures.{value_slot}
 use Rattle.measures_table.specs.MeasureLaws.{link-asks, slot-asks}
 use Rattle.measures_expressions.proofs.OwnLaws.{own-straight, own-moved}
-use borrow.Author.Rules.{rules}
-use Rattle.measures_expressions.proofs.holders.direct_at.Reads as direct-at-reads
-use Rattle.measures_expressions.proofs.holders.taken_at.Reads as taken-at-reads
-use Rattle.measures_expressions.proofs.parts.stored.Reads as stored-reads
-use Rattle.measures_table.proofs.table.measure_at.Reads as measure-at-reads
 use Rattle.measures_expressions.proofs.parts.own_store.Goals as goal
 
 pub returns-then-direct_at : goal.returns-then-direct_at

@@ -7,9 +7,6 @@ use Rattle.translation.proofs.TranslateBounds.{taken_most}
 use Rattle.measures_table.specs.MeasureLaws.{link-asks}
 use Rattle.measures_expressions.proofs.OwnLaws.{own-variable-place, own-element-place}
 use Rattle.measures_table.specs.Parts.{called_in}
-use borrow.Author.Rules.{rules}
-use Rattle.measures_expressions.proofs.holders.taken_at.Reads as taken-at-reads
-use Rattle.language_shapes.proofs.rows.place_at.Reads as place-at-reads
 use Rattle.measures_expressions.proofs.parts.place_own.Goals as goal
 
 pub taken_at-requires : goal.taken_at-requires

@@ -1,7 +1,6 @@
 -- Where the value of an assignment comes from.
 use native.Mathlib.Omega.{arith}
 use Rattle.measures_expressions.proofs.OwnLaws.{value-own, value-other}
-use Rattle.measures_table.proofs.table.measure_at.Reads as measure-at-reads
 use Rattle.measures_expressions.proofs.parts.value_at.Goals as goal
 
 pub returns-then-copied-eq1 : goal.returns-then-copied-eq1

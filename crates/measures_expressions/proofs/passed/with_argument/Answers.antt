@@ -1,7 +1,6 @@
 -- An argument before others, as the code puts it together.
 use native.Mathlib.Omega.{arith}
 use Rattle.measures_expressions.proofs.PassedLaws.{digits-fit, passed_words}
-use borrow.Author.Rules.{rules}
 use Rattle.measures_expressions.proofs.passed.with_argument.Goals as goal
 
 pub measure_at-requires : goal.measure_at-requires

@@ -3,10 +3,6 @@ use mathlib.Core.Path.{refl}
 use Rattle.language_shapes.specs.ShapeLaws.{armed, optional}
 use Rattle.measures_table.specs.MeasureLaws.{slot-asks}
 use Rattle.measures.proofs.StatementLaws.{at-behind, arm-measured, no-arm-measured}
-use borrow.Author.Rules.{rules}
-use Rattle.measures.proofs.arms.arm_measures.Reads as arm-measures-reads
-use Rattle.language_shapes.proofs.rows.arm_at.Reads as arm-at-reads
-use Rattle.words.proofs.table.number_at.Reads as number-at-reads
 use Rattle.measures.proofs.arms.measured_arms.Goals as goal
 
 pub arm_measures-requires : goal.arm_measures-requires

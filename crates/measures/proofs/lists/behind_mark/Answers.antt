@@ -4,7 +4,6 @@ use Prim.Native.Nat.{ℕ, ◌+◌}
 use native.Mathlib.Omega.{arith}
 use Rattle.measures_table.specs.Measures.{limited}
 use Rattle.measures.proofs.StatementLaws.{same-measures}
-use borrow.Author.Rules.{rules}
 use Rattle.measures.proofs.lists.behind_mark.Goals as goal
 
 pub measure_at-requires : goal.measure_at-requires

@@ -4,7 +4,6 @@ use Prim.Native.Nat.{ℕ, ◌+◌, max}
 use native.Mathlib.Omega.{arith}
 use Rattle.measures_table.specs.Measures.{limited, past_labels}
 use Rattle.measures.proofs.StatementLaws.{same-measures}
-use borrow.Author.Rules.{rules}
 use Rattle.measures.proofs.lists.behind_statement.Goals as goal
 
 pub measure_at-requires : goal.measure_at-requires

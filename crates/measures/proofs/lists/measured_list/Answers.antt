@@ -3,11 +3,6 @@ use native.Mathlib.Omega.{arith}
 use Rattle.language_shapes.specs.ShapeLaws.{itemed, at_next}
 use Rattle.measures_table.specs.MeasureLaws.{slot-asks, limited-as}
 use Rattle.measures.proofs.StatementLaws.{statement-list, definition-list}
-use borrow.Author.Rules.{rules}
-use Rattle.measures.proofs.lists.behind_statement.Reads as behind-statement-reads
-use Rattle.measures.proofs.lists.measured_mark.Reads as measured-mark-reads
-use Rattle.language_shapes.proofs.rows.item_at.Reads as item-at-reads
-use Rattle.words.proofs.table.number_at.Reads as number-at-reads
 use Rattle.measures.proofs.lists.measured_list.Goals as goal
 
 pub behind_statement-requires : goal.behind_statement-requires

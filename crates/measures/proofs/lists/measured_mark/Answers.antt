@@ -5,10 +5,6 @@ use Rattle.language_shapes.specs.ShapeLaws.{itemed}
 use Rattle.language_shapes.specs.declared.Item.TheVariants.{Mark}
 use Rattle.measures_table.specs.MeasureLaws.{slot-asks}
 use Rattle.measures.proofs.StatementLaws.{case-list, label-list, default-list}
-use borrow.Author.Rules.{rules}
-use Rattle.measures.proofs.lists.behind_mark.Reads as behind-mark-reads
-use Rattle.measures.proofs.lists.past_labels.Reads as past-labels-reads
-use Rattle.measures_table.proofs.table.measure_at.Reads as measure-at-reads
 use Rattle.measures.proofs.lists.measured_mark.Goals as goal
 
 pub measure_at-requires : goal.measure_at-requires

@@ -2,7 +2,6 @@
 use mathlib.Core.Path.{◌∙◌}
 use native.Mathlib.Omega.{arith}
 use Rattle.measures.proofs.StatementLaws.{past-none, past-some}
-use borrow.Author.Rules.{rules}
 use Rattle.measures.proofs.lists.past_labels.Goals as goal
 
 pub returns-then-place-eq0 : goal.returns-then-place-eq0

@@ -1,12 +1,6 @@
 -- One row more is measured.
 use native.Mathlib.Omega.{arith}
-use borrow.Author.Rules.{rules}
 use Rattle.measures_table.proofs.Stores.{one_more}
-use Rattle.measures.proofs.arms.measured_arms.Reads as measured-arms-reads
-use Rattle.measures_expressions.proofs.expressions.measured_expression.Reads as measured-expression-reads
-use Rattle.measures.proofs.lists.measured_list.Reads as measured-list-reads
-use Rattle.measures.proofs.statements.measured_statement.Reads as measured-statement-reads
-use Rattle.measures_table.proofs.table.set_measures.Reads as set-measures-reads
 use Rattle.measures.proofs.pass.measure_row.Goals as goal
 
 pub measured_statement-statement-requires : goal.measured_statement-statement-requires

@@ -1,10 +1,7 @@
 -- The rows from the loop's row on are measured.
-use mathlib.Core.Path.{◌≡◌, refl, ◌∙◌}
-use Prim.Native.Nat.{◌≤◌, ◌-◌}
+use mathlib.Core.Path.{refl, ◌∙◌}
+use Prim.Native.Nat.{◌-◌}
 use native.Mathlib.Omega.{arith}
-use lib.ListN.{length}
-use Rattle.words.specs.Table.{row_count}
-use Rattle.measures_table.specs.Measures.{MeasuredFrom}
 use Rattle.measures_table.specs.MeasureLaws.{measured-none, measured-back, measured-zero}
 use Rattle.measures.proofs.pass.measure_rows.Goals as goal
 

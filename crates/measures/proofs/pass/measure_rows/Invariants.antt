@@ -1,11 +1,9 @@
 -- The rows from the loop's row on are measured.
-use mathlib.Core.Path.{◌≡◌, refl, ◌∙◌}
+use mathlib.Core.Path.{◌≡◌}
 use Prim.Native.Nat.{◌≤◌, ◌-◌}
-use native.Mathlib.Omega.{arith}
 use lib.ListN.{length}
 use Rattle.words.specs.Table.{row_count}
 use Rattle.measures_table.specs.Measures.{MeasuredFrom}
-use Rattle.measures_table.specs.MeasureLaws.{measured-none, measured-back, measured-zero}
 use Rattle.measures.proofs.pass.measure_rows.Given as goal
 
 abbrev pub invariant-loop-row : goal.invariant-loop-row

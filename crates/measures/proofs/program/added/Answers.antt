@@ -1,6 +1,5 @@
 -- The sums of two measures.
 use Rattle.measures.proofs.StatementLaws.{same-three}
-use borrow.Author.Rules.{rules}
 use Rattle.measures.proofs.program.added.Goals as goal
 
 pub returns : goal.returns

@@ -2,7 +2,6 @@
 use native.Mathlib.Omega.{arith}
 use Rattle.write_sets_functions.proofs.DefinitionLaws.{defined-kind, parameters_inside}
 use Rattle.measures.proofs.ProgramLaws.{read_count, body-measured, definition-measured}
-use borrow.Author.Rules.{rules}
 use Rattle.measures.proofs.program.definition_measures.Goals as goal
 
 pub number_at-requires : goal.number_at-requires

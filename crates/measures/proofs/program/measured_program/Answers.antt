@@ -4,7 +4,6 @@ use Rattle.language.specs.Trees.{Items}
 use Rattle.measures_table.specs.Parts.{called_in}
 use Rattle.measures_table.specs.Measures.{ProgramMeasured}
 use Rattle.measures.proofs.ProgramLaws.{contents-at, program-inside}
-use borrow.Author.Rules.{rules}
 use Rattle.measures.proofs.program.measured_program.Goals as goal
 
 pub program_measures-requires : goal.program_measures-requires

@@ -1,10 +1,8 @@
 -- The parameters so far.
 use mathlib.Core.Path.{sym, ◌∙◌}
 use native.Mathlib.Omega.{arith}
-use Rattle.words.specs.Table.{row_count}
-use Rattle.write_sets_rows.proofs.ArgumentLaws.{rows_left}
 use Rattle.write_sets_functions.proofs.DefinitionLaws.{next-falls, parameter-first}
-use Rattle.measures.proofs.ProgramLaws.{Counting, counting-none, counting-low, counting-next, counting-all}
+use Rattle.measures.proofs.ProgramLaws.{counting-none, counting-low, counting-next, counting-all}
 use Rattle.measures.proofs.program.parameter_count.Goals as goal
 
 pub loop-count-init : goal.loop-count-init

@@ -4,9 +4,6 @@ use Prim.Native.Nat.{ℕ, ◌+◌}
 use native.Mathlib.Omega.{arith}
 use Rattle.measures_table.specs.Measures.{limited, rows_slot, stored_levels_slot}
 use Rattle.measures.proofs.StatementLaws.{same-three}
-use borrow.Author.Rules.{rules}
-use Rattle.measures_table.proofs.table.limited.Reads as limited-reads
-use Rattle.measures_table.proofs.table.measure_at.Reads as measure-at-reads
 use Rattle.measures.proofs.statements.declare_measures.Goals as goal
 
 pub measure_at-requires : goal.measure_at-requires

@@ -4,9 +4,6 @@ use Prim.Native.Nat.{max}
 use native.Mathlib.Omega.{arith}
 use Rattle.measures_table.specs.Measures.{dropped_rows_slot, dropped_levels_slot}
 use Rattle.measures.proofs.StatementLaws.{same-three}
-use borrow.Author.Rules.{rules}
-use Rattle.measures_table.proofs.table.larger.Reads as larger-reads
-use Rattle.measures_table.proofs.table.measure_at.Reads as measure-at-reads
 use Rattle.measures.proofs.statements.express_measures.Goals as goal
 
 pub measure_at-requires : goal.measure_at-requires

@@ -4,11 +4,6 @@ use Prim.Native.Nat.{max}
 use native.Mathlib.Omega.{arith}
 use Rattle.measures_table.specs.Measures.{dropped_rows_slot, dropped_levels_slot}
 use Rattle.measures.proofs.StatementLaws.{same-three, loop-words}
-use borrow.Author.Rules.{rules}
-use Rattle.measures.proofs.statements.test_rows.Reads as test-rows-reads
-use Rattle.measures_table.proofs.table.larger.Reads as larger-reads
-use Rattle.measures_table.proofs.table.limited.Reads as limited-reads
-use Rattle.measures_table.proofs.table.measure_at.Reads as measure-at-reads
 use Rattle.measures.proofs.statements.loop_measures.Goals as goal
 
 pub measure_at-requires : goal.measure_at-requires

@@ -10,20 +10,6 @@ use Rattle.translation.proofs.TranslateBounds.{taken_most}
 use Rattle.measures_table.specs.Parts.{called_in}
 use Rattle.measures_table.specs.MeasureLaws.{slot-asks, link-asks}
 use Rattle.measures.proofs.StatementLaws.{absent-link, store-small, plain-measured, express-measured, block-measured, if-measured, while-shape, do-shape, for-measured, switch-measured, guarded-measured, rounds-shape, declare-measured, return-measured}
-use borrow.Author.Rules.{rules}
-use Rattle.measures_expressions.proofs.holders.store_rows.Reads as store-rows-reads
-use Rattle.measures_expressions.proofs.holders.taken_at.Reads as taken-at-reads
-use Rattle.measures.proofs.statements.block_measures.Reads as block-measures-reads
-use Rattle.measures.proofs.statements.declare_measures.Reads as declare-measures-reads
-use Rattle.measures.proofs.statements.express_measures.Reads as express-measures-reads
-use Rattle.measures.proofs.statements.guarded_measures.Reads as guarded-measures-reads
-use Rattle.measures.proofs.statements.if_measures.Reads as if-measures-reads
-use Rattle.measures.proofs.statements.loop_measures.Reads as loop-measures-reads
-use Rattle.measures.proofs.statements.plain_measures.Reads as plain-measures-reads
-use Rattle.measures.proofs.statements.return_measures.Reads as return-measures-reads
-use Rattle.measures.proofs.statements.rounds_measures.Reads as rounds-measures-reads
-use Rattle.measures.proofs.statements.switch_measures.Reads as switch-measures-reads
-use Rattle.language_shapes.proofs.rows.statement_at.Reads as statement-at-reads
 use Rattle.measures.proofs.statements.measured_statement.Goals as goal
 
 pub express_measures-requires : goal.express_measures-requires

@@ -1,12 +1,8 @@
 -- The measures of a guarded do, by whether it has arms.
-use mathlib.Core.Path.{sym, ◌∙◌}
+use mathlib.Core.Path.{◌∙◌}
 use native.Mathlib.Omega.{arith}
 use Rattle.measures_table.specs.Measures.{arms_rows_slot, slot_at}
 use Rattle.measures.proofs.StatementLaws.{around-none, around-some}
-use borrow.Author.Rules.{rules}
-use Rattle.measures.proofs.statements.guarded_measures.Reads as guarded-measures-reads
-use Rattle.measures.proofs.statements.plain_measures.Reads as plain-measures-reads
-use Rattle.measures_table.proofs.table.measure_at.Reads as measure-at-reads
 use Rattle.measures.proofs.statements.rounds_measures.Goals as goal
 
 pub measure_at-requires : goal.measure_at-requires

@@ -3,10 +3,6 @@ use mathlib.Core.Path.{ap, ◌∙◌}
 use Prim.Native.Nat.{◌+◌, max}
 use native.Mathlib.Omega.{arith}
 use Rattle.measures.proofs.StatementLaws.{same-three, switch-words}
-use borrow.Author.Rules.{rules}
-use Rattle.measures_table.proofs.table.larger.Reads as larger-reads
-use Rattle.measures_table.proofs.table.limited.Reads as limited-reads
-use Rattle.measures_table.proofs.table.measure_at.Reads as measure-at-reads
 use Rattle.measures.proofs.statements.switch_measures.Goals as goal
 
 pub measure_at-selector-requires : goal.measure_at-selector-requires

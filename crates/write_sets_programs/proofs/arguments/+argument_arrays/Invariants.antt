@@ -1,13 +1,6 @@
 -- The arrays of arguments, from those of the first and of the arguments behind it. The measure is the rows that are left.
-use native.Mathlib.Omega.{arith}
-use borrow.Author.Rules.{rules}
 use Rattle.words.specs.Table.{row_count}
-use Rattle.language_shapes.specs.ShapeLaws.{argued}
 use Rattle.write_sets_rows.proofs.ArgumentLaws.{rows_left}
-use Rattle.write_sets_functions.proofs.WalkLaws.{read_next}
-use Rattle.write_sets_functions.proofs.DefinitionLaws.{next_inside, next-later, next-falls}
-use Rattle.write_sets_programs.proofs.ArrayLaws.{from_less, none_passed, ended-passed, argument-passed}
-use Prim.Native.Nat.{ℕ, ◌<◌}
 use Rattle.write_sets_programs.proofs.arguments.+argument_arrays.Given as goal
 
 abbrev pub decreases-argument_arrays : goal.decreases-argument_arrays

@@ -1,7 +1,6 @@
 -- What an expression writes: what it stores to, and what its operands write.
 use native.Mathlib.Omega.{arith}
 use Rattle.write_sets_programs.proofs.ArrayLaws.{found-onward, from_less, links-held, row-arrays-are}
-use borrow.Author.Rules.{rules}
 use Rattle.write_sets_programs.proofs.arrays.arrays_of.Goals as goal
 
 pub stored-own-requires : goal.stored-own-requires

@@ -1,11 +1,9 @@
 -- The rows from the loop's row on have their words.
-use mathlib.Core.Path.{◌≡◌, refl, ◌∙◌}
-use Prim.Native.Nat.{ℕ, ◌-◌, ◌≤◌}
-use native.Mathlib.Omega.{arith}
-use lib.ListN.{length, length-set}
+use mathlib.Core.Path.{◌≡◌}
+use Prim.Native.Nat.{◌-◌, ◌≤◌}
+use lib.ListN.{length}
 use Rattle.words.specs.Table.{row_count}
 use Rattle.write_sets_programs.specs.Arrays.{ArraysFrom}
-use Rattle.write_sets_programs.proofs.ArrayLaws.{from_less, from-none, one-row-more}
 use Rattle.write_sets_programs.proofs.arrays.fill_arrays.Given as goal
 
 abbrev pub invariant-loop-row : goal.invariant-loop-row

@@ -1,6 +1,5 @@
 -- What the linked expressions write.
-use mathlib.Core.Path.{sym, ap, ◌∙◌}
-use borrow.Author.Rules.{rules}
+use mathlib.Core.Path.{sym}
 use Rattle.write_sets_programs.proofs.arrays.operand_arrays.Goals as goal
 
 pub linked-requires : goal.linked-requires

@@ -1,8 +1,6 @@
 -- What an update of a place writes.
-use native.Mathlib.Omega.{arith}
 use Rattle.language_shapes.specs.ShapeLaws.{placed}
 use Rattle.write_sets_programs.proofs.ArrayLaws.{link-held, variable-arrays, element-arrays}
-use borrow.Author.Rules.{rules}
 use Rattle.write_sets_programs.proofs.arrays.place_arrays.Goals as goal
 
 pub array_bit-requires : goal.array_bit-requires

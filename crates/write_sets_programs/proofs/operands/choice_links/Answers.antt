@@ -1,7 +1,6 @@
 -- `choice_links`, a clause each.
 use mathlib.Core.Path.{sym, ap, ◌∙◌}
 use Rattle.write_sets_programs.specs.Links.{choice_links}
-use borrow.Author.Rules.{rules}
 use Rattle.write_sets_programs.proofs.operands.choice_links.Goals as goal
 
 pub returns-in-And : goal.returns-in-And

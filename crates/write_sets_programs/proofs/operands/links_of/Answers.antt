@@ -1,7 +1,6 @@
 -- `links_of`, a clause each.
 use mathlib.Core.Path.{sym, ap, ◌∙◌}
 use Rattle.write_sets_programs.specs.Links.{links_of}
-use borrow.Author.Rules.{rules}
 use Rattle.write_sets_programs.proofs.operands.links_of.Goals as goal
 
 pub returns-in-Number : goal.returns-in-Number

@@ -1,7 +1,6 @@
 -- `operation_links`, a clause each.
 use mathlib.Core.Path.{sym, ap, ◌∙◌}
 use Rattle.write_sets_programs.specs.Links.{operation_links}
-use borrow.Author.Rules.{rules}
 use Rattle.write_sets_programs.proofs.operands.operation_links.Goals as goal
 
 pub returns-in-Minus : goal.returns-in-Minus

@@ -1,7 +1,6 @@
 -- `read_links`, a clause each.
 use mathlib.Core.Path.{sym, ap, ◌∙◌}
 use Rattle.write_sets_programs.specs.Links.{read_links}
-use borrow.Author.Rules.{rules}
 use Rattle.write_sets_programs.proofs.operands.read_links.Goals as goal
 
 pub returns-in-Variable : goal.returns-in-Variable

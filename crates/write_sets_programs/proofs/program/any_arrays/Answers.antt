@@ -1,9 +1,7 @@
 -- The arrays of the rows so far; the invariant is `Arrays`.
 use Prim.Native.Nat.{◌-◌}
 use native.Mathlib.Omega.{arith}
-use Rattle.words.specs.Table.{row_count}
-use Rattle.write_sets_programs.proofs.UnionLaws.{Arrays, arrays-start, arrays-next, arrays-end}
-use borrow.Author.Rules.{rules}
+use Rattle.write_sets_programs.proofs.UnionLaws.{arrays-start, arrays-next, arrays-end}
 use Rattle.write_sets_programs.proofs.program.any_arrays.Goals as goal
 
 pub loop-row-init : goal.loop-row-init

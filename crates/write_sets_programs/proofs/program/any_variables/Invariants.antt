@@ -1,9 +1,7 @@
 -- The variables and declared words of the rows so far; the invariant is `Variables`.
 use Prim.Native.Nat.{◌-◌}
-use native.Mathlib.Omega.{arith}
 use Rattle.words.specs.Table.{row_count}
-use Rattle.write_sets_programs.proofs.UnionLaws.{Variables, variables-start, variables-next, variables-end}
-use borrow.Author.Rules.{rules}
+use Rattle.write_sets_programs.proofs.UnionLaws.{Variables}
 use Rattle.write_sets_programs.proofs.program.any_variables.Given as goal
 
 abbrev pub invariant-loop-row : goal.invariant-loop-row

@@ -2,7 +2,6 @@
 use mathlib.Core.Path.{sym, ◌∙◌}
 use native.Mathlib.Omega.{arith}
 use Rattle.write_sets_programs.proofs.UnionLaws.{declared-word, declared-none}
-use borrow.Author.Rules.{rules}
 use Rattle.write_sets_programs.proofs.program.declared_set.Goals as goal
 
 pub is_declaration-requires : goal.is_declaration-requires

@@ -1,8 +1,6 @@
 -- The word that a link leads to.
 use native.Mathlib.Omega.{arith}
 use Rattle.write_sets_programs.proofs.ArrayLaws.{at_some}
-use mathlib.Core.Path.{sym}
-use borrow.Author.Rules.{rules}
 use Rattle.write_sets_programs.proofs.table.linked.Goals as goal
 
 pub offset_bounds-arrays-link : goal.offset_bounds-arrays-link

@@ -61,7 +61,7 @@ held-copy {rows} row S t {k} e h = record { is = rw (eq-eqb k 1 e); fits = h }
 pub held-own : {rows : List ℤ} {row : ℕ} {S t k : ℕ} {x : KernelAtom} → (k ≡ 1 → ⊥) → AtomAt S rows row t x → HeldAt S rows row k t x
 held-own {k = k} n a = record { is = rw (ne_eqb k 1 n) a.is; fits = a.fits }
 
--- what holds a value that waits while 𝓛 may be written
+-- what holds a value that waits while W may be written
 pub held-is : {S : ℕ} {rows : List ℤ} {row k t : ℕ} {x : KernelAtom} (W : ℕ → Bool) → k ≡ copied (atom_of (called_in rows) (expression_at rows row)) W → HeldAt S rows row k t x → atom_tree x ≡ atom S t (held (atom_of (called_in rows) (expression_at rows row)) W)
 held-is {S} {rows} {row} {k} {t} W e a =
     let h = atom_of (called_in rows) (expression_at rows row) in

@@ -1,8 +1,6 @@
 -- The atom of a value that waits.
 use native.Mathlib.Omega.{arith}
 use Rattle.writers_steps.specs.AtomLaws.{held-copy, held-own}
-use borrow.Author.Rules.{rules}
-use Rattle.writers_steps.proofs.atoms.atom_at.Reads as atom-at-reads
 use Rattle.writers_steps.proofs.atoms.held_atom.Goals as goal
 
 pub returns-then-copied-eq1 : goal.returns-then-copied-eq1

@@ -1,6 +1,5 @@
 -- A place whose index is held at a level.
 use Rattle.writers_steps.specs.AtomLaws.{place-index, held-variable, held-element}
-use borrow.Author.Rules.{rules}
 use Rattle.writers_steps.proofs.atoms.held_place.Goals as goal
 
 pub atom_at-requires : goal.atom_at-requires

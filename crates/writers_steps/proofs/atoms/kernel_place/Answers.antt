@@ -1,6 +1,5 @@
 -- The place at a row.
 use Rattle.writers_steps.specs.AtomLaws.{place_inside, place_found}
-use borrow.Author.Rules.{rules}
 use Rattle.writers_steps.proofs.atoms.kernel_place.Goals as goal
 
 pub held_place-requires : goal.held_place-requires

@@ -1,6 +1,5 @@
 -- The copy of the first operand's value, from the table.
 use Rattle.measures_table.specs.MeasureLaws.{whole_row}
-use borrow.Author.Rules.{rules}
 use Rattle.writers_steps.proofs.atoms.operand_copied.Goals as goal
 
 pub returns : goal.returns

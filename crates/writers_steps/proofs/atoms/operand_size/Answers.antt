@@ -3,7 +3,6 @@ use mathlib.Core.Path.{ap, ◌∙◌}
 use native.Mathlib.Omega.{arith}
 use Rattle.measures_table.specs.Measures.{slot_at}
 use Rattle.measures_table.specs.MeasureLaws.{limited-small, whole-slot, whole_part}
-use borrow.Author.Rules.{rules}
 use Rattle.writers_steps.proofs.atoms.operand_size.Goals as goal
 
 pub measure_at-requires : goal.measure_at-requires

@@ -4,7 +4,6 @@ use Rattle.translation.specs.Translate.{place_taken}
 use Rattle.language_shapes.specs.ShapeLaws.{placed}
 use Rattle.measures_table.specs.MeasureLaws.{whole-asks}
 use Rattle.measures_table.specs.Parts.{called_in}
-use borrow.Author.Rules.{rules}
 use Rattle.writers_steps.proofs.atoms.place_taken.Goals as goal
 
 pub taken_at-requires : goal.taken_at-requires

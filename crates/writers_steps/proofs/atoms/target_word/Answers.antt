@@ -1,7 +1,6 @@
 -- The word where a value goes, by its use.
 use mathlib.Core.Path.{refl}
 use Rattle.writers_steps.specs.AtomLaws.{target-by}
-use borrow.Author.Rules.{rules}
 use Rattle.writers_steps.proofs.atoms.target_word.Goals as goal
 
 pub returns-in-Dropped : goal.returns-in-Dropped

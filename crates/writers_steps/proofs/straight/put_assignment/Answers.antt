@@ -12,7 +12,6 @@ use Rattle.writers_rows.specs.Straight.{straight_code}
 use Rattle.writers_rows.specs.Chain.{room-less}
 use Rattle.writers_rows.specs.LeafLaws.{recoded}
 use Rattle.measures_table.specs.Parts.{called_in}
-use borrow.Author.Rules.{rules}
 use Rattle.writers_steps.proofs.straight.put_assignment.Goals as goal
 
 pub place_at-shape-requires : goal.place_at-shape-requires

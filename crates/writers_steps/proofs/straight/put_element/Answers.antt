@@ -10,7 +10,6 @@ use Rattle.measures_table.specs.MeasureLaws.{whole-asks}
 use Rattle.writers_steps.specs.AtomLaws.{held-is, above-held, stored-element}
 use Rattle.writers_rows.specs.LeafLaws.{recoded}
 use Rattle.measures_table.specs.Parts.{called_in}
-use borrow.Author.Rules.{rules}
 use Rattle.writers_steps.proofs.straight.put_element.Goals as goal
 
 pub held_atom-source-requires : goal.held_atom-source-requires

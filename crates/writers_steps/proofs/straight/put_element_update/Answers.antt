@@ -4,7 +4,6 @@ use Rattle.language.specs.Trees.{◌⧺◌}
 use Rattle.writers_rows.specs.Chain.{wrote-put, wrote-next, put-room}
 use Rattle.writers_rows.specs.LeafLaws.{binary-wrote, fetch-wrote, store_wrote}
 use Rattle.writers_rows.specs.declared.KernelAtom.TheVariants.{Variable}
-use borrow.Author.Rules.{rules}
 use Rattle.writers_steps.proofs.straight.put_element_update.Goals as goal
 
 pub put_store-requires : goal.put_store-requires

@@ -6,9 +6,6 @@ use Rattle.writers_rows.specs.Chain.{room-less}
 use Rattle.writers_steps.specs.AtomLaws.{hold-copied, hold-nothing}
 use Rattle.writers_rows.specs.LeafLaws.{recoded, nothing-wrote}
 use Rattle.measures_table.specs.Parts.{called_in}
-use borrow.Author.Rules.{rules}
-use Rattle.writers_rows.proofs.assignments.put_copy.Reads as put-copy-reads
-use Rattle.writers_steps.proofs.atoms.atom_at.Reads as atom-at-reads
 use Rattle.writers_steps.proofs.straight.put_hold.Goals as goal
 
 pub put_copy-requires : goal.put_copy-requires

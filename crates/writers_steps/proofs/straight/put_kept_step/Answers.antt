@@ -5,7 +5,6 @@ use Rattle.language.specs.Trees.{◌⧺◌}
 use Rattle.writers_rows.specs.Chain.{wrote-put, wrote-next, put-room, room-less}
 use Rattle.writers_rows.specs.LeafLaws.{copy-wrote, binary-wrote}
 use Rattle.writers_rows.specs.declared.KernelAtom.TheVariants.{Constant, Variable}
-use borrow.Author.Rules.{rules}
 use Rattle.writers_steps.proofs.straight.put_kept_step.Goals as goal
 
 pub put_copy-requires : goal.put_copy-requires

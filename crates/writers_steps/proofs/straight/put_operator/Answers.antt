@@ -12,11 +12,6 @@ use Rattle.language.specs.Writes.{writes}
 use Rattle.translation.proofs.HeldCode.{copied-most}
 use Rattle.writers_steps.specs.AtomLaws.{held-is, above-held}
 use Rattle.measures_table.specs.Parts.{called_in}
-use borrow.Author.Rules.{rules}
-use Rattle.writers_rows.proofs.assignments.put_binary.Reads as put-binary-reads
-use Rattle.writers_steps.proofs.atoms.atom_at.Reads as atom-at-reads
-use Rattle.writers_steps.proofs.atoms.held_atom.Reads as held-atom-reads
-use Rattle.measures_expressions.proofs.holders.taken_at.Reads as taken-at-reads
 use Rattle.writers_steps.proofs.straight.put_operator.Goals as goal
 
 pub taken_at-requires : goal.taken_at-requires

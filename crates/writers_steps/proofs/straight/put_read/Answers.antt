@@ -11,10 +11,7 @@ use Rattle.writers_steps.specs.Asks.{PlaceInside}
 use Rattle.writers_rows.specs.Chain.{room-less}
 use Rattle.writers_steps.specs.AtomLaws.{place-index}
 use Rattle.writers_rows.specs.LeafLaws.{recoded, nothing-wrote}
-use Rattle.writers_rows.proofs.assignments.put_fetch.Reads as put-fetch-reads
-use Rattle.writers_steps.proofs.atoms.atom_at.Reads as atom-at-reads
 use Rattle.measures_table.specs.Parts.{called_in}
-use borrow.Author.Rules.{rules}
 use Rattle.writers_steps.proofs.straight.put_read.Goals as goal
 
 pub target_word-number-requires : goal.target_word-number-requires

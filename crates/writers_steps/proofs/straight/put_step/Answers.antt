@@ -10,7 +10,6 @@ use Rattle.writers_rows.specs.Chain.{room-less}
 use Rattle.writers_steps.specs.AtomLaws.{postfix-rows}
 use Rattle.writers_rows.specs.LeafLaws.{recoded, place-taken-most}
 use Rattle.measures_table.specs.Parts.{called_in}
-use borrow.Author.Rules.{rules}
 use Rattle.writers_steps.proofs.straight.put_step.Goals as goal
 
 pub kernel_place-target-requires : goal.kernel_place-target-requires

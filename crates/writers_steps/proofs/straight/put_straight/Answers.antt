@@ -18,19 +18,6 @@ use Rattle.language.specs.Writes.{index_writes}
 use Rattle.measures_table.specs.Parts.{called_in, first_copied}
 use Rattle.measures_table.specs.MeasureLaws.{landed-copied}
 use Rattle.measures_expressions.proofs.PassedLaws.{called-otherwise}
-use borrow.Author.Rules.{rules}
-use Rattle.writers_rows.proofs.assignments.put_binary.Reads as put-binary-reads
-use Rattle.writers_rows.proofs.assignments.put_minus.Reads as put-minus-reads
-use Rattle.writers_steps.proofs.atoms.atom_at.Reads as atom-at-reads
-use Rattle.writers_steps.proofs.atoms.held_atom.Reads as held-atom-reads
-use Rattle.writers_steps.proofs.atoms.operand_copied.Reads as operand-copied-reads
-use Rattle.writers_steps.proofs.atoms.target_word.Reads as target-word-reads
-use Rattle.writers_steps.proofs.straight.put_assignment.Reads as put-assignment-reads
-use Rattle.writers_steps.proofs.straight.put_operation.Reads as put-operation-reads
-use Rattle.writers_steps.proofs.straight.put_operator.Reads as put-operator-reads
-use Rattle.writers_steps.proofs.straight.put_read.Reads as put-read-reads
-use Rattle.writers_steps.proofs.straight.put_step.Reads as put-step-reads
-use Rattle.language_shapes.proofs.rows.expression_at.Reads as expression-at-reads
 use Rattle.writers_steps.proofs.straight.put_straight.Goals as goal
 
 pub target_word-number-requires : goal.target_word-number-requires

@@ -7,7 +7,6 @@ use Rattle.writers_rows.specs.Atoms.{atom_tree, place_tree, PlaceFits}
 use Rattle.writers_rows.specs.Chain.{room-less}
 use Rattle.writers_rows.specs.LeafLaws.{recoded}
 use Rattle.writers_rows.specs.declared.KernelPlace.{KernelPlace}
-use borrow.Author.Rules.{rules}
 use Rattle.writers_steps.proofs.straight.put_update.Goals as goal
 
 pub put_binary-requires : goal.put_binary-requires

@@ -8,7 +8,6 @@ use Rattle.writers_rows.specs.Chain.{room-less}
 use Rattle.writers_steps.specs.AtomLaws.{stored-straight, stored-copy}
 use Rattle.writers_rows.specs.LeafLaws.{recoded, nothing-wrote}
 use Rattle.measures_table.specs.Parts.{called_in}
-use borrow.Author.Rules.{rules}
 use Rattle.writers_steps.proofs.straight.put_variable.Goals as goal
 
 pub direct_at-requires : goal.direct_at-requires

@@ -6,7 +6,6 @@ use Rattle.translation.specs.Translate.{step_code}
 use Rattle.translation.specs.TranslateSize.{step_rows}
 use Rattle.writers_rows.specs.Chain.{room-less}
 use Rattle.writers_rows.specs.LeafLaws.{recoded}
-use borrow.Author.Rules.{rules}
 use Rattle.writers_steps.proofs.straight.put_variable_step.Goals as goal
 
 pub put_binary-requires : goal.put_binary-requires

@@ -1,5 +1,5 @@
 -- The temporaries of the arguments, from those behind one and its own.
-use mathlib.Core.Path.{◌≡◌, refl, ap}
+use mathlib.Core.Path.{◌≡◌, ap}
 use native.Mathlib.Omega.{arith}
 use Rattle.language.specs.Decode.{expression_at, argument_list_at}
 use Rattle.language.specs.Trees.{no_more}
@@ -10,8 +10,7 @@ use Rattle.language_shapes.specs.ShapeLaws.{argued}
 use Rattle.measures_table.specs.Parts.{called_in}
 use Rattle.writers_calls.specs.Ranks.{rank, rank_falls, rank_most}
 use Rattle.writers_calls.specs.ArgumentLaws.{passing, passes_none, link-inside, taken_none, taken_more}
-use borrow.Author.Rules.{rules}
-use Prim.Native.Nat.{ℕ, ◌%◌, ◌<◌}
+use Prim.Native.Nat.{◌%◌, ◌<◌}
 use Rattle.writers_calls.proofs.arguments.+arguments_taken.Goals as goal
 
 pub returns-then-argument-eq0 : goal.returns-then-argument-eq0

@@ -4,7 +4,6 @@ use native.Mathlib.Omega.{arith}
 use Rattle.language.specs.Calls.{argument_count}
 use Rattle.language_shapes.specs.ShapeLaws.{argued}
 use Rattle.writers_calls.specs.ArgumentLaws.{passing, passes_none, argument-some}
-use borrow.Author.Rules.{rules}
 use Rattle.writers_calls.proofs.arguments.argument_value.Goals as goal
 
 pub returns-in-Argument : goal.returns-in-Argument

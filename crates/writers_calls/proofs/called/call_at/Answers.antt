@@ -3,7 +3,6 @@ use mathlib.Core.Path.{sym, ◌∙◌}
 use mathlib.Core.Bool.{true≢false}
 use Rattle.language_shapes.specs.ShapeLaws.{expressed}
 use Rattle.measures_expressions.proofs.PassedLaws.{number-no-call, read-no-call, operated-no-call, chosen-no-call}
-use borrow.Author.Rules.{rules}
 use Rattle.writers_calls.proofs.called.call_at.Goals as goal
 
 pub returns-in-Number : goal.returns-in-Number

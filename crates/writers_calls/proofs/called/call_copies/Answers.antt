@@ -1,6 +1,5 @@
 -- Which arguments are copied, from the table.
 use Rattle.measures_table.specs.MeasureLaws.{whole_row}
-use borrow.Author.Rules.{rules}
 use Rattle.writers_calls.proofs.called.call_copies.Goals as goal
 
 pub returns : goal.returns

@@ -3,7 +3,6 @@ use mathlib.Core.Path.{sym, ap}
 use Rattle.language_shapes.specs.ShapeLaws.{expressed}
 use Rattle.language_shapes.specs.Functions.{is_call}
 use Rattle.measures_expressions.proofs.PassedLaws.{number-no-call, read-no-call, operated-no-call, chosen-no-call}
-use borrow.Author.Rules.{rules}
 use Rattle.writers_calls.proofs.called.is_call.Goals as goal
 
 pub returns-in-Number : goal.returns-in-Number

@@ -13,8 +13,7 @@ use Rattle.writers_rows.specs.Chain.{PutWords, Reach, put-reach, put-room, room-
 use Rattle.writers_calls.specs.Arguments.{taken_by}
 use Rattle.writers_calls.specs.Ranks.{rank, rank_falls}
 use Rattle.writers_calls.specs.ArgumentLaws.{link-inside, passing-count, passing-taken, atoms-none, first-put, atoms-done}
-use borrow.Author.Rules.{rules}
-use Prim.Native.Nat.{ℕ, ◌+◌, ◌*◌, ◌-◌, ◌/◌, ◌≤◌, ◌<◌}
+use Prim.Native.Nat.{ℕ, ◌+◌, ◌*◌, ◌-◌, ◌/◌, ◌≤◌}
 use Rattle.writers_calls.proofs.calls.+put_atoms.Goals as goal
 use Rattle.writers_calls.proofs.calls.+put_atoms.Goals.{After-arguments_taken, After-out-1}
 

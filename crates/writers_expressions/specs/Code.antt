@@ -1,4 +1,4 @@
--- Code: the parts of an expression's code that have a writer of their own. Each is a part of a clause of expressionCode.
+-- Code: the parts of an expression's code that have a writer of their own. Each is a part of a clause of expression_code.
 use Rattle.std.specs.Prelude.{Bool, List, ℕ, ℤ, pos}
 use Rattle.words.specs.declared.Operator.TheVariants.{NotEqual}
 use Rattle.language.specs.Trees.{Expression, constant, read, minus, not, binary, and, or, comma, conditional, assign, compound, prefix, postfix, call, Items, none, ◌here◌, ◌⧺◌}

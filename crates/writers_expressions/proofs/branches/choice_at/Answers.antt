@@ -5,11 +5,6 @@ use Rattle.language_shapes.specs.ShapeLaws.{expressed}
 use Rattle.language_shapes.specs.declared.ExpressionShape.TheVariants as expression
 use Rattle.measures_expressions.proofs.PassedLaws.{called-otherwise}
 use Rattle.writers_expressions.proofs.Choices.{RowAsked, straight, straight-operation, and-choice, or-choice, conditional-choice}
-use borrow.Author.Rules.{rules}
-use Rattle.writers_expressions.proofs.branches.end_at.Reads as end-at-reads
-use Rattle.writers_expressions.proofs.branches.number_branch.Reads as number-branch-reads
-use Rattle.writers_steps.proofs.atoms.atom_at.Reads as atom-at-reads
-use Rattle.language_shapes.proofs.rows.expression_at.Reads as expression-at-reads
 use Rattle.writers_expressions.proofs.branches.choice_at.Goals as goal
 use Rattle.writers_expressions.proofs.branches.choice_at.Goals.{Start}
 

@@ -5,7 +5,6 @@ use Rattle.translation.specs.Translate.{atom_of}
 use Rattle.measures_table.specs.MeasureLaws.{whole-asks}
 use Rattle.measures_table.specs.Parts.{called_in}
 use Rattle.writers_expressions.proofs.Choices.{end_stays, end_copy}
-use Rattle.measures_expressions.proofs.holders.taken_at.Reads as taken-at-reads
 use Rattle.writers_expressions.proofs.branches.end_at.Goals as goal
 
 pub taken_at-requires : goal.taken_at-requires

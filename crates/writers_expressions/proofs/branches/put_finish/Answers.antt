@@ -1,4 +1,4 @@
--- The end of a branch: each arm writes what finishCode says of it.
+-- The end of a branch: each arm writes what finish_code says of it.
 use mathlib.Core.Path.{sym, ap}
 use mathlib.Core.Bool.{false}
 use native.Mathlib.Omega.{arith}
@@ -7,9 +7,6 @@ use Rattle.writers_rows.specs.LeafLaws.{recoded, nothing-wrote}
 use Rattle.writers_expressions.specs.Code.{finish_code}
 use Rattle.writers_expressions.specs.Asks.{finish_size}
 use Rattle.writers_expressions.specs.declared.End.{End}
-use borrow.Author.Rules.{rules}
-use Rattle.writers_rows.proofs.assignments.put_binary.Reads as put-binary-reads
-use Rattle.writers_rows.proofs.assignments.put_copy.Reads as put-copy-reads
 use Rattle.writers_expressions.proofs.branches.put_finish.Goals as goal
 
 pub put_binary-requires : goal.put_binary-requires

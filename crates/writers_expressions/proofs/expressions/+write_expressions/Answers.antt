@@ -2,14 +2,14 @@
 -- is a law of the parts that are written so far.
 use borrow.Author.Rules.{rules}
 use mathlib.Core.Path.{refl, sym, ap, ◌∙◌}
-use Prim.Native.Nat.{ℕ, ◌+◌, ◌*◌, ◌-◌, ◌/◌, ◌%◌, ◌≤◌, ◌<◌, max}
+use Prim.Native.Nat.{ℕ, ◌+◌, ◌*◌, ◌-◌, ◌%◌, ◌<◌}
 use native.Mathlib.Omega.{arith}
 use Rattle.language.specs.Decode.{argument_list_at, part_at}
 use Rattle.measures_table.specs.Parts.{called_in}
 use Rattle.writers_rows.specs.LeafLaws.{recoded, nothing-wrote}
 use Rattle.writers_calls.specs.ArgumentLaws.{link-inside}
 use Rattle.writers_calls.specs.CallCode.{code-none}
-use Rattle.writers_calls.specs.Ranks.{rank_most, rank, rank-some}
+use Rattle.writers_calls.specs.Ranks.{rank_most, rank-some}
 use Rattle.writers_expressions.proofs.ArgumentParts.{ArgumentsAsked, ArgumentFound, size_is, count_is, levels-low, value_inside, value-small, next-falls, value-falls, behind-asks, BehindWritten, rest-reach, value-asks, ValueWritten, value-reach, argument-room, arguments-length, arguments-written}
 use mathlib.Core.Bool.{Bool}
 use Rattle.words.specs.Word.{pick}
@@ -18,7 +18,6 @@ use Rattle.writers_expressions.proofs.BranchParts.{BranchAsked, code-small, Bran
 use Rattle.writers_expressions.proofs.CallParts.{CallAsked, call-small, target_low, CallFound, first_below, count_low, own-within, arguments-ask, ArgumentsWritten, arguments-reach, call_asks, call_length, call-written}
 use Rattle.writers_rows.specs.Chain.{room-less}
 use Rattle.writers_expressions.proofs.ChoiceParts.{ChoiceAsked, true-small, false-small, ChoiceSizes, choice-room, IfRows, if-reach, true-room, TrueBranch, true-reach, false-room, choice-length, choice-written}
-use Rattle.words.specs.Table.{row_count}
 use Rattle.measures_table.specs.MeasureLaws.{whole-behind}
 use Rattle.translation.specs.Translate.{operand_code}
 use Rattle.writers_expressions.proofs.ExpressionParts.{ExpressionAsked, source, all_small, called-asks, called-code, OperandsFound, copied-most, first_inside, first_small, second-inside, second-small, held-within, operands-within, second-levels, level-small, first-falls, second-falls, first-asks, ExpressionSizes, sizes-within, FirstOperand, first_reach, hold-room, HeldFirst, held-reach, second-asks, SecondOperand, second-reach, last-asks, LastPart, expression-length, expression-written}

@@ -1,4 +1,4 @@
--- Code: the parts of a statement's code that have a writer of their own. Each is a part of a clause of statementCode.
+-- Code: the parts of a statement's code that have a writer of their own. Each is a part of a clause of statement_code.
 use Rattle.std.specs.Prelude.{Bool, List, ℕ, zero, suc, ◌+◌, ℤ, pos}
 use Rattle.language.specs.Trees.{Expression, constant, variable, Part, absent, present, give_back, label, Items, none, ◌then◌, ◌here◌, ◌⧺◌}
 use Rattle.language.specs.Decode.{statement_at, part_at}

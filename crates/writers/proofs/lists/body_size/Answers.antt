@@ -2,7 +2,6 @@
 use mathlib.Core.Path.{sym, ◌∙◌}
 use native.Mathlib.Omega.{arith}
 use Rattle.writers.proofs.StatementLaws.{body-some}
-use borrow.Author.Rules.{rules}
 use Rattle.writers.proofs.lists.body_size.Goals as goal
 
 pub statement_size-requires : goal.statement_size-requires

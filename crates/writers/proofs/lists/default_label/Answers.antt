@@ -3,7 +3,6 @@ use mathlib.Core.Path.{sym}
 use native.Mathlib.Omega.{arith}
 use Rattle.language.specs.Decode.{list_at}
 use Rattle.writers.proofs.Tables.{default-at, word-asks, default-of-list}
-use borrow.Author.Rules.{rules}
 use Rattle.writers.proofs.lists.default_label.Goals as goal
 
 pub measure_at-place-requires : goal.measure_at-place-requires

@@ -2,7 +2,6 @@
 use mathlib.Core.Path.{sym, ap, ◌∙◌}
 use Rattle.writers.specs.Items.{item_labels}
 use Rattle.writers.proofs.ListLaws.{item_is}
-use borrow.Author.Rules.{rules}
 use Rattle.writers.proofs.lists.item_labels.Goals as goal
 
 pub statement_labels-requires : goal.statement_labels-requires

@@ -3,7 +3,6 @@ use mathlib.Core.Path.{sym, ap, ◌∙◌}
 use Rattle.measures_table.specs.Parts.{called_in}
 use Rattle.writers.specs.Items.{item_size}
 use Rattle.writers.proofs.ListLaws.{item_is}
-use borrow.Author.Rules.{rules}
 use Rattle.writers.proofs.lists.item_size.Goals as goal
 
 pub statement_size-requires : goal.statement_size-requires

@@ -1,6 +1,5 @@
 -- The labels of a statement: the table's word, which is within the limit and so was not cut off.
 use Rattle.writers.proofs.Tables.{statement-labels}
-use borrow.Author.Rules.{rules}
 use Rattle.writers.proofs.lists.statement_labels.Goals as goal
 
 pub returns : goal.returns

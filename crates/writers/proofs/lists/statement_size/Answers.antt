@@ -1,6 +1,5 @@
 -- The kernel rows of a statement: the table's word, which is within the limit and so was not cut off.
 use Rattle.writers.proofs.Tables.{statement-rows}
-use borrow.Author.Rules.{rules}
 use Rattle.writers.proofs.lists.statement_size.Goals as goal
 
 pub returns : goal.returns

@@ -3,7 +3,6 @@ use native.Mathlib.Omega.{arith}
 use Rattle.language.specs.Decode.{part_at}
 use Rattle.measures_table.specs.Parts.{called_in}
 use Rattle.writers.proofs.LoopLaws.{test_some, test-most}
-use borrow.Author.Rules.{rules}
 use Rattle.writers.proofs.loops.test_size.Goals as goal
 
 pub operand_size-requires : goal.operand_size-requires

@@ -12,7 +12,6 @@ use Rattle.translation.specs.declared.Use.TheVariants.{Wanted as wanted}
 use Rattle.writers_steps.specs.LevelLaws.{part_low}
 use Rattle.writers.proofs.Sequence.{room-behind}
 use Rattle.writers.proofs.LoopLaws.{test_some, test-most, test-done}
-use borrow.Author.Rules.{rules}
 use Rattle.writers.proofs.loops.write_test.Goals as goal
 
 pub returns-then-test-eq0 : goal.returns-then-test-eq0

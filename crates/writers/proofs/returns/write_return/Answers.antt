@@ -5,7 +5,6 @@ use Rattle.translation.specs.declared.Use.TheVariants.{Wanted as wanted}
 use Rattle.writers_steps.specs.LevelLaws.{part_low}
 use Rattle.writers.proofs.Sequence.{room-behind}
 use Rattle.writers.proofs.ReturnLaws.{returned-nothing, returned-done}
-use borrow.Author.Rules.{rules}
 use Rattle.writers.proofs.returns.write_return.Goals as goal
 
 pub put_return-requires : goal.put_return-requires

@@ -1,14 +1,13 @@
 -- The writers of statements, lists and arms meet their contracts: what stands in the table is the emission of the code of the tree at the
 -- row. Each need is a law of the construct and what the calls left.
-use borrow.Author.Rules.{rules}
-use mathlib.Core.Path.{sym, ap, ◌∙◌, ◌≡◌, refl}
+use mathlib.Core.Path.{sym, ap, ◌∙◌, ◌≡◌}
 use mathlib.Core.Bool.{true}
 use mathlib.Core.List.{List}
-use Prim.Native.Nat.{ℕ, ◌+◌, ◌-◌, ◌<◌, ◌*◌, max}
+use Prim.Native.Nat.{ℕ, ◌+◌, ◌-◌, ◌<◌, ◌*◌}
 use lib.IntN.{ℤ}
 use native.Mathlib.Omega.{arith}
 use Rattle.language.specs.Trees.{Arms, Items}
-use Rattle.translation.specs.Translate.{arms_labels, arms_code, items_labels, items_code, labels, statement_code, atom_of}
+use Rattle.translation.specs.Translate.{arms_labels, arms_code, items_code, labels, statement_code, atom_of}
 use Rattle.translation.specs.TranslateSize.{arms_size, items_size, statement_size}
 use Rattle.language_emission.specs.Emission.{emit_items}
 use Rattle.language_shapes.specs.ShapeLaws.{armed, stated}
@@ -21,11 +20,10 @@ use Rattle.writers.specs.Items.{first_only, item_code}
 use Rattle.writers.proofs.ArmLaws.{arm_is, arms-some, arms-behind-inside, arms-behind-size, arms-behind-labels, behind-less, arms_step, no-arms, choice-done, arm_done, rounds-rows, rounds-labels, rounds-own, rounds-none, rounds-done}
 use Rattle.language.specs.Decode.{arm_list_at, list_at, statement_at, expression_at, part_at}
 use Rattle.writers.proofs.Sequence.{room-behind, back-length}
-use Rattle.writers.proofs.ListLaws.{Progress, start as begin, finish, above-some, above, item_is, none-at, next-less, behind-inside, behind-size, behind-labels, room-item, items-step, above-less, optional-inside}
+use Rattle.writers.proofs.ListLaws.{start as begin, finish, above-some, item_is, none-at, next-less, behind-inside, behind-size, behind-labels, room-item, items-step, above-less, optional-inside}
 use Rattle.writers_rows.proofs.Words.{pick-most}
 use Rattle.writers.proofs.StatementLaws.{block-done, body-some, body-labels, body-none, body-done, part-size, if-done, line-done, if-size, if-labels, while-size, do-size, for-size, while-code, do-code, for-code, switch-done}
-use Rattle.words.specs.Table.{row_count}
-use Rattle.translation.specs.declared.Use.TheVariants.{Wanted as wanted, Dropped as dropped, Stored as stored}
+use Rattle.translation.specs.declared.Use.TheVariants.{Wanted as wanted, Dropped as dropped}
 use Rattle.writers_steps.specs.LevelLaws.{part_low}
 use Rattle.writers_rows.specs.Room.{more_rows}
 use Rattle.writers.proofs.LoopLaws.{loop-done, round-done}

@@ -1,38 +1,14 @@
 -- The writers of statements, lists and arms meet their contracts: what stands in the table is the emission of the code of the tree at the
 -- row. Each need is a law of the construct and what the calls left.
-use borrow.Author.Rules.{rules}
-use mathlib.Core.Path.{sym, ap, ◌∙◌, ◌≡◌, refl}
 use mathlib.Core.Bool.{true}
-use mathlib.Core.List.{List}
-use Prim.Native.Nat.{ℕ, ◌+◌, ◌-◌, ◌<◌, ◌*◌, max}
-use lib.IntN.{ℤ}
-use native.Mathlib.Omega.{arith}
-use Rattle.language.specs.Trees.{Arms, Items}
-use Rattle.translation.specs.Translate.{arms_labels, arms_code, items_labels, items_code, labels, statement_code, atom_of}
-use Rattle.translation.specs.TranslateSize.{arms_size, items_size, statement_size}
-use Rattle.language_emission.specs.Emission.{emit_items}
-use Rattle.language_shapes.specs.ShapeLaws.{armed, stated}
-use Rattle.words.specs.Over.{over}
-use Rattle.writers_rows.specs.Chain.{room-less, back_in, Reach}
-use Rattle.writers_rows.specs.LeafLaws.{nothing-wrote}
+use Prim.Native.Nat.{◌+◌, ◌-◌, ◌*◌, max}
+use Rattle.translation.specs.Translate.{arms_labels, arms_code, items_labels, items_code}
+use Rattle.translation.specs.TranslateSize.{arms_size, items_size}
 use Rattle.measures_table.specs.Parts.{called_in}
 use Rattle.writers.specs.Code.{exits_of}
-use Rattle.writers.specs.Items.{first_only, item_code}
-use Rattle.writers.proofs.ArmLaws.{arm_is, arms-some, arms-behind-inside, arms-behind-size, arms-behind-labels, behind-less, arms_step, no-arms, choice-done, arm_done, rounds-rows, rounds-labels, rounds-own, rounds-none, rounds-done}
-use Rattle.language.specs.Decode.{arm_list_at, list_at, statement_at, expression_at, part_at}
-use Rattle.writers.proofs.Sequence.{room-behind, back-length}
-use Rattle.writers.proofs.ListLaws.{Progress, start as begin, finish, above-some, above, item_is, none-at, next-less, behind-inside, behind-size, behind-labels, room-item, items-step, above-less, optional-inside}
-use Rattle.writers_rows.proofs.Words.{pick-most}
-use Rattle.writers.proofs.StatementLaws.{block-done, body-some, body-labels, body-none, body-done, part-size, if-done, line-done, if-size, if-labels, while-size, do-size, for-size, while-code, do-code, for-code, switch-done}
+use Rattle.language.specs.Decode.{arm_list_at, list_at}
+use Rattle.writers.proofs.ListLaws.{Progress, above}
 use Rattle.words.specs.Table.{row_count}
-use Rattle.translation.specs.declared.Use.TheVariants.{Wanted as wanted, Dropped as dropped, Stored as stored}
-use Rattle.writers_steps.specs.LevelLaws.{part_low}
-use Rattle.writers_rows.specs.Room.{more_rows}
-use Rattle.writers.proofs.LoopLaws.{loop-done, round-done}
-use Rattle.writers.proofs.DeclarationLaws.{initial-size}
-use Rattle.writers.proofs.ReturnLaws.{returned-code}
-use Rattle.writers.proofs.Tables.{default-low}
-use Rattle.translation.proofs.TranslateBounds.{taken_most}
 use Rattle.writers.proofs.statements.+write_statements.Given as goal
 
 abbrev pub invariant-write_arms-loop-n : goal.invariant-write_arms-loop-n

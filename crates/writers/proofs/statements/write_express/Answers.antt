@@ -4,7 +4,6 @@ use Rattle.translation.specs.declared.Use.TheVariants.{Dropped as dropped}
 use Rattle.writers_rows.specs.Chain.{room-less}
 use Rattle.writers_steps.specs.LevelLaws.{part_low}
 use Rattle.writers.proofs.StatementLaws.{part-size, express-nothing, express-something}
-use borrow.Author.Rules.{rules}
 use Rattle.writers.proofs.statements.write_express.Goals as goal
 
 pub operand_size-n-requires : goal.operand_size-n-requires

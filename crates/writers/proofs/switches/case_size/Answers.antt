@@ -4,7 +4,6 @@ use Prim.Native.Nat.{◌*◌}
 use Rattle.language_shapes.specs.declared.Item.TheVariants.{Mark}
 use Rattle.writers.specs.Items.{item_cases}
 use Rattle.writers.proofs.ListLaws.{item_is}
-use borrow.Author.Rules.{rules}
 use Rattle.writers.proofs.switches.case_size.Goals as goal
 
 pub returns-in-Statement : goal.returns-in-Statement

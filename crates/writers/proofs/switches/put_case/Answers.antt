@@ -13,7 +13,6 @@ use mathlib.Core.Bool.{true}
 use native.Mathlib.Omega.{arith}
 use Rattle.language.specs.Sizes.{items_rows, expression_rows}
 use Rattle.writers.proofs.Sequence.{wrote-behind}
-use borrow.Author.Rules.{rules}
 use Rattle.writers.proofs.switches.put_case.Goals as goal
 
 pub returns : goal.returns

@@ -1,11 +1,10 @@
 -- The tests of a switch: the loop keeps `Progress`, so that what is written is the tests of the items passed.
-use Rattle.writers.proofs.ListLaws.{Progress, start as begin, finish, none-at, above, next-less, first_of, some-list, first-cases, first-labels, room-item, tests-step}
-use mathlib.Core.Path.{refl, ap}
+use Rattle.writers.proofs.ListLaws.{start as begin, finish, none-at, next-less, first_of, some-list, first-cases, first-labels, room-item, tests-step}
+use mathlib.Core.Path.{ap}
 use mathlib.Core.Bool.{true}
 use Prim.Native.Nat.{◌*◌}
 use native.Mathlib.Omega.{arith}
 use Rattle.language.specs.Trees.{Items}
-use Rattle.language.specs.Decode.{list_at}
 use Rattle.translation.specs.Translate.{case_tests, items_labels}
 use Rattle.translation.specs.TranslateSize.{cases}
 use Rattle.writers_rows.specs.Atoms.{atom_tree}

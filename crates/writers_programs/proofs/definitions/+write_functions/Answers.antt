@@ -1,8 +1,8 @@
 -- The writers of definitions and of a program's list meet their contracts. A file for each member.
-use Prim.Native.Nat.{ℕ, ◌+◌, ◌*◌, ◌<◌, ◌-◌, ◌≤◌}
-use Rattle.writers_calls.specs.Ranks.{rank, rank_falls, rank_most}
+use Prim.Native.Nat.{ℕ, ◌+◌, ◌-◌, ◌≤◌}
+use Rattle.writers_calls.specs.Ranks.{rank_falls}
 use borrow.Author.Rules.{rules}
-use mathlib.Core.Path.{◌≡◌, sym, ap, subst, ◌∙◌, refl}
+use mathlib.Core.Path.{◌≡◌, sym, ap, subst, ◌∙◌}
 use mathlib.Core.Bool.{true, false, Bool}
 use native.Mathlib.Omega.{arith}
 use lib.ListN.{length}

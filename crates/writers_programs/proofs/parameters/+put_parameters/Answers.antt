@@ -2,7 +2,7 @@
 use mathlib.Core.Path.{refl, ap, ◌∙◌}
 use mathlib.Core.Bool.{Bool}
 use native.Mathlib.Omega.{arith}
-use Prim.Native.Nat.{◌-◌, ℕ, ◌+◌, ◌<◌}
+use Prim.Native.Nat.{◌-◌, ℕ, ◌+◌}
 use lib.IntN.{pos}
 use lib.ListN.{length}
 use Rattle.words.specs.Word.{pick}
@@ -13,7 +13,6 @@ use Rattle.writers_rows.proofs.Words.{pick-most}
 use Rattle.writers_calls.specs.Ranks.{rank, rank_falls}
 use Rattle.writers.proofs.ListLaws.{optional-inside}
 use Rattle.writers_programs.proofs.ParameterLaws.{parameter-some, counted_is, parameters-none, parameters-done}
-use borrow.Author.Rules.{rules}
 use Rattle.writers_programs.proofs.parameters.+put_parameters.Goals as goal
 
 pub returns-then-count-eq0 : goal.returns-then-count-eq0

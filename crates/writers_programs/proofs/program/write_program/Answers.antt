@@ -11,7 +11,6 @@ use Rattle.writers_rows.proofs.Words.{pick-most}
 use Rattle.writers.proofs.Sequence.{room-behind}
 use Rattle.writers_programs.proofs.ProgramLaws.{program-labels-small, program-numbered, program-done}
 use Rattle.measures.proofs.ProgramLaws.{contents-at, program-inside}
-use borrow.Author.Rules.{rules}
 use Rattle.writers_programs.proofs.program.write_program.Goals as goal
 
 pub put_block-requires : goal.put_block-requires

@@ -9,7 +9,7 @@ mod kernel; // kernel.rt: the translation of a case's program: its form, its tex
 mod source; // source.rt: a case's program: read, checked and run
 mod stream; // stream.rt: where the cases stand in the input
 
-ghost use Rattle.std.specs.Prelude.{◌≤◌, IfOk, length};
+ghost use Rattle.std.specs.Prelude.{◌≡◌, ◌≤◌, IfOk, length};
 
 use self::source::answer_text;
 use self::stream::{Found, find_case, keep_rest};
@@ -110,11 +110,25 @@ fn answer_input(
     Ok(())
 }
 
+// Room for the cases that are read at once.
+fn input_buffer() -> [u8; 1048576]
+    ensures { 1048576 ≡ length result }
+{
+    [0; 1048576]
+}
+
+// Room for the text of a kernel table.
+fn text_buffer() -> [u8; 2097152]
+    ensures { 2097152 ≡ length result }
+{
+    [0; 2097152]
+}
+
 // The largest kernel table has 40,980 rows.
 fn main(rt: HostRuntime) -> io::Result<()> {
-    let mut buffer = [0u8; 1048576];
+    let mut buffer = input_buffer();
     let mut kernel_rows = [0i32; 245880];
-    let mut text = [0u8; 2097152];
+    let mut text = text_buffer();
     let mut read_rows = [0i32; 245880];
     answer_input(
         &rt,

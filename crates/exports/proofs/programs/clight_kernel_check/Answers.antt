@@ -1,0 +1,12 @@
+-- `clight_kernel_check` hands on the entry's verdict, as numbers.
+use mathlib.Core.Path.{ap, ◌∙◌}
+use Rattle.words.specs.declared.Form.TheVariants.{Kernel}
+use Rattle.program_runs.proofs.AcceptanceLaws.{check-no-cause-if-legal}
+use Rattle.exports.specs.Numbers.{verdict_answer}
+use borrow.Author.Rules.{rules}
+use Rattle.exports.proofs.programs.clight_kernel_check.Goals as goal
+
+pub returns : goal.returns
+returns c =
+    let told = c.of_verdict.ensures ∙ ap verdict_answer c.kernel_check.ensures.value in
+    record { value = told; no_cause_if_legal = rw told (check-no-cause-if-legal Kernel c.args.header.now c.args.rows.now) }

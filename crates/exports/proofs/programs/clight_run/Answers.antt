@@ -1,0 +1,11 @@
+-- `clight_run` hands on the entry's answer, as numbers, and the store that it leaves.
+use mathlib.Core.Path.{ap, ◌∙◌}
+use Rattle.program_runs.specs.Runs.{RunResult}
+use Rattle.exports.specs.Numbers.{answer_of}
+use borrow.Author.Rules.{rules}
+use Rattle.exports.proofs.programs.clight_run.Goals as goal
+
+pub returns : goal.returns
+returns c =
+    let result = c.run.ensures in
+    record { value = c.of_run.ensures ∙ ap (λ (r : RunResult). answer_of r.numbers) result; store_after = ap (λ (r : RunResult). r.store) result }

@@ -1,0 +1,13 @@
+-- `try_text`: what was written fits the buffer.
+use mathlib.Core.Path.{sym}
+use native.Mathlib.Omega.{arith}
+use lib.Seq.{length-take-le}
+use Rattle.text_form.proofs.SizeLaws.{write-fits}
+use borrow.Author.Rules.{rules}
+use Rattle.programs.proofs.kernel.try_text.Goals as goal
+
+pub slice_bounds-compare_text-end : goal.slice_bounds-compare_text-end
+slice_bounds-compare_text-end g c = omega (arith, write-fits _ _ _ _ _ _ _ c.write_kernel-answer.ensures c.in-Written.is, c.write_kernel-answer.auto.text)
+
+pub slice_bounds-compare_text-end-in-Written : goal.slice_bounds-compare_text-end-in-Written
+slice_bounds-compare_text-end-in-Written g c = sym (length-take-le _ _ (slice_bounds-compare_text-end g c))

@@ -1,0 +1,15 @@
+-- `answer_run`: the store has the words printed.
+use mathlib.Core.Path.{sym}
+use native.Mathlib.Omega.{arith}
+use lib.Seq.{length-take-le}
+use borrow.Author.Rules.{rules}
+use Rattle.programs.proofs.source.answer_run.Goals as goal
+
+pub slice_bounds-print_source_run-end : goal.slice_bounds-print_source_run-end
+slice_bounds-print_source_run-end g c = omega (arith, c.requires.1, c.run-verdict.auto.store)
+
+pub slice_bounds-print_source_run-end-in-Ran : goal.slice_bounds-print_source_run-end-in-Ran
+slice_bounds-print_source_run-end-in-Ran g c = sym (length-take-le _ _ (slice_bounds-print_source_run-end g c))
+
+pub print_source_run-requires : goal.print_source_run-requires
+print_source_run-requires g c = omega (arith, slice_bounds-print_source_run-end-in-Ran g c, c.requires.0)

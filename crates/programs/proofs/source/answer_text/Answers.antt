@@ -1,0 +1,20 @@
+-- `answer_text`: what was read fits both tables.
+use mathlib.Core.Path.{sym}
+use native.Mathlib.Omega.{arith}
+use lib.Seq.{length-take-le}
+use Rattle.text_form.proofs.SizeLaws.{read_fits}
+use borrow.Author.Rules.{rules}
+use Rattle.programs.proofs.source.answer_text.Goals as goal
+use Rattle.programs.proofs.source.answer_text.Goals.{After-header-in-Read-1, In-Read}
+
+pub slice_bounds-header-end : goal.slice_bounds-header-end
+slice_bounds-header-end g c = omega (arith, (read_fits _ _ _ _ _ _ _ _ _ c.read_source-answer.ensures c.in-Read.is).0, c.read_source-answer.auto.header)
+
+pub slice_bounds-answer_program-end : goal.slice_bounds-answer_program-end
+slice_bounds-answer_program-end g c = sym (length-take-le _ _ (slice_bounds-header-end g (goal.at.slice_bounds-answer_program-end g c).In-Read))
+
+pub slice_bounds-rows-end : goal.slice_bounds-rows-end
+slice_bounds-rows-end g c = omega (arith, (read_fits _ _ _ _ _ _ _ _ _ c.read_source-answer.ensures c.in-Read.is).1, c.read_source-answer.auto.rows)
+
+pub slice_bounds-answer_program-end-in-Read : goal.slice_bounds-answer_program-end-in-Read
+slice_bounds-answer_program-end-in-Read g c = sym (length-take-le _ _ (slice_bounds-rows-end g (goal.at.slice_bounds-answer_program-end-in-Read g c).After-header-in-Read-1))

@@ -1,0 +1,16 @@
+-- `show_source_run`: the store has the words printed.
+use mathlib.Core.Path.{sym}
+use native.Mathlib.Omega.{arith}
+use lib.Seq.{length-take-le}
+use borrow.Author.Rules.{rules}
+use Rattle.side_by_side.proofs.forms.show_source_run.Goals as goal
+use Rattle.side_by_side.proofs.forms.show_source_run.Goals.{After-count_of-written}
+
+pub slice_bounds-print_source_run-end : goal.slice_bounds-print_source_run-end
+slice_bounds-print_source_run-end g c = search rules
+
+pub slice_bounds-print_source_run-end-in-Ran : goal.slice_bounds-print_source_run-end-in-Ran
+slice_bounds-print_source_run-end-in-Ran g c = sym (length-take-le _ _ (slice_bounds-print_source_run-end g (goal.at.slice_bounds-print_source_run-end-in-Ran g c).After-count_of-written))
+
+pub print_source_run-requires : goal.print_source_run-requires
+print_source_run-requires g c = omega (arith, slice_bounds-print_source_run-end-in-Ran g c, c.requires.0)

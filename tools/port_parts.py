@@ -12,7 +12,8 @@ import shutil
 import subprocess
 import sys
 
-KIT = "/opt/rattle/port"
+# The folder of the kit is that of the page which `rt doc` names.
+KIT = os.path.join(os.path.dirname(subprocess.run(["rt", "doc"], capture_output=True, text=True, check=True).stdout.strip()), "port")
 source, work, to = (os.path.abspath(a) for a in sys.argv[1:4])
 lines = {l.split(":")[0].split()[0]: l for l in open(os.path.join(source, "crates.txt")) if ":" in l and not l.startswith("#")}
 size = {c: sum(os.path.getsize(os.path.join(d, f)) for d, _, fs in os.walk(os.path.join(source, "crates", c)) for f in fs) for c in lines}

@@ -1,0 +1,8 @@
+-- `output_buffer`: the length of an array of zeros.
+use Rattle.std.proofs.Common.{ℕ}
+use Rattle.std.proofs.Math.Path.{sym}
+use Rattle.std.proofs.lemmas.List.{length-replicate}
+use Rattle.command_program.proofs.buffers.output_buffer.Goals as goal
+
+pub returns : goal.returns
+returns c = sym (length-replicate {A = ℕ} 2950980 0)

@@ -1,0 +1,8 @@
+-- `store_buffer`: the length of an array of zeros.
+use Rattle.std.proofs.Common.{ℕ}
+use Rattle.std.proofs.Math.Path.{sym}
+use Rattle.std.proofs.lemmas.List.{length-replicate}
+use Rattle.command_program.proofs.buffers.store_buffer.Goals as goal
+
+pub returns : goal.returns
+returns c = sym (length-replicate {A = ℕ} 197377 0)

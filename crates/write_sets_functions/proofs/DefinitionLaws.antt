@@ -302,6 +302,11 @@ words-next {S} {rows} {row} {next} source names inside h j ei et e en =
     (set_single (number_at rows row 1) (names.declared row inside (declared-kind rows row (parameter-there rows row h).1)) (et ∙ ap (single S) ei)) e
     (λ k. ap (is_among k) (list-parameter source row inside h) ∙ ap (λ (n : ℕ). eqb (number_at rows row 1) k || is_among k (parameter_list_at rows n)) (sym en))
 
+-- The same of the sets themselves.
+pub words-joined : {S : ℕ} {rows : List ℤ} {row next : ℕ} {s u : WriteSet} {whole : ℕ → Bool} → Source rows → NamesFrom S rows → row < row_count rows → is_parameter rows row ≡ true
+    → Joined S s (words_from rows row) whole → u ≡ join s (single S (number_at rows row 1)) → next ≡ number_at rows row 5 → Joined S u (words_from rows next) whole
+words-joined source names inside h j joined next = words-next source names inside h j refl refl joined next
+
 pub words-all : {S : ℕ} (rows : List ℤ) (row : ℕ) {s : WriteSet} {whole : ℕ → Bool} → Source rows → Joined S s (words_from rows row) whole → is_parameter rows row ≡ false → SetIs S s whole
 unfolding is_among
 words-all rows row source j h = joined-all (words_from rows row) j (λ i. ap (is_among i) (list-ended source row h))

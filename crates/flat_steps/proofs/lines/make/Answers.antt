@@ -9,10 +9,7 @@ pub number_at-operation-requires : goal.number_at-operation-requires
 number_at-operation-requires c = (omega (arith, c.requires.inside), omega (arith, small-operation c.requires))
 
 pub jump_zero-requires : goal.jump_zero-requires
-jump_zero-requires c = of-kind c.requires c.number_at-operation.ensures (sym c.operation_kind-kind.ensures ∙ c.if-kind-eq43.true)
-
-pub returns-then-kind-eq43 : goal.returns-then-kind-eq43
-returns-then-kind-eq43 c = c.jump_zero.ensures
+jump_zero-requires c = of-kind c.requires c.number_at-operation.ensures (search rules)
 
 pub operate-requires : goal.operate-requires
 operate-requires c = (of-kind c.requires c.number_at-operation.ensures (sym c.operation_kind-kind.ensures), sym c.is_binary.ensures ∙ c.if-is_binary.true)

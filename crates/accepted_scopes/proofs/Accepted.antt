@@ -7,7 +7,7 @@ use Rattle.words.specs.Declarations.{is_declaration, declaration_count}
 use Rattle.words.specs.Layout.{layout_of, store_size}
 use Rattle.words.specs.StoreLaws.{source-header-store}
 use Rattle.words.specs.declared.Form.TheVariants.{Source}
-use Rattle.computation.proofs.Agreement.{Words, ◌within◌}
+use Rattle.computation.specs.Agreement.{Words, ◌within◌}
 use Rattle.computation.specs.Run.{Limit, final, ending_of}
 use Rattle.language.specs.Decode.{decode}
 use Rattle.language_renaming.proofs.RenamingLaws.{itself}

@@ -8,7 +8,7 @@ use Rattle.words.specs.Declarations.{is_declaration}
 use Rattle.words.specs.Layout.{Layout, store_size}
 use Rattle.words.specs.Links.{link}
 use Rattle.words.specs.declared.Form.TheVariants.{Source}
-use Rattle.computation.proofs.Agreement.{Words, ◌within◌}
+use Rattle.computation.specs.Agreement.{Words, ◌within◌}
 use Rattle.language.specs.Trees.{none}
 use Rattle.language.specs.Decode.{list_at, parameter_list_at}
 use Rattle.language.specs.Functions.{Function, function_of, function_count}

@@ -8,7 +8,7 @@ use Rattle.std.proofs.Math.ListN.{get_or-append}
 use Rattle.words.specs.Declarations.{declaration_count}
 use Rattle.words.specs.Laws.{array-in-store}
 use Rattle.words.specs.Layout.{Layout, store_size}
-use Rattle.computation.proofs.Agreement.{Words}
+use Rattle.computation.specs.Agreement.{Words}
 use Rattle.computation.specs.Run.{State, start, Result, Limit, run, final, ending_of}
 use Rattle.language.specs.Decode.{block_items, decode}
 use Rattle.language.specs.Meaning.{Signal, exec}

@@ -18,7 +18,7 @@ use Rattle.words.specs.declared.StatementKind.TheVariants.{Declare}
 use Rattle.words.specs.declared.MemberKind.{MemberKind}
 use Rattle.words.specs.declared.MemberKind.TheVariants.{Argument}
 use Rattle.words.specs.Laws.{by_cases}
-use Rattle.computation.proofs.Agreement.{Words, ◌within◌}
+use Rattle.computation.specs.Agreement.{Words, ◌within◌}
 use Rattle.language.specs.Trees.{Items}
 use Rattle.language.specs.Decode.{expression_at, statement_at, decode, list_at, arm_list_at, part_at}
 use Rattle.language.specs.Program.{contents}

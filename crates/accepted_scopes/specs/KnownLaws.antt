@@ -7,7 +7,7 @@ use Rattle.std.proofs.Math.Decide.{ℕ_discrete}
 use Rattle.words.specs.Table.{row_count, number_at}
 use Rattle.words.specs.Declarations.{is_declaration}
 use Rattle.words.specs.Links.{link}
-use Rattle.computation.proofs.Agreement.{◌within◌}
+use Rattle.computation.specs.Agreement.{◌within◌}
 use Rattle.check_structure.specs.Structured.{Leads, Tree}
 use Rattle.names.specs.Names.{is_name, word_of, meant_at, resolved}
 use Rattle.names.specs.Scope.{InScopeOf, next-item, along}

@@ -11,7 +11,7 @@ use Rattle.words.specs.declared.Verdict.{Verdict}
 use Rattle.words.specs.Links.{fits, is_expression, is_place, is_statement, is_block, is_arm, link, target, linker, received, note_by, note}
 use Rattle.words.specs.Kinds.{sort_of, sort_at, in_language, is_link, is_required, kinds, kind_in, kind_of, sort_in, kind_row, expression_fields, statement_fields, mark_fields, member_fields}
 use Rattle.words.specs.Search.{lowest, some, lowest_row, some_field}
-use Rattle.words_roles.specs.Roles.{links_parameter, is_parameter_by, is_parameter, role_sort}
+use Rattle.words_roles.specs.Roles.{links_parameter, is_parameter_by, is_parameter, role_sort, is_definition}
 use Rattle.check_fields.specs.Fields.{foreign, leads_right, mislinked, bounds_of, number_fits, outside}
 use Rattle.check_structure.specs.Links.{lone_block, not_once}
 use Rattle.check_structure.specs.Refusal.{at, unless, ◌next◌}
@@ -22,13 +22,13 @@ use Rattle.check_notes.specs.RowNotes.{handed, note_at}
 use Rattle.check_places.specs.Places.{out_of_place, misplaced}
 use Rattle.check_declaration_causes.specs.Causes.{outside_block, names_number, named_within, named_from, names_itself, same_number, declared_before, one_too_many, declaration_refusal, declared_twice}
 use Rattle.check_function_causes.specs.Functions.{is_call, is_return, around_of, function_around}
-use Rattle.words_roles.specs.Roles.{links_parameter, is_parameter_by, is_parameter, role_sort, is_definition}
 use Rattle.check_function_causes.specs.Causes.{returns_outside, out_of_order, wrong_call, function_refusal}
 use Rattle.check_parameter_causes.specs.Parameters.{body_of, body_at, some_of_list, declared_as_parameter}
 use Rattle.check_source.specs.Refusal.{wrongly_placed}
 use Rattle.language.specs.Program.{Finished, run_table}
 use Rattle.language.specs.Rule.{Rule}
-use Rattle.language.proofs.RulesHold.{runs, expected, rules-hold}
+use Rattle.language.specs.RulesHold.{runs, expected}
+use Rattle.language.proofs.RulesHold.{rules-hold}
 use Rattle.language_programs.specs.Program.{resolved_rows, run_program}
 use Rattle.check_brief.specs.Brief.{targets, times, brief_causes, brief_structure, brief_depth, brief_source}
 use Rattle.check_brief.specs.BriefLaws.{same_source, map_same}

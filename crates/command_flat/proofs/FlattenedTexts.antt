@@ -20,7 +20,7 @@ use Rattle.text_form.specs.Text.{table_bytes}
 use Rattle.text_report.specs.Lines.{refused_line}
 use Rattle.check_plain.specs.Refusal.{plain_refusal}
 use Rattle.check_plain.specs.Accepts.{accepted-plain}
-use Rattle.flat_fate.proofs.FlatWords.{flattened}
+use Rattle.flat_fate.specs.FlatWords.{flattened}
 use Rattle.flat_text.specs.Text.{flat_bytes}
 use Rattle.flattener.specs.declared.FlattenAnswer.{FlattenAnswer}
 use Rattle.flattener.specs.declared.FlattenAnswer.TheVariants.{Flattened, Refused as FlattenRefused}

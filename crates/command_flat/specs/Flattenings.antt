@@ -5,7 +5,7 @@ use Rattle.words.specs.declared.Verdict.{Verdict}
 use Rattle.words.specs.declared.Verdict.TheVariants.{Accepted, Refused}
 use Rattle.text_report.specs.Lines.{refused_line}
 use Rattle.check_plain.specs.Refusal.{plain_refusal}
-use Rattle.flat_fate.proofs.FlatWords.{flattened}
+use Rattle.flat_fate.specs.FlatWords.{flattened}
 use Rattle.flat_text.specs.Text.{flat_bytes}
 
 -- Words of a list that is printed: those of 24,576 lines.

@@ -10,7 +10,7 @@ use Rattle.words.specs.declared.Form.TheVariants.{Kernel}
 use Rattle.words.specs.declared.Refusal.{Refusal}
 use Rattle.words.specs.declared.Verdict.{Verdict}
 use Rattle.words.specs.declared.Verdict.TheVariants.{Accepted, Refused}
-use Rattle.text_form.proofs.AnswerLaws.{Passes}
+use Rattle.text_form.specs.Passing.{Passes}
 use Rattle.text_report.specs.Lines.{refused_line}
 use Rattle.check_source.specs.Refusal.{refusal as source_refusal}
 use Rattle.translation_fate.specs.KernelForms.{kernel_header_of, kernel_rows_of, HasKernelForm}

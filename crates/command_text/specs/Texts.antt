@@ -5,7 +5,7 @@ use Rattle.words.specs.Layout.{leading, row_limit}
 use Rattle.words.specs.declared.Form.{Form}
 use Rattle.text_form.specs.Text.{Parsed, parsed, malformed, Program, parse}
 use Rattle.text_form.specs.Answers.{cause_of}
-use Rattle.text_form.proofs.AnswerLaws.{Passes}
+use Rattle.text_form.specs.Passing.{Passes}
 use Rattle.text_report.specs.Lines.{refused_line}
 
 -- ---- limits

@@ -3,9 +3,9 @@
 pub mod RunLaws
 -- Laws of the writes that a run makes.
 pub mod WritesMadeLaws
--- Runs with no limit on steps.
-pub mod Unlimited
--- The same runs, told by the steps that are left: what a machine carries.
-pub mod Remaining
--- Agreement: two states that agree on a set of words, and computations that do not tell them apart.
-pub mod Agreement
+-- Laws of runs with no limit on steps.
+pub mod UnlimitedLaws
+-- Laws of runs told by the steps that are left.
+pub mod RemainingLaws
+-- Laws of agreement: a rule for each constructor of computations.
+pub mod AgreementLaws

@@ -7,3 +7,9 @@ pub mod Computation
 pub mod Run
 -- The writes that a run makes.
 pub mod WritesMade
+-- The same runs, told by the steps that are left: what a machine carries.
+pub mod Remaining
+-- Runs with no limit on steps.
+pub mod Unlimited
+-- Agreement: two states that agree on a set of store words.
+pub mod Agreement

@@ -12,7 +12,7 @@ use Rattle.words.specs.declared.Verdict.TheVariants.{Accepted, Refused}
 use Rattle.check_plain.specs.Refusal.{plain_refusal}
 use Rattle.check_plain.specs.Accepts.{refused-plain}
 use Rattle.program_runs.specs.Runs.{refusal_of}
-use Rattle.flat_fate.proofs.FlatWords.{flattened}
+use Rattle.flat_fate.specs.FlatWords.{flattened}
 use Rattle.flattener.specs.Flattening.{FlattenResult, answer_and_list, flatten_after, flatten_result, WritesList}
 use Rattle.flattener.specs.declared.FlattenAnswer.{FlattenAnswer}
 use Rattle.flattener.specs.declared.FlattenAnswer.TheVariants.{Flattened, Refused as FlattenRefused}

@@ -30,20 +30,9 @@ use Rattle.flat.specs.Refusal.{shape, shape_of, constant_fits, known_operation, 
 use Rattle.flat.specs.Legal.{WithinOperand, Within, LegalLine, LegalFlat}
 use Rattle.flat.specs.declared.Holds.TheVariants.{Atom, Variable}
 use Rattle.flat.specs.declared.LineShape.{LineShape}
+use Rattle.flat.specs.LineKinds.{LineKind, aborts, copies, fetches, jumps, jumps_at_zero, jumps_otherwise, negates, operates, puts}
 
 -- ---- the kinds of lines
-
--- The numbers of the table, one by one.
-pub data LineKind : ℕ → Type 0 where
-  copies : LineKind 1
-  fetches : LineKind 3
-  negates : LineKind 4
-  operates : {k : ℕ} (o : Operator) → k ≡ 6 + operator_number o → LineKind k
-  puts : LineKind 21
-  jumps_at_zero : LineKind 43
-  jumps_otherwise : LineKind 44
-  jumps : LineKind 52
-  aborts : LineKind 57
 
 operator-shape : (k : ℕ) → 6 ≤ k → k ≤ 16 → shape_of k ≡ shape Variable Atom Atom false
 unfolding shape_of

@@ -11,3 +11,5 @@ pub mod Refusal
 pub mod Legal
 -- Results: the run of a list, and what a flat run answers.
 pub mod Results
+-- Line kinds: the numbers of the table, one by one.
+pub mod LineKinds

@@ -27,9 +27,10 @@ use Rattle.flat.specs.Lines.{Operand, FlatLine, jump}
 use Rattle.flat.specs.Words.{line_parts, five_words, line_count}
 use Rattle.flat.specs.Legal.{NamesVariable, NamesArray, WithinOperand, WithinOperation, Within, LegalLine, LegalFlat}
 use Rattle.flat_fate.specs.Code.{operand_of, operation_of, always, if_lines, while_lines, statement_lines, items_lines, if_code, while_code, statement_code, items_code}
-use Rattle.flat_fate.proofs.CodeStands.{first_at, second_at, body_at}
-use Rattle.flat_fate.proofs.Addresses.{statement_address, items_address, address_in, flat_of, flat-size}
-use Rattle.flat_fate.proofs.FlatWords.{words_from}
+use Rattle.flat_fate.specs.Branches.{first_at, second_at, body_at}
+use Rattle.flat_fate.specs.Addresses.{statement_address, items_address, address_in, flat_of}
+use Rattle.flat_fate.proofs.AddressLaws.{flat-size}
+use Rattle.flat_fate.specs.FlatWords.{words_from}
 use Rattle.flat_fate.proofs.FlatWordsLaws.{words-length, five-written}
 
 -- ---- addresses lie in the list

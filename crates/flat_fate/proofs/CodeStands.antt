@@ -10,6 +10,7 @@ use Rattle.translation.specs.KernelForm.{IsAtom, constant-atom, variable_atom, A
 use Rattle.flat.specs.Lines.{Operand, FlatLine, jump, jump_zero}
 use Rattle.flat_fate.specs.Stands.{Means, means_number, means_word, Acts, acts_copy, acts_minus, acts_operate, acts_fetch, acts_put, At, Stands, stands-empty, stands-assign, stands-block, stands-neither, stands-yes, stands-no, stands-both, stands-while, stands-endless, stands-goto, stands-abort, StandsItems, stands-none, stands-then, stands-label}
 use Rattle.flat_fate.specs.Code.{operand_of, operation_of, always, if_lines, while_lines, statement_lines, items_lines, if_code, while_code, statement_code, items_code}
+use Rattle.flat_fate.specs.Branches.{body_at, first_at, second_at}
 
 means-atom : {e : Expression} → IsAtom e → Means e (operand_of e)
 means-atom constant-atom = means_number
@@ -25,21 +26,6 @@ acts-form arity (assigns_operation a b) c = acts_operate (means-atom a) (means-a
 acts-form arity (assigns_element a) c = acts_fetch (means-atom a)
 acts-form arity (assigns_call a) c = absurd (omega (arith, c.1.0))
 acts-form arity (assigns_to_element a b) c = acts_put (means-atom a) (means-atom b)
-
--- Where the branches of an if from line i on stand: one without a line stands behind the other.
-abbrev pub first_at : ℕ → ℕ → ℕ → ℕ
-first_at zero q i = i + if_lines zero q
-first_at (suc p) q i = i + 1
-
-abbrev pub second_at : ℕ → ℕ → ℕ → ℕ
-second_at zero zero i = i + if_lines zero zero
-second_at (suc p) zero i = i + if_lines (suc p) zero
-second_at zero (suc q) i = i + 1
-second_at (suc p) (suc q) i = i + (2 + suc p)
-
-abbrev pub body_at : Bool → ℕ → ℕ
-body_at true i = i
-body_at false i = i + 1
 
 module _ (L : Layout) (lines : List FlatLine) (address : ℕ → ℕ) where
   -- The list has the code xs from line i on.

@@ -24,8 +24,9 @@ use Rattle.flat.proofs.WordsLaws.{written-line}
 use Rattle.flat.specs.Results.{run_list}
 use Rattle.flat_fate.specs.Code.{items_lines}
 use Rattle.flat_fate.specs.FlatFate.{FlatFate}
-use Rattle.flat_fate.proofs.Addresses.{address_in, flat_of, flat-size, flat-stands, flat-shares-fate}
-use Rattle.flat_fate.proofs.FlatWords.{words_from, flattened, kernel_run, flat_run, KernelEnds, FlatEnds, SharedFate}
+use Rattle.flat_fate.specs.Addresses.{address_in, flat_of}
+use Rattle.flat_fate.proofs.AddressLaws.{flat-size, flat-stands, flat-shares-fate}
+use Rattle.flat_fate.specs.FlatWords.{words_from, flattened, kernel_run, flat_run, KernelEnds, FlatEnds, SharedFate}
 
 -- ---- words and lines
 

@@ -6,8 +6,8 @@ use Rattle.words.specs.Layout.{Layout}
 use Rattle.words.specs.declared.Ending.TheVariants.{Plain, Spent, Fault}
 use Rattle.computation.specs.Run.{State, start, stepped, spent, fault, Result, ok, stopped, Limit, steps, rounds, run, final, ending_of, Settled}
 use Rattle.computation.proofs.RunLaws.{budget-rounds, rounds-budget}
-use Rattle.computation.proofs.Unlimited.{Ends}
-use Rattle.language.specs.Trees.{block, Items}
+use Rattle.computation.specs.Unlimited.{Ends}
+use Rattle.language.specs.Trees.{block, Items, none}
 use Rattle.language.specs.Functions.{plain}
 use Rattle.language.specs.Meaning.{Signal, next, perform, exec}
 use Rattle.language.specs.Program.{Finished}
@@ -17,7 +17,6 @@ use Rattle.accepted_kernel.specs.Jumps.{program-lands}
 use Rattle.flat.specs.Lines.{FlatLine, Next, goes, faults, ends, next_at, stop, follow, run_from}
 use Rattle.flat_fate.specs.Stands.{StandsItems}
 use Rattle.flat_fate.specs.Follows.{Reaches, stay, on, moves-on, moves-to, Follows, follows-ok, follows-fault, follows-spent, items-follows}
-use Rattle.language.specs.Trees.{none}
 
 module _ (L : Layout) (lines : List FlatLine) (address : ℕ → ℕ) where
   -- ---- what the flat run makes of lines that it reaches

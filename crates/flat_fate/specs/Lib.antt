@@ -5,6 +5,12 @@
 pub mod Code
 -- Stands: that the lines of a statement stand in a list.
 pub mod Stands
+-- Branches: the line at which the parts of an if and the body of a while begin.
+pub mod Branches
+-- Addresses: the line of each label, and the flat list of a tree.
+pub mod Addresses
+-- Flat words: the list as a table of words, and what it is for two programs to share their fate.
+pub mod FlatWords
 -- ---- laws
 -- Follows: the flat run goes where the kernel's goes.
 pub mod Follows

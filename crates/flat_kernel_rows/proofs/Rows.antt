@@ -1,12 +1,12 @@
 -- Rows of a plain kernel program, a legal one without functions: the statement at a row, by the number of its kind, with its links; and the list from a row on.
-use Rattle.std.specs.Prelude.{◌≡◌, Bool, true, false, ◌&&◌, ◌||◌, List, ◌⊎◌, ℕ, zero, suc, ◌<◌, ◌≤◌, ltb, eqb, ℤ}
+use Rattle.std.specs.Prelude.{◌≡◌, Bool, true, false, ◌&&◌, ◌||◌, List, ◌⊎◌, ℕ, ◌<◌, ◌≤◌, ltb, eqb, ℤ}
 use Rattle.std.proofs.Math.Path.{refl, ap}
 use Rattle.std.proofs.Common.{sym, ◌∙◌, arith}
 use Rattle.std.proofs.Math.Bool.{not, true≢false}
 use Rattle.std.proofs.Math.Logic.{inl, inr, ⊎_elim}
 use borrow.Author.Tests.{ltb-false, le-ltb, eqb-true, eq-eqb, ne_eqb, not-true}
 use Rattle.words.specs.Table.{row_count, number_at, Whole}
-use Rattle.words.specs.Kinds.{kinds, kind_in, kind_of, kind_at, expression, optional_expression, place, branch, optional_branch, optional_item, body_block, optional_arm, optional_argument, optional_parameter, absent_link, expression_row, place_row, statement_row, arm_row, argument_row, between, sort_at, sort_of, is_link, is_required, sort_in, kind_row, expression_fields, statement_fields, mark_fields, definition_fields, member_fields, stands_in, is_statement_kind, is_function_number}
+use Rattle.words.specs.Kinds.{kinds, kind_in, kind_of, kind_at, expression, optional_expression, place, branch, optional_branch, optional_item, body_block, optional_arm, optional_argument, optional_parameter, absent_link, expression_row, place_row, statement_row, arm_row, argument_row, between, sort_at, sort_of, is_link, is_required, sort_in, kind_row, expression_fields, statement_fields, mark_fields, definition_fields, member_fields, stands_in, is_function_number}
 use Rattle.words.specs.KindLaws.{every_line, every-number, definition-number}
 use Rattle.words.specs.SearchLaws.{from_on}
 use Rattle.words.specs.Word.{pick}
@@ -14,10 +14,8 @@ use Rattle.words.specs.Laws.{both, either, by_cases}
 use Rattle.words.specs.Links.{is_expression, is_place, is_statement, is_arm, is_argument, link, fits}
 use Rattle.words.specs.declared.Form.TheVariants.{Kernel}
 use Rattle.words.specs.declared.Kind.{Kind}
-use Rattle.words.specs.declared.Kind.TheVariants.{OfExpression, OfStatement, OfMark, OfMember, Other}
-use Rattle.words.specs.declared.StatementKind.TheVariants.{Empty, Express, Block, If, While, Goto, Abort}
-use Rattle.words.specs.declared.MarkKind.TheVariants.{Case, Default, Label}
-use Rattle.words.specs.declared.MemberKind.TheVariants.{Arm}
+use Rattle.words.specs.declared.Kind.TheVariants.{OfStatement, Other}
+use Rattle.words.specs.declared.StatementKind.TheVariants.{If}
 use Rattle.language.specs.Trees.{empty, express, block, if_else, while, goto, abort, label, none, ◌then◌, ◌here◌}
 use Rattle.language.specs.Decode.{expression_at, statement_of, statement_at, items_at, list_at}
 use Rattle.language.specs.DecodeLaws.{statement-at, at-empty, at-express, at_block, at-if_else, at-while, at-goto, at-abort, at_item, at_label}
@@ -29,7 +27,7 @@ use Rattle.check_plain.specs.Plain.{Plain}
 use Rattle.check_plain.specs.PlainLaws.{no-parameter, plain-fitting, plain-undeclared, plain-number}
 use Rattle.check_kernel_statements.specs.Statements.{is_atom, is_assignment, is_block, is_kernel_if, is_kernel_while, is_kernel_expression, is_kernel_return, is_kernel_parameter, is_of_function, is_kernel_statement}
 use Rattle.accepted.specs.Sorts.{statement_number, between-true, number_is, sort-is, statement-kind, in-language, row-sort, arm_is}
-use Rattle.accepted.proofs.Fields.{holds, Linked, MayLink, linked, may-link, item-link}
+use Rattle.accepted.proofs.Fields.{holds, MayLink, linked, may-link, item-link}
 use Rattle.accepted.proofs.Expressions.{whole-rows}
 use Rattle.accepted.proofs.Statements.{list-some}
 use Rattle.flat_kernel_rows.specs.StatementLinks.{StatementLink, next-item, first-item, true_branch, false_branch, loop_body}
@@ -191,11 +189,6 @@ module _ (rows : List ℤ) (row : ℕ) where
       (λ h. from_on (λ (k : ℕ). (k ≡ optional_parameter → ⊥) → SortOf k) sort optional_parameter h (λ d f t. absurd (d refl))
       (λ h d. from_on SortOf sort absent_link h (λ f t. absurd (true≢false (sym f)))
       (λ h. absurd (omega arith))) apart)))))))))
-
--- A table of rows that is plain with some header.
-pub record KernelTable (rows : List ℤ) : Type 0 where
-  pub header : List ℤ
-  pub plain : Plain header rows
 
 module _ (header rows : List ℤ) (plain : Plain header rows) where
   abbrev bounds : Bounds

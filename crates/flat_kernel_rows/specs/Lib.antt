@@ -2,3 +2,5 @@
 
 -- Statement links: the fields of a kernel row that link a statement.
 pub mod StatementLinks
+-- Kernel tables: the rows of a plain kernel program.
+pub mod KernelTable

@@ -2,10 +2,10 @@
 use Rattle.std.specs.Prelude.{◌≡◌, List, ℕ, ◌+◌, ◌*◌, ◌≤◌, ◌<◌, ℤ, length}
 use Rattle.words.specs.Table.{row_count}
 use Rattle.language.specs.Program.{contents}
-use Rattle.flat_kernel_rows.proofs.Rows.{KernelTable}
-use Rattle.flat_fate.proofs.Addresses.{flat_of}
+use Rattle.flat_kernel_rows.specs.KernelTable.{KernelTable}
+use Rattle.flat_fate.specs.Addresses.{flat_of}
 use Rattle.flat_rows.specs.Places.{line_of, own_lines, Each}
-use Rattle.flat_rows.proofs.Written.{Holds}
+use Rattle.flat_rows.specs.LinesPut.{Holds}
 use Rattle.flat_sizes.specs.Tables.{Sized, LinesPlaced, Labelled}
 
 -- A legal kernel table with its sizes, lines and labels.

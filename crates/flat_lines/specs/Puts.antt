@@ -3,7 +3,7 @@ use Rattle.std.specs.Prelude.{◌≡◌, refl, Bool, true, false, List, [], ◌�
 use Rattle.flat.specs.Lines.{Operand, FlatLine, jump, jump_zero, jump_other}
 use Rattle.flat.specs.Words.{parts, unused, line_parts, distance}
 use Rattle.flat_rows.specs.Places.{if_own, while_own}
-use Rattle.flat_rows.proofs.Written.{put_line, put_all}
+use Rattle.flat_rows.specs.LinesPut.{put_line, put_all}
 
 pub puts_none : (out : List ℤ) → out ≡ put_all [] out
 unfolding put_all

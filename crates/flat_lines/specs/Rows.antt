@@ -11,14 +11,15 @@ use Rattle.check_structure.specs.Lists.{before_inside}
 use Rattle.check_kernel_statements.specs.Statements.{is_atom, is_assignment}
 use Rattle.check_labels.specs.Ahead.{Ahead, behind, outward}
 use Rattle.check_kernel.specs.Accepts.{structured-labels}
-use Rattle.flat_kernel_rows.proofs.Rows.{KernelTable, assign-of, if-of, while-of, number-statement, label-statement}
+use Rattle.flat_kernel_rows.specs.KernelTable.{KernelTable}
+use Rattle.flat_kernel_rows.proofs.Rows.{assign-of, if-of, while-of, number-statement, label-statement}
 use Rattle.flat.specs.Lines.{jump, abort}
 use Rattle.flat.specs.Words.{parts, unused, operation_parts, distance}
 use Rattle.flat_fate.specs.Code.{operand_of, operation_of, always, if_lines, while_lines, statement_lines}
-use Rattle.flat_fate.proofs.Addresses.{address_in, flat_of}
+use Rattle.flat_fate.specs.Addresses.{address_in, flat_of}
 use Rattle.flat_rows.specs.Places.{list_lines, line_of, if_own, while_own, own_lines}
 use Rattle.flat_rows.proofs.Standing.{row_within, list-few, label-address}
-use Rattle.flat_rows.proofs.Written.{put_line, put_all}
+use Rattle.flat_rows.specs.LinesPut.{put_line, put_all}
 use Rattle.flat_sizes.specs.Tables.{slot, Sized, LinesPlaced, Labelled}
 use Rattle.flat_sizes.specs.Sizes.{one_size, true-answer, false-answer, body-answer, true-room, false-room, body-room, sized-later, size-split, if-size, while-size, line-few}
 use Rattle.flat_sizes.specs.Places.{placed-here}

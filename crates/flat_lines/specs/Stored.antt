@@ -7,7 +7,7 @@ use Rattle.std.proofs.Math.Facts.{to_z_pos}
 use Rattle.flat.specs.Lines.{Operand}
 use Rattle.flat.specs.Words.{Parts, parts, unused, sort_of, word_of, five_words, distance}
 use Rattle.flat_rows.specs.Operations.{test-five, plain-five}
-use Rattle.flat_rows.proofs.Written.{put_line}
+use Rattle.flat_rows.specs.LinesPut.{put_line}
 
 -- Five words stored are a line put.
 pub put_as : (out after : List ℤ) (line : ℕ) (ws : List ℤ) (p : Parts) → after ≡ sets out (5 * line) ws → ws ≡ five_words p → after ≡ put_line line p out

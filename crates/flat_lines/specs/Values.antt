@@ -4,11 +4,11 @@ use Rattle.std.proofs.Common.{sym, ap, ◌∙◌, arith}
 use Rattle.words.specs.Table.{row_count, number_at}
 use Rattle.language.specs.Decode.{expression_at}
 use Rattle.check_kernel_statements.specs.Statements.{is_atom, fits_variable, is_assignment}
-use Rattle.flat_kernel_rows.proofs.Rows.{KernelTable}
+use Rattle.flat_kernel_rows.specs.KernelTable.{KernelTable}
 use Rattle.flat.specs.Words.{operation_parts}
 use Rattle.flat_fate.specs.Code.{assigned, operation_of}
 use Rattle.flat_rows.specs.Operations.{ValueAt, atom-value, minus_value, operation-value, element-value, value-at, variable-few, array-few, assign-parts, assign-five, assign-fits, element-place-at}
-use Rattle.flat_rows.proofs.Written.{put_line}
+use Rattle.flat_rows.specs.LinesPut.{put_line}
 use Rattle.flat_lines.specs.Lent.{Assigning}
 
 module _ {rows : List ℤ} (table : KernelTable rows) (v : ℕ) (e : fits_variable rows v ≡ true) where

@@ -5,13 +5,13 @@ use Rattle.std.proofs.Math.Decide.{ℕ_discrete}
 use Rattle.std.proofs.Math.Arith.{lt_of_le-ne}
 use Rattle.words.specs.Table.{row_count}
 use Rattle.language.specs.Program.{contents}
-use Rattle.flat_kernel_rows.proofs.Rows.{KernelTable}
-use Rattle.flat_fate.proofs.Addresses.{flat_of}
-use Rattle.flat_fate.proofs.FlatWords.{flattened}
+use Rattle.flat_kernel_rows.specs.KernelTable.{KernelTable}
+use Rattle.flat_fate.specs.Addresses.{flat_of}
+use Rattle.flat_fate.specs.FlatWords.{flattened}
 use Rattle.flat_rows.specs.Places.{own_lines, Each}
 use Rattle.flat_rows.proofs.Standing.{own-there}
-use Rattle.flat_rows.proofs.Lies.{There}
-use Rattle.flat_rows.proofs.Written.{Holds, put_all, puts-length, puts-hold, each-kept}
+use Rattle.flat_rows.specs.LinesPut.{There, Holds, put_all}
+use Rattle.flat_rows.proofs.Written.{puts-length, puts-hold, each-kept}
 use Rattle.flat_rows.proofs.Filled.{filled-whole}
 use Rattle.flat_lines.specs.Lent.{Exact, Wrote}
 

@@ -4,10 +4,10 @@ ghost use Rattle.std.proofs.lemmas.List.Edits.{sets};
 ghost use Rattle.words.specs.Table.{row_count};
 ghost use Rattle.language.specs.Decode.{expression_at};
 ghost use Rattle.check_kernel_statements.specs.Statements.{is_atom};
-ghost use Rattle.flat_kernel_rows.proofs.Rows.{KernelTable};
+ghost use Rattle.flat_kernel_rows.specs.KernelTable.{KernelTable};
 ghost use Rattle.flat.specs.Words.{parts, unused, sort_of, distance as distance_of};
 ghost use Rattle.flat_fate.specs.Code.{operand_of};
-ghost use Rattle.flat_rows.proofs.Written.{put_line};
+ghost use Rattle.flat_rows.specs.LinesPut.{put_line};
 
 use words::table::{number_at, word_at};
 

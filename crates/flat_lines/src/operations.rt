@@ -3,10 +3,10 @@ ghost use Rattle.std.specs.Prelude.{◌≡◌, true, ◌+◌, ◌*◌, ◌≤◌
 ghost use Rattle.words.specs.Table.{row_count, number_at};
 ghost use Rattle.language.specs.Decode.{expression_at};
 ghost use Rattle.check_kernel_statements.specs.Statements.{is_atom, fits_variable, is_assignment};
-ghost use Rattle.flat_kernel_rows.proofs.Rows.{KernelTable};
+ghost use Rattle.flat_kernel_rows.specs.KernelTable.{KernelTable};
 ghost use Rattle.flat.specs.Words.{operation_parts};
 ghost use Rattle.flat_fate.specs.Code.{assigned, operation_of};
-ghost use Rattle.flat_rows.proofs.Written.{put_line};
+ghost use Rattle.flat_rows.specs.LinesPut.{put_line};
 ghost use Rattle.flat_lines.specs.Lent.{Assigning};
 
 use super::lines::{atom_sort, put_line};

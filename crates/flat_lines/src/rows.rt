@@ -1,9 +1,9 @@
 // The lines of a row, by its kind, and of all rows.
 ghost use Rattle.std.specs.Prelude.{◌≡◌, ◌+◌, ◌<◌};
 ghost use Rattle.words.specs.Table.{row_count, number_at};
-ghost use Rattle.flat_fate.proofs.FlatWords.{flattened};
+ghost use Rattle.flat_fate.specs.FlatWords.{flattened};
 ghost use Rattle.flat_rows.specs.Places.{own_lines};
-ghost use Rattle.flat_rows.proofs.Written.{put_all};
+ghost use Rattle.flat_rows.specs.LinesPut.{put_all};
 ghost use Rattle.flat_sizes.specs.Tables.{Sized, Labelled};
 ghost use Rattle.flat_lines.specs.Lent.{Tables, Exact, Standing, Wrote};
 

@@ -3,10 +3,10 @@ ghost use Rattle.std.specs.Prelude.{◌≡◌, true, ◌+◌, ◌*◌, ◌≤◌
 ghost use Rattle.words.specs.Table.{row_count};
 ghost use Rattle.language.specs.Decode.{expression_at};
 ghost use Rattle.check_kernel_statements.specs.Statements.{is_atom};
-ghost use Rattle.flat_kernel_rows.proofs.Rows.{KernelTable};
+ghost use Rattle.flat_kernel_rows.specs.KernelTable.{KernelTable};
 ghost use Rattle.flat_fate.specs.Code.{operand_of, always, if_lines, while_lines};
 ghost use Rattle.flat_rows.specs.Places.{if_own, while_own};
-ghost use Rattle.flat_rows.proofs.Written.{put_all};
+ghost use Rattle.flat_rows.specs.LinesPut.{put_all};
 
 use super::lines::{put_jump, put_test};
 use flat_sizes::sizes::is_always;

@@ -21,7 +21,8 @@ use Rattle.flat.specs.Words.{line_parts, line_count, field_at, operation_at, kin
 use Rattle.flat.proofs.WordsLaws.{is_number, kind-small, kind-back, left_back, operation-small, operation-back, written-line}
 use Rattle.flat.specs.Refusal.{lands_inside}
 use Rattle.flat.specs.Legal.{Within, LegalFlat}
-use Rattle.flat.proofs.Accepts.{LineKind, copies, fetches, negates, operates, puts, jumps_at_zero, jumps_otherwise, jumps, aborts, lands-distance}
+use Rattle.flat.specs.LineKinds.{LineKind, copies, fetches, negates, operates, puts, jumps_at_zero, jumps_otherwise, jumps, aborts}
+use Rattle.flat.proofs.Accepts.{lands-distance}
 use Rattle.flat.specs.Results.{run_list}
 use Rattle.flat_steps.specs.Steps.{Setting}
 use Rattle.flat_machine.specs.Whole.{Startable}

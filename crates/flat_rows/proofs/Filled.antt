@@ -24,13 +24,14 @@ use Rattle.flat_kernel_rows.proofs.Tree.{root-items}
 use Rattle.flat.specs.Lines.{Operand, FlatLine}
 use Rattle.flat.specs.Words.{line_parts, Written}
 use Rattle.flat_fate.specs.Code.{always, if_lines, while_lines, statement_lines, items_lines}
-use Rattle.flat_fate.proofs.CodeStands.{first_at, second_at, body_at}
-use Rattle.flat_fate.proofs.Addresses.{flat_of, flat-size}
-use Rattle.flat_fate.proofs.FlatWords.{words_from, flattened}
+use Rattle.flat_fate.specs.Branches.{first_at, second_at, body_at}
+use Rattle.flat_fate.specs.Addresses.{flat_of}
+use Rattle.flat_fate.proofs.AddressLaws.{flat-size}
+use Rattle.flat_fate.specs.FlatWords.{words_from, flattened}
 use Rattle.flat_rows.specs.Places.{list_lines, test_of, handed, line_of, if_own, while_own, own_lines, Each}
-use Rattle.flat_rows.proofs.Lies.{nothing, There}
+use Rattle.flat_rows.specs.LinesPut.{nothing, There, Holds}
 use Rattle.flat_rows.proofs.Standing.{list, line-root, line-link, branch-lines, own-there}
-use Rattle.flat_rows.proofs.Written.{Holds, written-whole}
+use Rattle.flat_rows.proofs.Written.{written-whole}
 
 module _ (lines : List FlatLine) (out : List ℤ) where
   -- Every line from i to j is written.

@@ -1,24 +1,17 @@
 -- Lies: lines that lie in a list from a line on; the parts of an if and of a while, and their own lines.
 use Rattle.std.specs.Prelude.{◌≡◌, refl, Bool, true, false, List, [], ◌∷◌, ◌++◌, ℕ, zero, suc, ◌+◌, ◌≤◌, ◌<◌, length, get_or}
-use Rattle.std.proofs.Common.{sym, ap, subst, ◌∙◌, arith, length-append, get_or-append-add}
+use Rattle.std.proofs.Common.{ap, subst, ◌∙◌, arith, length-append, get_or-append-add}
 use Rattle.std.proofs.Math.ListN.{get_or-append}
-use Rattle.flat.specs.Lines.{Operand, FlatLine, jump, jump_zero, jump_other}
-use Rattle.flat_fate.specs.Code.{if_lines, while_lines, if_code, while_code}
-use Rattle.flat_fate.proofs.CodeStands.{first_at, second_at, body_at}
+use Rattle.flat.specs.Lines.{Operand, FlatLine}
+use Rattle.flat_fate.specs.Code.{if_lines, if_code, while_code}
+use Rattle.flat_fate.specs.Branches.{first_at, second_at, body_at}
 use Rattle.flat_rows.specs.Places.{if_own, while_own, Each}
-
--- Beyond a list there is no line; the one that stands for it is never asked for.
-abbrev pub nothing : FlatLine
-nothing = jump 0
+use Rattle.flat_rows.specs.LinesPut.{There, nothing}
 
 -- The lines xs lie in a list from line i on.
 pub record Lies (lines : List FlatLine) (i : ℕ) (xs : List FlatLine) : Type 0 where
   pub within : i + length xs ≤ length lines
   pub same : (k : ℕ) → k < length xs → get_or lines (i + k) nothing ≡ get_or xs k nothing
-
--- A line stands in a list.
-abbrev pub There : List FlatLine → ℕ → FlatLine → Type 0
-There lines i x = (i < length lines) × (get_or lines i nothing ≡ x)
 
 module _ (lines : List FlatLine) where
   pub lies_whole : Lies lines 0 lines

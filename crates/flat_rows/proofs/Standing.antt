@@ -31,11 +31,14 @@ use Rattle.flat_kernel_rows.proofs.Labels.{plain-once}
 use Rattle.flat_kernel_rows.proofs.Tree.{root-items}
 use Rattle.flat.specs.Lines.{FlatLine}
 use Rattle.flat_fate.specs.Code.{operand_of, operation_of, always, if_lines, statement_lines, items_lines, statement_code, items_code}
-use Rattle.flat_fate.proofs.CodeStands.{first_at, second_at, body_at, Addressed, AddressedItems, statement-length, items-length}
-use Rattle.flat_fate.proofs.Addresses.{address_in, flat_of, flat-size, items-addressed}
+use Rattle.flat_fate.specs.Branches.{first_at, second_at, body_at}
+use Rattle.flat_fate.proofs.CodeStands.{Addressed, AddressedItems, statement-length, items-length}
+use Rattle.flat_fate.specs.Addresses.{address_in, flat_of}
+use Rattle.flat_fate.proofs.AddressLaws.{flat-size, items-addressed}
 use Rattle.flat_fate.proofs.LineCount.{lines-below-rows}
 use Rattle.flat_rows.specs.Places.{list_lines, test_of, handed, line_of, own_lines, Each}
-use Rattle.flat_rows.proofs.Lies.{nothing, Lies, There, lies_whole, lies-first, lies-second, lies-head, lies-cast, if-first, if-second, if-own, while-body, while-own}
+use Rattle.flat_rows.specs.LinesPut.{nothing, There}
+use Rattle.flat_rows.proofs.Lies.{Lies, lies_whole, lies-first, lies-second, lies-head, lies-cast, if-first, if-second, if-own, while-body, while-own}
 
 module _ (header rows : List ℤ) (plain : Plain header rows) where
   abbrev L : Layout

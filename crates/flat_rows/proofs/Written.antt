@@ -10,10 +10,10 @@ use Rattle.std.proofs.Math.Seq.{length-sets}
 use Rattle.words.specs.SearchLaws.{from_on}
 use Rattle.flat.specs.Lines.{FlatLine}
 use Rattle.flat.specs.Words.{Parts, line_parts, five_words, field_at, Written}
-use Rattle.flat_fate.proofs.FlatWords.{words_from}
+use Rattle.flat_fate.specs.FlatWords.{words_from}
 use Rattle.flat_fate.proofs.FlatWordsLaws.{words-length, five-written}
 use Rattle.flat_rows.specs.Places.{Each}
-use Rattle.flat_rows.proofs.Lies.{nothing, There}
+use Rattle.flat_rows.specs.LinesPut.{nothing, There, Holds, put_all, put_line}
 
 -- ---- the words of lines, line by line
 
@@ -57,10 +57,6 @@ written-whole out xs e w = ext_get_or (pos 0) out (words_from 0 xs) (omega (arit
         rw there at fields
 
 -- ---- a line put into a list
-
--- "Words beyond the result stay": five words stored at a line.
-unfoldable pub put_line : ℕ → Parts → List ℤ → List ℤ
-put_line line p out = sets out (5 * line) (five_words p)
 
 pub put-length : (line : ℕ) (p : Parts) (out : List ℤ) → length (put_line line p out) ≡ length out
 unfolding put_line
@@ -122,15 +118,6 @@ put_other line p out other q d w =
     }
 
 -- ---- lines of a list put into a table of words
-
--- A line is written.
-abbrev pub Holds : List ℤ → ℕ → FlatLine → Type 0
-Holds out i x = Written out i (line_parts i x)
-
--- Lines with their places, put one after the other.
-unfoldable pub put_all : List (ℕ × FlatLine) → List ℤ → List ℤ
-put_all [] out = out
-put_all (x ∷ xs) out = put_all xs (put_line x.0 (line_parts x.0 x.1) out)
 
 pub puts-length : (xs : List (ℕ × FlatLine)) (out : List ℤ) → length (put_all xs out) ≡ length out
 unfolding put_all

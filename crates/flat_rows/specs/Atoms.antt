@@ -14,7 +14,7 @@ use Rattle.check_fields.specs.Fields.{bounds_of}
 use Rattle.check_kernel_statements.specs.Statements.{is_atom}
 use Rattle.accepted.specs.Sorts.{between-true}
 use Rattle.accepted.proofs.Expressions.{whole-rows}
-use Rattle.flat_kernel_rows.proofs.Rows.{KernelTable}
+use Rattle.flat_kernel_rows.specs.KernelTable.{KernelTable}
 use Rattle.flat.specs.Lines.{number, word}
 use Rattle.flat_fate.specs.Code.{operand_of}
 

@@ -3,6 +3,8 @@
 -- ---- definitions
 -- Places: how many lines a list has, the line at which each row stands, and the lines that are a row's own.
 pub mod Places
+-- Lines put: lines of a list stored in a table of words.
+pub mod LinesPut
 -- ---- laws
 -- Atoms: the operand that an atom's row holds.
 pub mod Atoms

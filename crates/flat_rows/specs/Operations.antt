@@ -35,7 +35,7 @@ use Rattle.check_plain.specs.PlainLaws.{plain-number}
 use Rattle.accepted.specs.Sorts.{between-true}
 use Rattle.accepted.proofs.Fields.{holds, Linked, linked, names-variable, names-array}
 use Rattle.accepted.proofs.Expressions.{whole-rows}
-use Rattle.flat_kernel_rows.proofs.Rows.{KernelTable}
+use Rattle.flat_kernel_rows.specs.KernelTable.{KernelTable}
 use Rattle.translation.specs.KernelForm.{IsAtom, constant-atom, variable_atom}
 use Rattle.accepted_kernel.specs.Assignments.{atom-at}
 use Rattle.flat.specs.Lines.{Operand, copy, minus as negate, operate, fetch, put}

@@ -8,8 +8,8 @@ use Rattle.language.specs.Decode.{expression_at, statement_at, list_at}
 use Rattle.language.specs.Program.{contents}
 use Rattle.flat.specs.Lines.{Operand, FlatLine, does, jump, jump_zero, jump_other, abort}
 use Rattle.flat_fate.specs.Code.{operand_of, operation_of, always, statement_lines, items_lines}
-use Rattle.flat_fate.proofs.CodeStands.{first_at, second_at, body_at}
-use Rattle.flat_fate.proofs.Addresses.{address_in}
+use Rattle.flat_fate.specs.Branches.{first_at, second_at, body_at}
+use Rattle.flat_fate.specs.Addresses.{address_in}
 
 -- The lines of the list that begins at a row; 0 is no list.
 unfoldable pub list_lines : List ℤ → ℕ → ℕ

@@ -2,7 +2,7 @@
 use Rattle.std.specs.Prelude.{◌≡◌, refl, Bool, true, false, ℕ, zero, suc, ◌+◌}
 use Rattle.std.proofs.Common.{sym, ◌∙◌, arith}
 use Rattle.flat_fate.specs.Code.{if_lines, while_lines}
-use Rattle.flat_fate.proofs.CodeStands.{first_at, second_at, body_at}
+use Rattle.flat_fate.specs.Branches.{first_at, second_at, body_at}
 
 pub lines-neither : (y z : ℕ) → y ≡ 0 → z ≡ 0 → 0 ≡ if_lines y z
 lines-neither y z p q = rw (p, q)

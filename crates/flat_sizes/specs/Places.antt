@@ -19,10 +19,11 @@ use Rattle.check_structure.specs.LinkLaws.{owner_of}
 use Rattle.check_structure.specs.NoteLaws.{above_zero}
 use Rattle.check_kernel.specs.Accepts.{structured-labels}
 use Rattle.flat_kernel_rows.specs.StatementLinks.{StatementLink, next-item, first-item, true_branch, false_branch, loop_body}
-use Rattle.flat_kernel_rows.proofs.Rows.{KernelTable, Lone, Listed, BlockRow, statement-link, next-at, block_at, if-of, while-of, linking-statement, statement-number, may_link, none-linked}
+use Rattle.flat_kernel_rows.specs.KernelTable.{KernelTable}
+use Rattle.flat_kernel_rows.proofs.Rows.{Lone, Listed, BlockRow, statement-link, next-at, block_at, if-of, while-of, linking-statement, statement-number, may_link, none-linked}
 use Rattle.flat_fate.specs.Code.{operand_of, always, statement_lines}
-use Rattle.flat_fate.proofs.CodeStands.{first_at, second_at, body_at}
-use Rattle.flat_fate.proofs.Addresses.{address_in}
+use Rattle.flat_fate.specs.Branches.{first_at, second_at, body_at}
+use Rattle.flat_fate.specs.Addresses.{address_in}
 use Rattle.flat_rows.specs.Places.{list_lines, test_of, handed, line_of}
 use Rattle.flat_rows.proofs.Standing.{line-root, line-link, label-address}
 use Rattle.flat_sizes.specs.Tables.{slot, Sized, Right, Handed, LinesPlaced, Keeps, PartsPlaced, NextPlaced, Labelled, stored}

@@ -10,7 +10,8 @@ use Rattle.words.specs.Links.{is_statement}
 use Rattle.language.specs.Decode.{expression_at, statement_at, items_at, list_at}
 use Rattle.check_kernel_statements.specs.Statements.{is_atom}
 use Rattle.accepted.proofs.Statements.{list-some}
-use Rattle.flat_kernel_rows.proofs.Rows.{KernelTable, Lone, Listed, KernelRow, empty-row, assign-row, block-row, if-row, while-row, goto-row, label-row, abort-row, next-at, block_at, if-of, while-of, kernel-row, label-list, statement-list, statement-number}
+use Rattle.flat_kernel_rows.specs.KernelTable.{KernelTable}
+use Rattle.flat_kernel_rows.proofs.Rows.{Lone, Listed, KernelRow, empty-row, assign-row, block-row, if-row, while-row, goto-row, label-row, abort-row, next-at, block_at, if-of, while-of, kernel-row, label-list, statement-list, statement-number}
 use Rattle.flat_fate.specs.Code.{operand_of, always, if_lines, while_lines, statement_lines, items_lines}
 use Rattle.flat_rows.specs.Places.{list_lines, test_of, line_of}
 use Rattle.arithmetic.specs.Arithmetic.{is_true}

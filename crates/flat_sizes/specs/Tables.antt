@@ -7,7 +7,7 @@ use Rattle.language.specs.Decode.{items_at}
 use Rattle.language.specs.Program.{contents}
 use Rattle.check_structure.specs.Structured.{Leads}
 use Rattle.flat_fate.specs.Code.{items_lines}
-use Rattle.flat_fate.proofs.Addresses.{address_in}
+use Rattle.flat_fate.specs.Addresses.{address_in}
 use Rattle.flat_rows.specs.Places.{line_of}
 
 -- The number at a link; 0 is no link.

@@ -2,8 +2,8 @@
 ghost use Rattle.std.specs.Prelude.{◌≡◌, true, ◌+◌, ◌≤◌, ◌<◌, length, get_or};
 ghost use Rattle.words.specs.Table.{row_count, number_at};
 ghost use Rattle.words.specs.Links.{is_statement};
-ghost use Rattle.flat_kernel_rows.proofs.Rows.{KernelTable};
-ghost use Rattle.flat_fate.proofs.CodeStands.{first_at, second_at, body_at};
+ghost use Rattle.flat_kernel_rows.specs.KernelTable.{KernelTable};
+ghost use Rattle.flat_fate.specs.Branches.{first_at, second_at, body_at};
 ghost use Rattle.flat_rows.specs.Places.{line_of};
 ghost use Rattle.flat_sizes.specs.Tables.{stored, Sized, LinesPlaced, PartsPlaced, NextPlaced, Labelled};
 

@@ -4,7 +4,7 @@ ghost use Rattle.words.specs.Table.{row_count, number_at};
 ghost use Rattle.words.specs.Links.{is_statement};
 ghost use Rattle.language.specs.Decode.{expression_at, statement_at};
 ghost use Rattle.check_kernel_statements.specs.Statements.{is_atom};
-ghost use Rattle.flat_kernel_rows.proofs.Rows.{KernelTable};
+ghost use Rattle.flat_kernel_rows.specs.KernelTable.{KernelTable};
 ghost use Rattle.flat_fate.specs.Code.{operand_of, always, if_lines, while_lines, statement_lines};
 ghost use Rattle.flat_sizes.specs.Tables.{slot, Sized};
 

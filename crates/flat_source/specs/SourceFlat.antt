@@ -14,7 +14,7 @@ use Rattle.translation_fate.specs.KernelForms.{kernel_header_of, kernel_rows_of}
 use Rattle.check_plain.specs.Refusal.{plain_refusal}
 use Rattle.flat.specs.Refusal.{refusal as flat_refusal}
 use Rattle.flat.specs.Results.{run_list}
-use Rattle.flat_fate.proofs.FlatWords.{flattened}
+use Rattle.flat_fate.specs.FlatWords.{flattened}
 
 -- A source program and a flat list, started on the same variables and arrays; each on declared words of its own, the list with these
 -- temporaries.

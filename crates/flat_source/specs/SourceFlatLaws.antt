@@ -40,9 +40,9 @@ use Rattle.translation_fate.specs.KernelForms.{kernel_header_of, kernel_rows_of,
 use Rattle.translation_fate.proofs.HasKernelForm.{has-kernel-form}
 use Rattle.flat.specs.Refusal.{refusal as flat_refusal}
 use Rattle.flat.proofs.Accepts.{legal_accepted as flat-accepts}
-use Rattle.flat_fate.proofs.Addresses.{flat_of}
+use Rattle.flat_fate.specs.Addresses.{flat_of}
 use Rattle.flat_fate.proofs.CodeLegal.{flattened-legal}
-use Rattle.flat_fate.proofs.FlatWords.{words_from, flattened, SharedFate as KernelFlatFate}
+use Rattle.flat_fate.specs.FlatWords.{words_from, flattened, SharedFate as KernelFlatFate}
 use Rattle.flat_fate.proofs.FlatWordsLaws.{shares_fate}
 use Rattle.flat_source.specs.SourceFlat.{SourceEnds, FlatEnds, SharedFate, WithoutFunctions, HasFlatForm, FunctionsRefused}
 use Rattle.flat_source.specs.SourceFunctions.{none-without, some_with, first-definition}

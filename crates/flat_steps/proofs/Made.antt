@@ -28,7 +28,8 @@ use Rattle.machine_operations.proofs.Bounds.{Lies, lies_in}
 use Rattle.flat.specs.Lines.{operate, fetch, does, value_of, stored, onward, next_of}
 use Rattle.flat.specs.Words.{target_of, Parts, parts, line_of, line_count, field_at, operation_at, kind_of, left_constant, right_constant, operand_of, parts_at, line_at}
 use Rattle.flat.specs.Legal.{NamesVariable, NamesArray, WithinOperand, Within}
-use Rattle.flat.proofs.Accepts.{LineKind, copies, fetches, negates, operates, puts, jumps_at_zero, jumps_otherwise, jumps, aborts, Small, variable-below, array-below}
+use Rattle.flat.specs.LineKinds.{LineKind, copies, fetches, negates, operates, puts, jumps_at_zero, jumps_otherwise, jumps, aborts}
+use Rattle.flat.proofs.Accepts.{Small, variable-below, array-below}
 use Rattle.flat.proofs.WordsLaws.{operator-few}
 use Rattle.language_emission.specs.Emission.{operator_number}
 use Rattle.flat_steps.specs.Steps.{Makes, ReadyOperand, ReadyJump, ReadyLine, OfKind}

@@ -9,7 +9,7 @@ use Rattle.flat.specs.Lines.{Next, goes, faults, ends}
 use Rattle.flat.specs.Words.{line_count, field_at, operation_at, kind_of, left_constant, line_at}
 use Rattle.flat.specs.Refusal.{lands_inside}
 use Rattle.flat.specs.Legal.{Within}
-use Rattle.flat.proofs.Accepts.{LineKind}
+use Rattle.flat.specs.LineKinds.{LineKind}
 use Rattle.flat_steps.specs.declared.Step.{Step}
 use Rattle.flat_steps.specs.declared.Step.TheVariants.{At, Fails}
 

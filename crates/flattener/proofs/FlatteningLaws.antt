@@ -23,13 +23,14 @@ use Rattle.check_plain.specs.Plain.{Plain}
 use Rattle.check_plain.specs.Accepts.{accepted-plain}
 use Rattle.accepted.proofs.Statements.{root-inside, root-statement}
 use Rattle.accepted_kernel.proofs.Kernel.{plain-functionless, plain-program}
-use Rattle.flat_kernel_rows.proofs.Rows.{KernelTable}
+use Rattle.flat_kernel_rows.specs.KernelTable.{KernelTable}
 use Rattle.flat_kernel_rows.proofs.Labels.{plain-once}
 use Rattle.flat_kernel_rows.proofs.Tree.{plain-tree, root-items}
 use Rattle.flat.proofs.Accepts.{legal_accepted as flat-accepts}
 use Rattle.flat_fate.specs.Code.{statement_lines, items_lines}
-use Rattle.flat_fate.proofs.Addresses.{flat_of, flat-size}
-use Rattle.flat_fate.proofs.FlatWords.{words_from, flattened}
+use Rattle.flat_fate.specs.Addresses.{flat_of}
+use Rattle.flat_fate.proofs.AddressLaws.{flat-size}
+use Rattle.flat_fate.specs.FlatWords.{words_from, flattened}
 use Rattle.flat_fate.proofs.FlatWordsLaws.{flattened-size, shares_fate}
 use Rattle.flat_fate.proofs.CodeLegal.{flattened-legal}
 use Rattle.flat_rows.proofs.Standing.{list-few}

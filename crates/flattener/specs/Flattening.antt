@@ -9,7 +9,7 @@ use Rattle.language.specs.Program.{contents}
 use Rattle.check_plain.specs.Refusal.{plain_refusal}
 use Rattle.flat.specs.Refusal.{refusal as flat_refusal}
 use Rattle.flat_fate.specs.Code.{items_lines}
-use Rattle.flat_fate.proofs.FlatWords.{flattened, SharedFate}
+use Rattle.flat_fate.specs.FlatWords.{flattened, SharedFate}
 use Rattle.flattener.specs.declared.FlattenAnswer.{FlattenAnswer}
 use Rattle.flattener.specs.declared.FlattenAnswer.TheVariants.{Flattened, Refused as FlattenRefused}
 

@@ -2,8 +2,8 @@
 #![tactic(auto)]
 
 ghost use Rattle.std.specs.Prelude.{◌≡◌};
-ghost use Rattle.flat_kernel_rows.proofs.Rows.{KernelTable};
-ghost use Rattle.flat_fate.proofs.FlatWords.{flattened};
+ghost use Rattle.flat_kernel_rows.specs.KernelTable.{KernelTable};
+ghost use Rattle.flat_fate.specs.FlatWords.{flattened};
 ghost use Rattle.flat_sizes.specs.Tables.{Sized};
 ghost use Rattle.flat_lines.specs.Lent.{Exact};
 ghost use Rattle.flattener.specs.Flattening.{answer_and_list, written, flatten_result, WritesList};

@@ -1,6 +1,6 @@
 -- Laws of the front of a program: its definitions, the item behind them, and the words of a table that a join writes anew, as they link definitions and
 -- that item. Every other word links a row of a definition from such a row, and another row from another.
-use Rattle.std.specs.Prelude.{◌≡◌, Bool, true, false, ◌&&◌, ◌||◌, List, ℤ}
+use Rattle.std.specs.Prelude.{◌≡◌, true, false, ◌&&◌, ◌||◌, List, ℤ}
 use Rattle.std.proofs.Math.Path.{refl}
 use Rattle.std.proofs.Common.{sym, ◌∙◌, true≢false}
 use Rattle.std.proofs.Math.Logic.{⊎_elim}
@@ -17,10 +17,7 @@ use Rattle.check_function_causes.specs.Functions.{is_definition}
 use Rattle.check_function_causes.specs.Demands.{InFront, foremost, behind}
 use Rattle.check_function_causes.proofs.FrontLaws.{front-later, front-inside}
 use Rattle.join.specs.Join.{functions_from, item_from, functions_of, first_item}
-
--- Words that a join writes anew: the first item and the next of row 0, and the next of a definition.
-unfoldable pub at_seam : List ℤ → ℕ → ℕ → Bool
-at_seam rows row field = (eqb row 0 && (eqb field 1 || eqb field 5)) || (is_definition rows row && eqb field 5)
+use Rattle.join.specs.Moved.{at_seam}
 
 -- ---- words at the seam, and others
 

@@ -6,7 +6,7 @@ use Rattle.words.specs.declared.Ending.{Ending}
 use Rattle.words.specs.declared.Ending.TheVariants.{Plain, Spent, Fault}
 use Rattle.computation.specs.Computation.{Computation}
 use Rattle.computation.specs.Run.{Result, ok, stopped, spent, fault, Settled, start, steps, run}
-use Rattle.computation.proofs.Unlimited.{enough-same, count-is-enough}
+use Rattle.computation.proofs.UnlimitedLaws.{enough-same, count-is-enough}
 use Rattle.language.specs.Meaning.{Signal}
 use Rattle.language.specs.Program.{Finished, finished}
 use Rattle.join.specs.Followed.{raised, followed}

@@ -13,8 +13,9 @@ use Rattle.check_function_causes.specs.Demands.{InFront, foremost, behind}
 use Rattle.check_function_causes.proofs.FrontLaws.{front-defines, front-inside}
 use Rattle.join.specs.Join.{first_item, functions_of, joined_rows}
 use Rattle.join.proofs.Fronts.{functions-none, functions-last, Front, empty, ending}
-use Rattle.join.proofs.Kept.{InOrder, Ordered, root-other, definition-of, definition-some, end_of_front, first_inside}
-use Rattle.join.proofs.Moved.{Holds, moved-some, moved_back, definition-held}
+use Rattle.join.specs.Moved.{InOrder, Holds}
+use Rattle.join.proofs.Kept.{Ordered, root-other, definition-of, definition-some, end_of_front, first_inside}
+use Rattle.join.proofs.MovedLaws.{moved-some, moved_back, definition-held}
 use Rattle.join.proofs.Placements.{place-grows, definition-least, other-least, front-definition, front-behind}
 use Rattle.join.proofs.JoinedRows.{of_first, of_second, first_place, second_place, first-definitions, second-definitions, first-others, second-others}
 use Rattle.join.proofs.JoinedSeams.{ordered-first, ordered-second, stands-first, stands-second, holds-first, holds-second, some-place, second-place, outer-first, root-of-first, root-of-second, block-seam, items-of-first, items-of-second, next-of-first, next-of-second, behind-first, behind-second}

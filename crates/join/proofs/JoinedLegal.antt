@@ -24,12 +24,12 @@ use Rattle.check_function_causes.specs.Demands.{InFront, DefinedInOrder, CalledR
 use Rattle.check_function_causes.proofs.FrontLaws.{block-undefined, block-no-return}
 use Rattle.check_source.specs.Legal.{PlacedRow, Distinct, Legal}
 use Rattle.join.specs.Join.{joined_rows}
-use Rattle.join.proofs.Kept.{InOrder}
+use Rattle.join.specs.Moved.{InOrder, AroundMoved}
 use Rattle.join.proofs.MovedLegal.{distinct-held}
 use Rattle.join.proofs.MovedPlaces.{placed-held}
 use Rattle.join.proofs.MovedDeclarations.{not-own-held, not-twice-held}
 use Rattle.join.proofs.MovedNotes.{front-note, first-top, second-top}
-use Rattle.join.proofs.MovedFunctions.{AroundMoved, around-hands, around-moved, in-order-held, called-held}
+use Rattle.join.proofs.MovedFunctions.{around-hands, around-moved, in-order-held, called-held}
 use Rattle.join.proofs.MovedParameters.{not-parameter-held}
 use Rattle.join.proofs.JoinedRows.{of_first, of_second, first_place, second_place, first-functions, second-functions}
 use Rattle.join.proofs.JoinedSeams.{holds-first, holds-second, every-row, some-place, second-place, outer-block}

@@ -19,9 +19,10 @@ use Rattle.check_function_causes.specs.Functions.{is_definition}
 use Rattle.check_function_causes.specs.Demands.{InFront, foremost, behind}
 use Rattle.check_function_causes.proofs.FrontLaws.{front-defines, front-inside}
 use Rattle.join.specs.Join.{first_item, joined_rows}
-use Rattle.join.proofs.Fronts.{at_seam, Seam, first-of-root, next-of-root, next-of-definition, seam-is, Front, empty, ending}
-use Rattle.join.proofs.Kept.{InOrder, Ordered, definition-some, end_of_front, seam-links, first_inside}
-use Rattle.join.proofs.Moved.{moved_link, Holds, Earlier, moved-some, moved_back, link-leads, link-back}
+use Rattle.join.specs.Moved.{at_seam, InOrder, moved_link, Holds}
+use Rattle.join.proofs.Fronts.{Seam, first-of-root, next-of-root, next-of-definition, seam-is, Front, empty, ending}
+use Rattle.join.proofs.Kept.{Ordered, definition-some, end_of_front, seam-links, first_inside}
+use Rattle.join.proofs.MovedLaws.{Earlier, moved-some, moved_back, link-leads, link-back}
 use Rattle.join.proofs.Placements.{place-apart, front-definition, front-behind}
 use Rattle.join.proofs.JoinedRows.{of_first, of_second, first_place, second_place, first-stands, second-stands, programs-apart}
 use Rattle.join.proofs.JoinedSeams.{ordered-first, ordered-second, whole_first, whole_second, count, holds-first, holds-second, every-row, outer-first, outer-rest, block-seam, no-seam, items-of-first, items-of-second, next-of-first, next-of-second, behind-first, behind-second}

@@ -16,8 +16,8 @@ use Rattle.check_fields.specs.declared.Bounds.{Bounds}
 use Rattle.check_structure.specs.Structured.{Structured}
 use Rattle.check_function_causes.specs.Functions.{is_definition}
 use Rattle.join.specs.Join.{front_of, joined_rows}
-use Rattle.join.proofs.Kept.{InOrder}
-use Rattle.join.proofs.Moved.{HoldsRenamed, link-is, definition-held}
+use Rattle.join.specs.Moved.{InOrder, HoldsRenamed}
+use Rattle.join.proofs.MovedLaws.{link-is, definition-held}
 use Rattle.join.proofs.MovedFronts.{block-kind, list-some, head-items, block-items}
 use Rattle.join.proofs.Placements.{block-next, block-first, definition-next}
 use Rattle.join.proofs.JoinedRows.{of_first, first_place, second_place}

@@ -4,7 +4,8 @@ use Rattle.std.proofs.Math.Path.{refl, ap}
 use Rattle.std.proofs.Common.{sym, ◌∙◌, arith}
 use Rattle.computation.specs.Run.{start, spent, fault, Result, ok, stopped, steps, run, final}
 use Rattle.computation.proofs.RunLaws.{count-never-passes}
-use Rattle.computation.proofs.Remaining.{Rest, gives, halts, onward, spend, told, spend-is-run}
+use Rattle.computation.specs.Remaining.{Rest, gives, halts, onward, spend}
+use Rattle.computation.proofs.RemainingLaws.{told, spend-is-run}
 use Rattle.words.specs.declared.Ending.TheVariants.{Plain, Spent, Fault}
 use Rattle.language.specs.Trees.{Statement, block, Items, none, ◌then◌, ◌here◌, define}
 use Rattle.language.specs.Meaning.{enter, Context, Signal, next, perform, items, exec}

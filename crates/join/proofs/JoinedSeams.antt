@@ -15,8 +15,9 @@ use Rattle.check_fields.specs.declared.Bounds.{Bounds}
 use Rattle.check_function_causes.specs.Functions.{is_definition}
 use Rattle.check_function_causes.specs.Demands.{behind}
 use Rattle.join.specs.Join.{before, first_item, front_of, outer_block, joined_rows}
-use Rattle.join.proofs.Kept.{InOrder, Ordered, ordered, root-other}
-use Rattle.join.proofs.Moved.{moved_link, Holds, link-is, number-held}
+use Rattle.join.specs.Moved.{InOrder, moved_link, Holds}
+use Rattle.join.proofs.Kept.{Ordered, ordered, root-other}
+use Rattle.join.proofs.MovedLaws.{link-is, number-held}
 use Rattle.join.proofs.Placements.{block-next, block-first, definition-next, place_other, placed-definition, placed-after, place-some, placed-number, holds, Stands}
 use Rattle.join.proofs.JoinedRows.{of_first, of_second, first_place, second_place, first-behind, second-behind, first-after, second-after, count-joined, outer-number, first-stands, second-stands, every-row as every-place}
 

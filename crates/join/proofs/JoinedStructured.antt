@@ -17,9 +17,10 @@ use Rattle.words_roles.specs.Roles.{role_sort}
 use Rattle.check_declaration_causes.proofs.DeclarationLaws.{block-undeclared}
 use Rattle.check_function_causes.specs.Functions.{is_definition}
 use Rattle.join.specs.Join.{first_item, front_of, joined_rows}
-use Rattle.join.proofs.Fronts.{at_seam, Seam, first-of-root, next-of-root, next-of-definition, seam-is}
-use Rattle.join.proofs.Kept.{InOrder, ordered, definition-some, first-linked, first_inside, first-undefined}
-use Rattle.join.proofs.Moved.{Holds, moved-some, moved_back, sort-held, definition-held, declaration-held}
+use Rattle.join.specs.Moved.{at_seam, InOrder, Holds}
+use Rattle.join.proofs.Fronts.{Seam, first-of-root, next-of-root, next-of-definition, seam-is}
+use Rattle.join.proofs.Kept.{ordered, definition-some, first-linked, first_inside, first-undefined}
+use Rattle.join.proofs.MovedLaws.{moved-some, moved_back, sort-held, definition-held, declaration-held}
 use Rattle.join.proofs.MovedLegal.{link-named, known-held, unused-held, present-held, forward-held, fits-held, fitting-held, named-held}
 use Rattle.join.proofs.MovedRoles.{plain-sort, seam-undeclared}
 use Rattle.join.proofs.Placements.{block-next, block-first, definition-next, front-definition, front-behind}

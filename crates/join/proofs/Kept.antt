@@ -22,7 +22,8 @@ use Rattle.check_function_causes.specs.Functions.{is_definition, around_of, func
 use Rattle.check_function_causes.specs.Demands.{InFront, foremost, behind, DefinedInOrder}
 use Rattle.check_function_causes.proofs.FrontLaws.{block-undefined, front-defines, front-inside, definition-leads}
 use Rattle.join.specs.Join.{is_of_definition, first_item}
-use Rattle.join.proofs.Fronts.{at_seam, Seam, first-of-root, next-of-root, next-of-definition, seam-is, seam-first, seam-definition, kept_next, item-last, item-none, Front, empty, ending}
+use Rattle.join.specs.Moved.{at_seam, InOrder}
+use Rattle.join.proofs.Fronts.{Seam, first-of-root, next-of-root, next-of-definition, seam-is, seam-first, seam-definition, kept_next, item-last, item-none, Front, empty, ending}
 
 -- in a tree of rows one word links a row
 pub one_word : (rows : List ℤ) → Tree rows → (row field other place : ℕ) → field < 6 → place < 6 → Leads rows row field → Leads rows other place → link rows row field ≡ link rows other place
@@ -41,10 +42,6 @@ pub record Ordered (rows : List ℤ) : Type 0 where
   pub root : is_definition rows 0 ≡ false
   pub lone : link rows 0 5 ≡ 0
   pub in_order : {row : ℕ} → row < row_count rows → DefinedInOrder rows row
-
--- Definitions come first, in order: what 23 asks.
-abbrev pub InOrder : List ℤ → Type 0
-InOrder rows = (row : ℕ) → row < row_count rows → DefinedInOrder rows row
 
 pub ordered : {form : Form} {bounds : Bounds} {rows : List ℤ} → Structured form bounds rows → InOrder rows → Ordered rows
 ordered {form} {bounds} {rows} s i = record { tree = structured-tree form bounds rows s; root = block-undefined rows 0 s.block; lone = zero-links-none rows 0 5 s.lone; in_order = λ {row} n. i row n }

@@ -4,8 +4,8 @@ pub mod Counting
 -- Fronts: the definitions at the front of a program, and the words at the seam of a join. Kept: the words that a join keeps.
 pub mod Fronts
 pub mod Kept
--- Moved: a table that holds another one's rows at other places.
-pub mod Moved
+-- Laws of moved rows.
+pub mod MovedLaws
 -- MovedKinds, MovedTrees: the trees at the new place of a row are those at its old one, with words and functions renamed; by the row's kind, and of a table.
 pub mod MovedKinds
 pub mod MovedTrees

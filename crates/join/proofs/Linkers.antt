@@ -17,7 +17,8 @@ use Rattle.check_function_causes.specs.Functions.{is_definition, function_at}
 use Rattle.check_function_causes.specs.Demands.{InFront, foremost, behind}
 use Rattle.check_function_causes.proofs.FrontLaws.{front-function}
 use Rattle.join.specs.Join.{first_item}
-use Rattle.join.proofs.Fronts.{at_seam, functions-last, Front, empty, ending}
+use Rattle.join.specs.Moved.{at_seam}
+use Rattle.join.proofs.Fronts.{functions-last, Front, empty, ending}
 use Rattle.join.proofs.Kept.{one_word, Ordered, kept-undefined, definition-some, first-linked, first-undefined}
 
 abbrev word_of : Found → ℕ

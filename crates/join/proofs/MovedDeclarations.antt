@@ -20,9 +20,10 @@ use Rattle.words.specs.Declarations.{declaration_kind, is_declaration}
 use Rattle.check_declaration_causes.specs.Demands.{InInitial, whole, below, NotOwn, NotTwice}
 use Rattle.check_declaration_causes.proofs.DeclarationLaws.{block-undeclared}
 use Rattle.check_function_causes.specs.Functions.{is_definition}
-use Rattle.join.proofs.Fronts.{at_seam, kept-part, kept_row}
-use Rattle.join.proofs.Kept.{InOrder, Ordered, ordered, kept-undefined}
-use Rattle.join.proofs.Moved.{Holds, Earlier, number-held, declaration-held, link-leads, link-back}
+use Rattle.join.specs.Moved.{at_seam, InOrder, Holds}
+use Rattle.join.proofs.Fronts.{kept-part, kept_row}
+use Rattle.join.proofs.Kept.{Ordered, ordered, kept-undefined}
+use Rattle.join.proofs.MovedLaws.{Earlier, number-held, declaration-held, link-leads, link-back}
 use Rattle.join.proofs.MovedLegal.{before_back}
 
 -- no row is linked by its kind

@@ -31,8 +31,9 @@ use Rattle.check_function_causes.specs.Demands.{InFront, foremost, behind}
 use Rattle.check_function_causes.proofs.FrontLaws.{front-defines, front-inside, definition-leads}
 use Rattle.join.specs.Join.{functions_from, item_from, functions_of, first_item}
 use Rattle.join.proofs.Fronts.{kept-part, item-none, item-last}
-use Rattle.join.proofs.Kept.{InOrder, Ordered, ordered, definition-some, first_inside, first-undefined}
-use Rattle.join.proofs.Moved.{moved_link, HoldsRenamed, link-is}
+use Rattle.join.specs.Moved.{InOrder, moved_link, HoldsRenamed}
+use Rattle.join.proofs.Kept.{Ordered, ordered, definition-some, first_inside, first-undefined}
+use Rattle.join.proofs.MovedLaws.{link-is}
 use Rattle.join.proofs.MovedKinds.{block-moved}
 use Rattle.join.proofs.MovedTrees.{moved-trees, moved-function}
 use Rattle.join.proofs.MovedFunctions.{definition-numbers}

@@ -21,8 +21,9 @@ use Rattle.check_function_causes.specs.Demands.{InFront, Within, Listed, ended, 
 use Rattle.check_function_causes.proofs.FrontLaws.{front-inside, front-defines}
 use Rattle.check_function_causes.proofs.AroundLaws.{around-most, around-within, within-defines, within-is}
 use Rattle.join.proofs.Fronts.{kept-part, kept_row}
-use Rattle.join.proofs.Kept.{InOrder, Ordered, ordered, definition-some, kept-undefined}
-use Rattle.join.proofs.Moved.{moved_link, numbers_function, Holds, moved-some, number-held, definition-held, link-held}
+use Rattle.join.specs.Moved.{InOrder, moved_link, numbers_function, Holds, AroundMoved}
+use Rattle.join.proofs.Kept.{Ordered, ordered, definition-some, kept-undefined}
+use Rattle.join.proofs.MovedLaws.{moved-some, number-held, definition-held, link-held}
 use Rattle.join.proofs.MovedNotes.{Hands, HandsMoved, moved-note}
 
 -- field a of a definition and of a call is a function's number
@@ -37,10 +38,6 @@ call-numbers rows row c = rw (eqb-true (number_at rows row 0) 31 c)
 call-undefined : (rows : List ℤ) (row : ℕ) → is_call rows row ≡ true → is_definition rows row ≡ false
 unfolding is_call is_definition
 call-undefined rows row c = rw (eqb-true (number_at rows row 0) 31 c)
-
--- A row stands in the same function at its new place.
-abbrev pub AroundMoved : List ℤ → List ℤ → (ℕ → ℕ) → Type 0
-AroundMoved joined rows ρ = (row : ℕ) → row < row_count rows → function_around joined (ρ row) ≡ moved_link ρ (function_around rows row)
 
 -- what stands in a function is noted along the links
 pub around-hands : (rows : List ℤ) → Hands rows (around_of rows)

@@ -15,7 +15,7 @@ use Rattle.words.specs.declared.MemberKind.TheVariants.{Arm, Argument}
 use Rattle.language.specs.Trees.{Expression, constant, read, minus, not as negation, binary, and, or, comma, conditional, assign, compound, prefix, postfix, call, Arguments, Statement, empty, express, block, if_then, if_else, while, do_while, for, switch, break, continue, goto, guarded_if, guarded_do, abort, declare, give_back, Arms, Items}
 use Rattle.language.specs.Decode.{place_of, expression_of, arguments_of, part_of, if_of, block_items, statement_of, items_of, arms_of}
 use Rattle.language_renaming.specs.Renaming.{renamed, renamed_place, renamed_arguments, renamed_part, renamed_statement, renamed_arms, renamed_items}
-use Rattle.join.proofs.Moved.{numbers_function, names_word}
+use Rattle.join.specs.Moved.{numbers_function, names_word}
 
 -- ---- a row by its kind: words v and w of the fields, trees f and g at the links
 

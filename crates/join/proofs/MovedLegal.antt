@@ -21,9 +21,10 @@ use Rattle.check_structure.specs.Lists.{Before, adjacent, further, before-later}
 use Rattle.check_fields.specs.declared.Bounds.{Bounds}
 use Rattle.check_source.specs.Legal.{Distinct}
 use Rattle.check_function_causes.specs.Functions.{is_definition}
-use Rattle.join.proofs.Fronts.{at_seam, kept-part, kept_next}
-use Rattle.join.proofs.Kept.{InOrder, Ordered, ordered, kept-undefined}
-use Rattle.join.proofs.Moved.{numbers_function, Holds, Earlier, number-held, sort-held, link-leads, leads-held, link-back, holds-itself}
+use Rattle.join.specs.Moved.{at_seam, InOrder, numbers_function, Holds}
+use Rattle.join.proofs.Fronts.{kept-part, kept_next}
+use Rattle.join.proofs.Kept.{Ordered, ordered, kept-undefined}
+use Rattle.join.proofs.MovedLaws.{Earlier, number-held, sort-held, link-leads, leads-held, link-back, holds-itself}
 use Rattle.join.proofs.MovedRoles.{role-sort}
 use Rattle.join.proofs.MovedTrees.{next-alike}
 

@@ -14,9 +14,10 @@ use Rattle.check_function_causes.specs.Functions.{is_definition}
 use Rattle.check_function_causes.specs.Demands.{InFront, foremost, behind}
 use Rattle.check_function_causes.proofs.FrontLaws.{front-defines, front-inside}
 use Rattle.join.specs.Join.{first_item, joined_rows}
-use Rattle.join.proofs.Fronts.{at_seam, item-none, item-last, Front, empty, ending}
-use Rattle.join.proofs.Kept.{InOrder, Ordered, ordered, end_of_front, seam-links}
-use Rattle.join.proofs.Moved.{moved_link, Holds, link-leads, leads-held}
+use Rattle.join.specs.Moved.{at_seam, InOrder, moved_link, Holds}
+use Rattle.join.proofs.Fronts.{item-none, item-last, Front, empty, ending}
+use Rattle.join.proofs.Kept.{Ordered, ordered, end_of_front, seam-links}
+use Rattle.join.proofs.MovedLaws.{link-leads, leads-held}
 use Rattle.join.proofs.MovedRoles.{begins-is, begins-leads}
 use Rattle.join.proofs.Placements.{front-behind}
 use Rattle.join.proofs.JoinedRows.{of_first, of_second, first_place, second_place}

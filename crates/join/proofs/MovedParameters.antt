@@ -17,10 +17,10 @@ use Rattle.check_function_causes.specs.Functions.{is_definition, function_around
 use Rattle.check_function_causes.specs.Demands.{Within, function_part, function_along}
 use Rattle.check_function_causes.proofs.AroundLaws.{around-most, around-within, within-defines, within-is}
 use Rattle.check_parameter_causes.specs.Demands.{Parameter, first_parameter, next_parameter, BodyItem, first_item, next_item, NotParameter}
-use Rattle.join.proofs.Kept.{InOrder, Ordered, ordered}
-use Rattle.join.proofs.Moved.{moved_link, Holds, moved-some, declaration-held}
+use Rattle.join.specs.Moved.{InOrder, moved_link, Holds, AroundMoved}
+use Rattle.join.proofs.Kept.{Ordered, ordered}
+use Rattle.join.proofs.MovedLaws.{moved-some, declaration-held}
 use Rattle.join.proofs.MovedDeclarations.{declared-number, OldRow, old-part, old-along}
-use Rattle.join.proofs.MovedFunctions.{AroundMoved}
 
 -- an item of a function's block stands in the function
 body-within : {rows : List ℤ} {definition row : ℕ} → BodyItem rows definition row → Within rows definition row

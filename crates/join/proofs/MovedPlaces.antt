@@ -17,9 +17,10 @@ use Rattle.check_function_causes.specs.Functions.{is_definition, is_return}
 use Rattle.check_function_causes.specs.Demands.{InFront, foremost, behind, Within, function_part, function_along}
 use Rattle.check_source.specs.Legal.{Inside, part, along, PlacedRow}
 use Rattle.join.specs.Join.{first_item}
-use Rattle.join.proofs.Fronts.{at_seam, Seam, first-of-root, next-of-root, next-of-definition, seam-is, kept-part, kept_next}
-use Rattle.join.proofs.Kept.{InOrder, Ordered, ordered, one_word, definition-some, seam-links}
-use Rattle.join.proofs.Moved.{moved_link, Holds, number-held, definition-held, declaration-held, link-leads, leads-held}
+use Rattle.join.specs.Moved.{at_seam, InOrder, moved_link, Holds}
+use Rattle.join.proofs.Fronts.{Seam, first-of-root, next-of-root, next-of-definition, seam-is, kept-part, kept_next}
+use Rattle.join.proofs.Kept.{Ordered, ordered, one_word, definition-some, seam-links}
+use Rattle.join.proofs.MovedLaws.{number-held, definition-held, declaration-held, link-leads, leads-held}
 use Rattle.join.proofs.MovedDeclarations.{not_root, declaration-undefined}
 use Rattle.join.proofs.MovedRoles.{block-there, begins-is, begins-leads}
 

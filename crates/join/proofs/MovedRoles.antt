@@ -17,9 +17,10 @@ use Rattle.check_structure.specs.Structured.{Leads, Structured, Tree}
 use Rattle.check_declaration_causes.proofs.DeclarationLaws.{block-undeclared}
 use Rattle.check_function_causes.specs.Functions.{is_definition}
 use Rattle.join.specs.Join.{first_item}
-use Rattle.join.proofs.Fronts.{at_seam, Seam, first-of-root, next-of-root, next-of-definition, seam-is}
-use Rattle.join.proofs.Kept.{InOrder, Ordered, ordered, seam-links, first_inside}
-use Rattle.join.proofs.Moved.{Holds, moved-some, link-is, number-held, sort-held, definition-held, declaration-held, link-leads, leads-held}
+use Rattle.join.specs.Moved.{at_seam, InOrder, Holds}
+use Rattle.join.proofs.Fronts.{Seam, first-of-root, next-of-root, next-of-definition, seam-is}
+use Rattle.join.proofs.Kept.{Ordered, ordered, seam-links, first_inside}
+use Rattle.join.proofs.MovedLaws.{moved-some, link-is, number-held, sort-held, definition-held, declaration-held, link-leads, leads-held}
 use Rattle.join.proofs.Placements.{block-first}
 
 -- ---- which rows are no parameters

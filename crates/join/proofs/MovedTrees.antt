@@ -24,9 +24,10 @@ use Rattle.check_structure.specs.StructuredLaws.{structured-tree}
 use Rattle.check_fields.specs.declared.Bounds.{Bounds}
 use Rattle.language_renaming.specs.Renaming.{renamed, renamed_arguments, renamed_statement, renamed_arms, renamed_items}
 use Rattle.check_function_causes.specs.Functions.{is_definition}
-use Rattle.join.proofs.Fronts.{at_seam, kept-part, kept_row}
-use Rattle.join.proofs.Kept.{InOrder, ordered, kept-undefined}
-use Rattle.join.proofs.Moved.{numbers_function, names_word, moved_link, HoldsRenamed, link-is}
+use Rattle.join.specs.Moved.{at_seam, InOrder, numbers_function, names_word, moved_link, HoldsRenamed}
+use Rattle.join.proofs.Fronts.{kept-part, kept_row}
+use Rattle.join.proofs.Kept.{ordered, kept-undefined}
+use Rattle.join.proofs.MovedLaws.{link-is}
 use Rattle.join.proofs.MovedKinds.{SameWords, SameAbsence, SameTrees, expression-moved, arguments-moved, statement-moved, items-moved, arms-moved}
 
 -- ---- the trees of a table

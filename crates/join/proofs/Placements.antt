@@ -13,9 +13,9 @@ use Rattle.check_grammar.specs.GrammarLaws.{kind-no-link, no-kind-has}
 use Rattle.check_function_causes.specs.Functions.{is_definition}
 use Rattle.join.specs.Join.{is_of_definition, is_other, before, definition_rows, other_rows, first_item, Placement, place_of, front_of, placed_link, placed_word}
 use Rattle.join.proofs.Counting.{before-less, before-apart}
-use Rattle.join.proofs.Fronts.{at_seam}
+use Rattle.join.specs.Moved.{at_seam, moved_link, numbers_function, Holds}
 use Rattle.join.proofs.Kept.{Ordered, root-other, same-part, first-other}
-use Rattle.join.proofs.Moved.{moved_link, numbers_function, Holds, link-is}
+use Rattle.join.proofs.MovedLaws.{link-is}
 
 pub block-next : (rows : List ℤ) (row : ℕ) → number_at rows row 0 ≡ 42 → sort_at rows row 5 ≡ optional_item
 unfolding sort_at sort_of sort_in kind_of kind_in kinds kind_row expression_fields statement_fields mark_fields definition_fields member_fields

@@ -9,3 +9,5 @@ pub mod Followed
 pub mod JoinFate
 -- JoinedTrees: the items of a join, from those of both programs.
 pub mod JoinedTrees
+-- Moved: a table that holds another one's rows at other places, with its links led along.
+pub mod Moved

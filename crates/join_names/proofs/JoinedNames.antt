@@ -35,8 +35,8 @@ use Rattle.names.proofs.ResolvedLaws.{resolved-length, resolved-other, resolved-
 use Rattle.names.proofs.ResolvedStructured.{resolved-structured}
 use Rattle.join.specs.Join.{functions_of, joined_rows}
 use Rattle.join.proofs.Fronts.{functions-behind}
-use Rattle.join.proofs.Kept.{InOrder}
-use Rattle.join.proofs.Moved.{numbers_function, names_word, Holds, HoldsRenamed, definition-held, declaration-held}
+use Rattle.join.specs.Moved.{InOrder, numbers_function, names_word, Holds, HoldsRenamed}
+use Rattle.join.proofs.MovedLaws.{definition-held, declaration-held}
 use Rattle.join.proofs.MovedFronts.{count_is}
 use Rattle.join.proofs.MovedNotes.{front-note, first-top, second-top}
 use Rattle.join.proofs.Placements.{place-apart}

@@ -8,7 +8,7 @@ use Rattle.words.specs.Laws.{array-in-store}
 use Rattle.words.specs.Declarations.{declaration_count}
 use Rattle.words.specs.Layout.{Layout, store_size}
 use Rattle.words.specs.declared.Ending.{Ending}
-use Rattle.computation.proofs.Agreement.{Words}
+use Rattle.computation.specs.Agreement.{Words}
 use Rattle.computation.specs.Computation.{Computation}
 use Rattle.computation.specs.Run.{start, Result, Limit, run, final, ending_of}
 use Rattle.computation.proofs.RunLaws.{store-keeps-length}

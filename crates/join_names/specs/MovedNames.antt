@@ -23,9 +23,8 @@ use Rattle.names.proofs.ResolvedLaws.{resolved-length, resolved-kept, resolved-o
 use Rattle.names.proofs.ResolvedNames.{declaration-resolved, variable-resolved, name-resolved}
 use Rattle.check_declaration_causes.proofs.DeclarationLaws.{block-undeclared}
 use Rattle.join.specs.Join.{first_item}
-use Rattle.join.proofs.Fronts.{at_seam}
-use Rattle.join.proofs.Kept.{InOrder}
-use Rattle.join.proofs.Moved.{moved_link, numbers_function, names_word, Holds, HoldsRenamed, moved-some, word-no-link, word-no-function, number-held, sort-held, declaration-held}
+use Rattle.join.specs.Moved.{at_seam, InOrder, moved_link, numbers_function, names_word, Holds, HoldsRenamed}
+use Rattle.join.proofs.MovedLaws.{moved-some, word-no-link, word-no-function, number-held, sort-held, declaration-held}
 use Rattle.join.proofs.MovedDeclarations.{name-held, named-number}
 use Rattle.join_names.specs.MovedScope.{Outside, moved-meant}
 use Rattle.join_names.specs.ResolvedFronts.{resolved-seam, resolved-first}

@@ -22,11 +22,11 @@ use Rattle.check_function_causes.specs.Functions.{is_definition, function_around
 use Rattle.check_function_causes.proofs.AroundLaws.{around-most}
 use Rattle.check_function_causes.specs.Demands.{InFront}
 use Rattle.check_declaration_causes.proofs.DeclarationLaws.{block-undeclared}
-use Rattle.join.proofs.Fronts.{at_seam, kept-part, kept_row}
-use Rattle.join.proofs.Kept.{InOrder, ordered, kept-undefined}
-use Rattle.join.proofs.Moved.{moved_link, Holds, moved-some, declaration-held, link-held}
+use Rattle.join.specs.Moved.{at_seam, InOrder, moved_link, Holds, AroundMoved}
+use Rattle.join.proofs.Fronts.{kept-part, kept_row}
+use Rattle.join.proofs.Kept.{ordered, kept-undefined}
+use Rattle.join.proofs.MovedLaws.{moved-some, declaration-held, link-held}
 use Rattle.join.proofs.MovedDeclarations.{declared-number, not_root}
-use Rattle.join.proofs.MovedFunctions.{AroundMoved}
 use Rattle.join.proofs.MovedNotes.{Hands, HandsMoved, moved-note}
 use Rattle.join.proofs.MovedRoles.{definition-undeclared}
 

@@ -11,8 +11,7 @@ use Rattle.names.proofs.ResolvedLaws.{resolved-other, resolved-kind, resolved-li
 use Rattle.check_function_causes.specs.Functions.{is_definition}
 use Rattle.check_function_causes.specs.Demands.{InFront, foremost, behind}
 use Rattle.join.specs.Join.{item_from, functions_from, functions_of, first_item}
-use Rattle.join.proofs.Fronts.{at_seam}
-use Rattle.join.proofs.Kept.{InOrder}
+use Rattle.join.specs.Moved.{at_seam, InOrder}
 use Rattle.join.proofs.MovedRoles.{definition-undeclared}
 
 module _ (S : ℕ) (rows : List ℤ) where

@@ -4,7 +4,7 @@ use Rattle.words.specs.Table.{row_count, number_at}
 use Rattle.words.specs.Kinds.{sort_at}
 use Rattle.check_structure.specs.Structured.{Tree}
 use Rattle.check_function_causes.specs.Functions.{is_definition}
-use Rattle.join.proofs.Moved.{numbers_function}
+use Rattle.join.specs.Moved.{numbers_function}
 
 -- Numbers of functions are numbers of rows.
 abbrev pub FunctionNumbers : List ℤ → Type 0

@@ -18,7 +18,8 @@ use Rattle.language.specs.Meaning.{Context, value_of, Signal, next, breaking, co
 use Rattle.language.specs.Functions.{function_of, function_count, storing, invoke, context_by, call_by}
 use Rattle.language.specs.Writes.{writes}
 use Rattle.language.specs.FunctionWrites.{part_writes, statement_writes, arms_write, items_write, is_among, function_writes, written_by, functions_write}
-use Rattle.language.proofs.Untouched.{Untouched, untouched_ok, untouched_stopped, Leaves, Any, leaves_ret, untouched-then, leaves-step, leaves-then, leaves-enter, leaves-save, leaves-pick, NoElement, expression-leaves}
+use Rattle.language.specs.Untouched.{Untouched, untouched_ok, untouched_stopped, Leaves, Any, NoElement}
+use Rattle.language.proofs.UntouchedLaws.{leaves_ret, untouched-then, leaves-step, leaves-then, leaves-enter, leaves-save, leaves-pick, expression-leaves}
 
 -- ---- loops
 

@@ -5,7 +5,7 @@ pub mod RulesHold
 pub mod WriteExamples
 -- Laws of write sets: the test is exact; an expression leaves the variables outside its set alone.
 pub mod WriteLaws
-pub mod Untouched
+pub mod UntouchedLaws
 -- The same of statements and functions.
 pub mod FunctionUntouched
 -- Laws of functions: a call is the run of its function; programs without functions.

@@ -37,6 +37,10 @@ pub mod Sizes
 pub mod WellFormed
 -- Sound tables: what a run asks of a table.
 pub mod Sound
+-- Untouched words: computations that leave a word alone.
+pub mod Untouched
+-- What it is for every rule of the four tables to hold.
+pub mod RulesHold
 -- ---- laws
 -- Laws of trees: one list of items behind another, the marks that a list has, the rows of a statement.
 pub mod TreeLaws

@@ -6,7 +6,8 @@ use Rattle.words.specs.declared.Form.{Form}
 use Rattle.words.specs.declared.Ending.TheVariants.{Spent}
 use Rattle.computation.specs.Run.{Result, ok, stopped, spent, fault, steps, run, start}
 use Rattle.computation.proofs.RunLaws.{count-never-passes, store-keeps-length, within-budget, Within}
-use Rattle.computation.proofs.Unlimited.{Ends, LeastBudget, least-or-more, least-is-count}
+use Rattle.computation.specs.Unlimited.{Ends, LeastBudget}
+use Rattle.computation.proofs.UnlimitedLaws.{least-or-more, least-is-count}
 use Rattle.language.specs.Meaning.{Signal}
 use Rattle.language.specs.Program.{finished, table_program, run_table_under, run_table}
 use Rattle.language_programs.specs.Program.{program_of, run_program}

@@ -7,7 +7,7 @@ use Rattle.std.proofs.Math.Option.{Option, none as nothing, some}
 use Rattle.words.specs.Word.{pick}
 use Rattle.words.specs.Layout.{Layout}
 use Rattle.computation.specs.Computation.{Computation, ret, ◌>>=◌}
-use Rattle.computation.proofs.Agreement.{Words, ◌within◌}
+use Rattle.computation.specs.Agreement.{Words, ◌within◌}
 use Rattle.language.specs.Trees.{Expression, Statement, empty, express, block, if_then, if_else, while, do_while, for, switch, break, continue, goto, guarded_if, guarded_do, abort, declare, give_back, Items, none, ◌then◌, ◌here◌, define}
 use Rattle.language.specs.Meaning.{enter, Signal, next, breaking, continuing, seeking, returning, enters_statement, perform, items}
 use Rattle.language.specs.WellFormed.{NamedExpression}

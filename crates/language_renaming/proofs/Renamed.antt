@@ -7,7 +7,7 @@ use Rattle.words.specs.declared.FaultSort.TheVariants.{Guard}
 use Rattle.arithmetic.specs.Arithmetic.{is_true}
 use Rattle.computation.specs.Computation.{Computation}
 use Rattle.computation.specs.Run.{State, Limit, run}
-use Rattle.computation.proofs.Agreement.{Words}
+use Rattle.computation.specs.Agreement.{Words}
 use Rattle.language.specs.Trees.{absent, present, Statement, empty, express, block, if_then, if_else, while, do_while, for, switch, break, continue, goto, guarded_if, guarded_do, abort, declare, give_back, Arms, no_arm, arm, Items, none, ◌then◌, ◌here◌, define}
 use Rattle.language.specs.Meaning.{Signal, next, enters_mark, target, after_arms, perform, choose, choice_rounds, items, exec}
 use Rattle.language.specs.Functions.{context_by}

@@ -7,7 +7,7 @@ use mathlib.Core.List.{List, [], ◌∷◌, map}
 use Prim.Native.Nat.{ℕ, zero, suc}
 use Rattle.words.specs.Layout.{Layout}
 use Rattle.computation.specs.Computation.{Computation, ret, ◌>>=◌, save}
-use Rattle.computation.proofs.Agreement.{Words, ◌within◌}
+use Rattle.computation.specs.Agreement.{Words, ◌within◌}
 use Rattle.language.specs.Trees.{Items}
 use Rattle.language.specs.Meaning.{next, perform}
 use Rattle.language.specs.Functions.{Function, function_of, storing, invoke, context_by, call_by}

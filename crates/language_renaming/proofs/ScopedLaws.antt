@@ -2,7 +2,7 @@
 use Rattle.std.proofs.Common.{inl, inr}
 use Rattle.std.proofs.Math.Option.{Option, none as nothing, some}
 use Rattle.std.specs.Prelude.{ℕ}
-use Rattle.computation.proofs.Agreement.{Words, ◌within◌}
+use Rattle.computation.specs.Agreement.{Words, ◌within◌}
 use Rattle.language.specs.Trees.{Expression, constant, read, minus, not, binary, and, or, comma, conditional, assign, compound, prefix, postfix, call, Place, variable, element, Arguments, no_more, ◌also◌, Part, absent, present, Statement, empty, express, block, if_then, if_else, while, do_while, for, switch, break, continue, goto, guarded_if, guarded_do, abort, declare, give_back, Arms, no_arm, arm, Items, none, ◌then◌, ◌here◌, define}
 use Rattle.language.specs.WellFormed.{NamedExpression, NamedPlace, NamedArguments, NamedPart}
 use Rattle.language_renaming.specs.Scoped.{declared, behind, Scoped, ScopedArms, ScopedItems}

@@ -10,7 +10,7 @@ use Rattle.words.specs.declared.FaultSort.{FaultSort}
 use Rattle.arithmetic.specs.Arithmetic.{Outcome, value as valued, fault as faulty}
 use Rattle.computation.specs.Computation.{Turn, again, leave, Computation, ret, ◌>>=◌, step, load, save, fail, loop, settle}
 use Rattle.computation.specs.Run.{Write, State, start, stepped, written, spent, fault, Result, ok, stopped, Limit, steps, rounds, and_then, has_room, run_step, rounds_from, after_turn, iterate, run, final, ending_of}
-use Rattle.computation.proofs.Agreement.{Words, ◌within◌}
+use Rattle.computation.specs.Agreement.{Words, ◌within◌}
 use Rattle.language.specs.Meaning.{enter}
 use Rattle.language_renaming.specs.Twin.{moved, Twin, TwinResult, twin-ok, twin-stopped, Alike, Equal, There, TurnOf}
 

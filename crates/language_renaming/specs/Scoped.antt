@@ -1,7 +1,7 @@
 -- Scope: every name in a tree is known where it stands. A declaration makes its word known to the rest of its list.
 use Rattle.std.proofs.Math.Option.{Option, none as nothing, some}
 use Rattle.std.specs.Prelude.{ℕ}
-use Rattle.computation.proofs.Agreement.{Words}
+use Rattle.computation.specs.Agreement.{Words}
 use Rattle.language.specs.Trees.{Statement, empty, express, block, if_then, if_else, while, do_while, for, switch, break, continue, goto, guarded_if, guarded_do, abort, declare, give_back, Arms, no_arm, arm, Items, none, ◌then◌, ◌here◌, define}
 use Rattle.language.specs.WellFormed.{NamedExpression, NamedPart}
 use Rattle.language_renaming.specs.Twin.{◌with◌}

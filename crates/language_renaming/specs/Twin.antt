@@ -3,7 +3,7 @@ use Rattle.std.specs.Prelude.{◌≡◌, ◌⊎◌, List, map, ℕ, ◌+◌, ◌
 use Rattle.words.specs.Layout.{Layout, array_base, array_length}
 use Rattle.computation.specs.Computation.{Turn, again, leave, Computation}
 use Rattle.computation.specs.Run.{Write, State, Stop, Result, ok, stopped, Limit, run}
-use Rattle.computation.proofs.Agreement.{Words, ◌within◌}
+use Rattle.computation.specs.Agreement.{Words, ◌within◌}
 
 -- A write to the word that stands for the one written.
 abbrev pub moved : (ℕ → ℕ) → Write → Write

@@ -15,7 +15,7 @@ use Rattle.words.specs.Layout.{Layout, leading, layout_of, sum}
 use Rattle.words.specs.StoreLaws.{store-most, header-store-most}
 use Rattle.words.specs.declared.Form.{Form}
 use Rattle.words.proofs.Lengths.{Read, rest, sum-rest, part, size_is}
-use Rattle.computation.proofs.Remaining.{spend}
+use Rattle.computation.specs.Remaining.{spend}
 use Rattle.language.specs.Decode.{statement_at, decode}
 use Rattle.language.specs.Meaning.{exec}
 use Rattle.language.specs.Functions.{function_count}

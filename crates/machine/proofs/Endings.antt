@@ -15,7 +15,8 @@ use Rattle.words.specs.declared.Ending.TheVariants.{Plain, Spent, Fault}
 use Rattle.computation.specs.Computation.{Computation}
 use Rattle.computation.specs.Run.{spent, fault, Result, ok, stopped, steps, run, start, final}
 use Rattle.computation.proofs.RunLaws.{count-never-passes}
-use Rattle.computation.proofs.Remaining.{Rest, gives, halts, spend, told, spend-is-run}
+use Rattle.computation.specs.Remaining.{Rest, gives, halts, spend}
+use Rattle.computation.proofs.RemainingLaws.{told, spend-is-run}
 use Rattle.language.specs.Meaning.{Signal}
 use Rattle.language.specs.Program.{Finished, finished}
 use Rattle.machine_operations.specs.Answers.{beyond, stop_of, is_return, operand_of}

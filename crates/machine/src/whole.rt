@@ -4,7 +4,7 @@ ghost use Rattle.words.specs.Table.{row_count};
 ghost use Rattle.words.specs.Word.{natural as natural_of};
 ghost use Rattle.words.specs.Layout.{sum};
 ghost use Rattle.words.specs.declared.Form.TheVariants.{Source, Kernel};
-ghost use Rattle.computation.proofs.Remaining.{spend};
+ghost use Rattle.computation.specs.Remaining.{spend};
 ghost use Rattle.language.specs.Functions.{function_count};
 ghost use Rattle.language.specs.Program.{contents, run_table};
 ghost use Rattle.machine_operations.specs.Bounds.{bounds_from};

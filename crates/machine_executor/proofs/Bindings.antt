@@ -11,7 +11,7 @@ use Rattle.words.specs.Kinds.{is_link, is_required, expression_fields, statement
 use Rattle.words.specs.declared.Kind.TheVariants.{OfExpression, Definition}
 use Rattle.words.specs.declared.ExpressionKind.TheVariants.{Call}
 use Rattle.computation.specs.Computation.{Computation, ret, ◌>>=◌}
-use Rattle.computation.proofs.Remaining.{Rest, gives, onward, spend}
+use Rattle.computation.specs.Remaining.{Rest, gives, onward, spend}
 use Rattle.language.specs.Trees.{Expression, call, Arguments, ◌also◌, Statement, block}
 use Rattle.language.specs.Decode.{expression_at, statement_at, block_items, argument_list_at, parameter_list_at}
 use Rattle.language.specs.DecodeLaws.{at_call, at_block}

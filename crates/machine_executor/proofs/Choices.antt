@@ -21,7 +21,7 @@ use Rattle.words.specs.declared.StatementKind.TheVariants.{GuardedIf, GuardedDo,
 use Rattle.words.specs.declared.FaultSort.TheVariants.{Guard}
 use Rattle.computation.specs.Computation.{Turn, Computation, ret, ◌>>=◌, loop}
 use Rattle.computation.specs.Run.{fault}
-use Rattle.computation.proofs.Remaining.{Rest, gives, halts, onward, pay, on_turn, spend}
+use Rattle.computation.specs.Remaining.{Rest, gives, halts, onward, pay, on_turn, spend}
 use Rattle.language.specs.Trees.{Arms, no_arm, arm, guarded_if, guarded_do}
 use Rattle.language.specs.Decode.{arms_at, arm_list_at}
 use Rattle.language.specs.DecodeLaws.{at-guarded_if, at-guarded_do, at-abort, at-arm}

@@ -8,7 +8,8 @@ use Rattle.words.specs.Word.{pick}
 use Rattle.arithmetic.specs.Arithmetic.{is_true}
 use Rattle.computation.specs.Computation.{Turn, again, leave, Computation, ret, ◌>>=◌, loop}
 use Rattle.computation.proofs.RunLaws.{turn_of}
-use Rattle.computation.proofs.Remaining.{gives, onward, pay, on_turn, spend, spend-unroll}
+use Rattle.computation.specs.Remaining.{gives, onward, pay, on_turn, spend}
+use Rattle.computation.proofs.RemainingLaws.{spend-unroll}
 use Rattle.language.specs.Trees.{Part, absent, present}
 use Rattle.language.specs.Meaning.{Context, Signal, next, enter, evaluate, value, after_body, after_test}
 use Rattle.machine_operations.proofs.Enter.{onward-same, onward-onward, forks}

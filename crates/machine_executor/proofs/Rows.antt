@@ -17,7 +17,7 @@ use Rattle.words.specs.declared.Kind.{Kind}
 use Rattle.words.specs.declared.Kind.TheVariants.{OfStatement}
 use Rattle.words.specs.declared.StatementKind.TheVariants.{Empty, Express, Block, If, While, Do, For, Switch, Break, Continue, Goto, Declare, Return}
 use Rattle.computation.specs.Computation.{ret, loop}
-use Rattle.computation.proofs.Remaining.{Rest, gives, onward, spend}
+use Rattle.computation.specs.Remaining.{Rest, gives, onward, spend}
 use Rattle.language.specs.Trees.{Part, absent, present, label, Statement, express, block, if_then, if_else, while, do_while, for, switch, declare, give_back}
 use Rattle.language.specs.Decode.{expression_at, statement_at, list_at, part_at}
 use Rattle.language.specs.DecodeLaws.{at-no-statement, at-empty, at-express, at_block, at-if_then, at-if_else, at-while, at-do_while, at-for, at-switch, at-break, at-continue, at-goto, at-declared, at_return, part-some}

@@ -6,7 +6,7 @@ use Rattle.words.specs.Kinds.{kind_at}
 use Rattle.words.specs.declared.Kind.TheVariants.{OfMember}
 use Rattle.words.specs.declared.MemberKind.TheVariants.{Arm}
 use Rattle.computation.specs.Computation.{Computation, ret, ◌>>=◌}
-use Rattle.computation.proofs.Remaining.{Rest, onward, spend}
+use Rattle.computation.specs.Remaining.{Rest, onward, spend}
 use Rattle.language.specs.Decode.{arm_list_at}
 use Rattle.language.specs.Meaning.{Choice, none_true, ran, enter, choose}
 use Rattle.machine_operations.specs.Answers.{operand_of, position_of, placed}

@@ -10,7 +10,7 @@ ghost use Rattle.words.specs.Word.{pick};
 ghost use Rattle.words.specs.declared.Kind.TheVariants.{OfExpression, OfStatement};
 ghost use Rattle.words.specs.declared.ExpressionKind.TheVariants.{Element, Binary, And, Or, Conditional, Comma, Assign, Compound, Prefix, Postfix, Call};
 ghost use Rattle.words.specs.declared.StatementKind.TheVariants.{Express, If, Switch, GuardedIf, GuardedDo};
-ghost use Rattle.computation.proofs.Remaining.{spend};
+ghost use Rattle.computation.specs.Remaining.{spend};
 ghost use Rattle.machine_operations.specs.Answers.{answered, placed};
 ghost use Rattle.machine_operations.specs.Ready.{Ready, ReadyPlace, Entered};
 ghost use Rattle.machine_operations.specs.Rows.{value_at, evaluate_at, place_at, locate_at};

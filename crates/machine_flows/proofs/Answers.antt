@@ -21,7 +21,8 @@ use Rattle.words.specs.Answers.{fault_numbered}
 use Rattle.words.specs.declared.FaultSort.TheVariants.{Guard}
 use Rattle.computation.specs.Computation.{Turn, again, leave, Computation, ret}
 use Rattle.computation.specs.Run.{spent, fault}
-use Rattle.computation.proofs.Remaining.{Rest, gives, halts, onward, on_turn, spend, left_of, left-never-rises}
+use Rattle.computation.specs.Remaining.{Rest, gives, halts, onward, on_turn, spend}
+use Rattle.computation.proofs.RemainingLaws.{left_of, left-never-rises}
 use Rattle.language.specs.Trees.{label}
 use Rattle.language.specs.Meaning.{Signal, next, breaking, continuing, seeking, returning, enter, after_switch, after_body, Choice, ran as ran_with, after_arms}
 use Rattle.language.specs.Functions.{returned}

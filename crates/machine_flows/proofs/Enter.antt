@@ -6,7 +6,7 @@ use Prim.Native.Nat.{ℕ}
 use native.Mathlib.Omega.{arith}
 use lib.IntN.{ℤ}
 use Rattle.words.specs.Word.{pick}
-use Rattle.computation.proofs.Remaining.{gives, onward, spend}
+use Rattle.computation.specs.Remaining.{gives, onward, spend}
 use Rattle.language.specs.Trees.{Mark, case, default, Statement, empty, Items, none, ◌then◌, ◌here◌, define, same_mark, has}
 use Rattle.language.specs.Meaning.{Context, Signal, next, breaking, continuing, seeking, returning, target, after_switch, perform, items, exec}
 use Rattle.machine_flows.specs.Lists.{from, start_of}

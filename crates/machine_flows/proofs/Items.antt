@@ -18,7 +18,7 @@ use Rattle.words.specs.declared.Kind.{Kind}
 use Rattle.words.specs.declared.Kind.TheVariants.{OfExpression, OfStatement, OfMark, OfMember, Definition, Other}
 use Rattle.words.specs.declared.MarkKind.{MarkKind}
 use Rattle.words.specs.declared.MarkKind.TheVariants.{Case, Default, Label}
-use Rattle.computation.proofs.Remaining.{Rest, onward, spend}
+use Rattle.computation.specs.Remaining.{Rest, onward, spend}
 use Rattle.language.specs.Trees.{Mark, case, default, label, Statement, empty, Items, none, ◌then◌, ◌here◌, define, same_mark, has}
 use Rattle.language.specs.Decode.{later, parameters_at, block_items, items_of, statement_at, items_at, Forward, list_at}
 use Rattle.language.specs.DecodeLaws.{at-no-statement, at-items}

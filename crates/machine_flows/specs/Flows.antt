@@ -7,7 +7,7 @@ use Rattle.arithmetic.specs.Arithmetic.{is_true}
 use Rattle.computation.specs.Computation.{Turn, again, leave, ret}
 use Rattle.words.specs.declared.FaultSort.TheVariants.{Guard}
 use Rattle.computation.specs.Run.{fault}
-use Rattle.computation.proofs.Remaining.{Rest, gives, halts, onward, spend}
+use Rattle.computation.specs.Remaining.{Rest, gives, halts, onward, spend}
 use Rattle.language.specs.Trees.{label}
 use Rattle.language.specs.Meaning.{Signal, next, breaking, continuing, seeking, returning, after_switch, after_body}
 use Rattle.language.specs.Functions.{returned}

@@ -4,7 +4,7 @@ use Rattle.words.specs.Word.{pick}
 use Rattle.words.specs.Table.{row_count, number_at}
 use Rattle.words.specs.Layout.{Layout}
 use Rattle.computation.specs.Computation.{Computation, ret}
-use Rattle.computation.proofs.Remaining.{Rest, onward, spend}
+use Rattle.computation.specs.Remaining.{Rest, onward, spend}
 use Rattle.language.specs.Trees.{Mark, case, default, label, Items, none, ◌then◌, ◌here◌, define, same_mark, has}
 use Rattle.language.specs.Decode.{statement_at, items_at, list_at}
 use Rattle.language.specs.Meaning.{Context, Signal, next, items, exec}

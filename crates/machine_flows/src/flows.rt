@@ -5,7 +5,7 @@ ghost use Rattle.words.specs.Word.{natural as natural_of};
 ghost use Rattle.words.specs.Table.{number_at};
 ghost use Rattle.language.specs.Trees.{label as label_of};
 ghost use Rattle.language.specs.Meaning.{seeking};
-ghost use Rattle.computation.proofs.Remaining.{gives};
+ghost use Rattle.computation.specs.Remaining.{gives};
 ghost use Rattle.machine_flows.specs.Flows.{flow_of, passing_of, ran, EndsExpression, EndsDeclaration, EndsReturn, EndsCall, EndsUnguarded, EndsSwitch, EndsBody, EndsRound};
 
 use super::{CONTINUE, Flow, NEXT, NO_LABEL, RETURN};

@@ -27,7 +27,7 @@ use Rattle.arithmetic.specs.declared.Computed.{Computed}
 use Rattle.arithmetic.specs.declared.Computed.TheVariants.{Value as Computes, Fails}
 use Rattle.computation.specs.Computation.{settle}
 use Rattle.computation.specs.Run.{Stop, spent, fault}
-use Rattle.computation.proofs.Remaining.{gives, halts, spend, onward}
+use Rattle.computation.specs.Remaining.{gives, halts, spend, onward}
 use Rattle.machine_operations.specs.Answers.{stop_number, beyond, stop_of, is_return, operand_of, answered, placed, Settles, Places}
 use Rattle.machine_operations.specs.declared.Operand.TheVariants.{Value, Halted}
 use Rattle.arithmetic.specs.declared.Located.{Located}

@@ -8,7 +8,7 @@ use lib.IntN.{ℤ}
 use Rattle.words.specs.Word.{pick}
 use Rattle.computation.specs.Computation.{Computation}
 use Rattle.computation.specs.Run.{spent}
-use Rattle.computation.proofs.Remaining.{Rest, gives, halts, onward, spend}
+use Rattle.computation.specs.Remaining.{Rest, gives, halts, onward, spend}
 use Rattle.language.specs.Meaning.{enter}
 
 module _ {A : Type 0} (m : Computation A) (s : List ℤ) where

@@ -18,7 +18,8 @@ use Rattle.words.specs.Laws.{back}
 use Rattle.arithmetic.specs.declared.Computed.{Computed}
 use Rattle.words.specs.declared.Operator.{Operator}
 use Rattle.computation.specs.Computation.{Computation, settle}
-use Rattle.computation.proofs.Remaining.{Rest, gives, halts, onward, left_of, spend, left-never-rises}
+use Rattle.computation.specs.Remaining.{Rest, gives, halts, onward, spend}
+use Rattle.computation.proofs.RemainingLaws.{left_of, left-never-rises}
 use Rattle.language.specs.Sound.{Link, PlaceLink}
 use Rattle.machine_operations.specs.Answers.{stop_of, operand_of, operand_rest, answered, position_of, placed, Settles, Fetches, Negates}
 use Rattle.machine_operations.specs.Bounds.{layout_in}

@@ -15,7 +15,7 @@ use Rattle.arithmetic.proofs.Laws.{element-inside}
 use Rattle.words.specs.declared.Kind.TheVariants.{OfExpression}
 use Rattle.words.specs.declared.ExpressionKind.TheVariants.{Variable, Element}
 use Rattle.computation.specs.Computation.{settle}
-use Rattle.computation.proofs.Remaining.{Rest, gives, halts, onward, spend}
+use Rattle.computation.specs.Remaining.{Rest, gives, halts, onward, spend}
 use Rattle.machine_operations.specs.Answers.{operand_of, position_of, placed}
 use Rattle.machine_operations.specs.Bounds.{layout_in}
 use Rattle.machine_operations.specs.Ready.{ReadyPlace, Entered}

@@ -19,7 +19,7 @@ use Rattle.words.specs.declared.Kind.{Kind}
 use Rattle.words.specs.declared.Kind.TheVariants.{OfExpression}
 use Rattle.words.specs.declared.ExpressionKind.TheVariants.{Constant, Variable, Element, Minus, Not, Binary, And, Or, Conditional, Comma, Assign, Compound, Prefix, Postfix}
 use Rattle.computation.specs.Computation.{Computation, ret, ◌>>=◌, settle}
-use Rattle.computation.proofs.Remaining.{gives, onward, spend}
+use Rattle.computation.specs.Remaining.{gives, onward, spend}
 use Rattle.language.specs.Trees.{Expression, read, minus, not, binary, and, or, comma, conditional, assign, compound, prefix, postfix, variable, element}
 use Rattle.language.specs.Decode.{place_of, expression_at}
 use Rattle.language.specs.DecodeLaws.{at-no-expression, at_constant, at-variable, at-element, at-minus, at-not, at-binary, at-and, at-or, at-conditional, at-comma, at-assign, at-compound, at-prefix, at-postfix}

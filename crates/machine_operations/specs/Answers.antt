@@ -8,7 +8,7 @@ use Rattle.words.specs.Answers.{fault_number, fault_numbered, ending_number}
 use Rattle.words.specs.declared.Ending.TheVariants.{Spent}
 use Rattle.computation.specs.Computation.{settle}
 use Rattle.computation.specs.Run.{Stop, spent, fault}
-use Rattle.computation.proofs.Remaining.{Rest, gives, halts, onward, spend}
+use Rattle.computation.specs.Remaining.{Rest, gives, halts, onward, spend}
 use Rattle.machine_operations.specs.declared.Operand.{Operand}
 use Rattle.machine_operations.specs.declared.Operand.TheVariants.{Value, Halted}
 use Rattle.machine_operations.specs.declared.Position.{Position}

@@ -6,7 +6,7 @@ ghost use Rattle.words.specs.Kinds.{between};
 ghost use Rattle.words.specs.declared.Kind.TheVariants.{OfExpression};
 ghost use Rattle.words.specs.declared.ExpressionKind.TheVariants.{Variable};
 ghost use Rattle.arithmetic.specs.Arithmetic.{is_true, apply as apply_of, element as element_of};
-ghost use Rattle.computation.proofs.Remaining.{gives, spend};
+ghost use Rattle.computation.specs.Remaining.{gives, spend};
 ghost use Rattle.language.specs.Meaning.{update as update_of, old_value, new_value};
 ghost use Rattle.machine_operations.specs.Answers.{operand_of, answered, position_of, Settles, Places, Fetches, Negates};
 ghost use Rattle.machine_operations.specs.Ready.{Bounded, Entered};

@@ -27,7 +27,8 @@ use Rattle.translation.specs.declared.Use.{Use}
 use Rattle.translation.specs.declared.Use.TheVariants.{Dropped as dropped, Wanted as wanted, Stored as stored}
 use Rattle.translation.specs.Translate.{Atom, number, word, top, held, atom_of, taken, result_levels}
 use Rattle.translation.specs.TranslateSize.{index_rows, copy_rows, update_rows, own_rows}
-use Rattle.translation.proofs.HeldCode.{taken-held, held-variable, held_by, held-by}
+use Rattle.translation.specs.Holding.{held_by}
+use Rattle.translation.proofs.HeldCode.{taken-held, held-variable, held-by}
 use Rattle.translation.proofs.TranslateBounds.{taken_most}
 use Rattle.measures_table.specs.Parts.{called_in, index_of, update_own, first_operand, second_operand, third_operand, fourth_operand, above_first, first_copied, plain_atom, first_use, second_use, own_levels, plain_own, result_own, stored_own, comma_own, step_own, Operand, Brings, OwnAt, PlaceOwnAt}
 use Rattle.measures_table.specs.Measures.{value_slot, slot_at, MeasuredFrom, StoreAsks, PostfixAt}

@@ -17,7 +17,8 @@ use Rattle.page_words.specs.declared.LineContent.{LineContent}
 use Rattle.page_frame.specs.Frames.{level_of}
 use Rattle.page_blocks.specs.Blocks.{Open, outside, behind, onward, balanced, trees, levels}
 use Rattle.page_blocks.specs.Scans.{scan, lines_in}
-use Rattle.page_blocks.proofs.ScanLaws.{AllFit, lines_rows, IsPage, scan-sound}
+use Rattle.page_blocks.specs.LinesFit.{AllFit, lines_rows}
+use Rattle.page_blocks.proofs.ScanLaws.{IsPage, scan-sound}
 use Rattle.page_blocks.proofs.RowLaws.{program-rows}
 use Rattle.page_blocks.specs.declared.Scan.TheVariants.{Whole}
 

@@ -9,8 +9,7 @@ use Rattle.text_numbers.specs.NumberLaws.{not_some}
 use Rattle.language.specs.Trees.{◌also◌, Items, none as no_item, ◌then◌, ◌here◌, define, block}
 use Rattle.language.specs.Sizes.{expression_rows, place_rows, arguments_rows, statement_rows, items_rows}
 use Rattle.page.specs.declared.Sizes.{Sizes}
-use Rattle.page.specs.Lines.{Waiting, outermost, closed, Reading, reading, passing, taking, malformed, read_line, read_before, whole, read_lines}
-use Rattle.page.specs.Lines.{turned as else_waiting}
+use Rattle.page.specs.Lines.{Waiting, outermost, closed, Reading, reading, passing, taking, malformed, read_line, read_before, whole, read_lines, turned as else_waiting}
 use Rattle.page.proofs.LinesLaws.{before-items, before-arguments, before-parameters, before-block, before-branches}
 use Rattle.page_words.specs.Trees.{atom_tree, value_tree, line_tree}
 use Rattle.page_words.specs.declared.PageAtom.{PageAtom}
@@ -21,7 +20,7 @@ use Rattle.page_words.specs.declared.LineContent.{LineContent}
 use Rattle.page_words.specs.declared.LineContent.TheVariants.{Empty, Abort, Goto, Label, Store, Put, Opens, While, If, Turns, Closes, Return, OpensCall, Argument, LastArgument, OpensFunction, OpensParameters, Parameter, LastParameter}
 use Rattle.page_blocks.specs.Blocks.{trees}
 use Rattle.page_blocks.specs.Scans.{value_rows, line_rows}
-use Rattle.page_blocks.proofs.ScanLaws.{lines_rows}
+use Rattle.page_blocks.specs.LinesFit.{lines_rows}
 
 module _ (sizes : Sizes) where
   pub atom-rows : (a : PageAtom) → expression_rows (atom_tree sizes a) ≡ 1

@@ -21,7 +21,7 @@ use Rattle.page_frame.specs.Frames.{level_of, line_in}
 use Rattle.page_frame.proofs.FrameComplete.{line-in-complete}
 use Rattle.page_blocks.specs.Blocks.{Open, outside, in_arguments, in_parameters, level_in, behind, onward, balanced, levels}
 use Rattle.page_blocks.specs.Scans.{line_rows, ended, stepped, scan_from, scan}
-use Rattle.page_blocks.proofs.ScanLaws.{lines_rows, AllFit}
+use Rattle.page_blocks.specs.LinesFit.{lines_rows, AllFit}
 use Rattle.page_blocks.specs.declared.Scan.{Scan}
 use Rattle.page_blocks.specs.declared.Scan.TheVariants.{Whole, Wrong}
 

@@ -1,20 +1,19 @@
 -- Laws of scans: a page without a wrong line is the page of its program.
-use Rattle.std.specs.Prelude.{◌≡◌, Bool, true, false, eqb, take}
+use Rattle.std.specs.Prelude.{◌≡◌, true, eqb, take}
 use Rattle.std.proofs.Math.Path.{refl, sym, ap}
-use Rattle.std.proofs.Common.{ap₂, ◌∙◌, add-one, take-append-drop, drop-drop}
+use Rattle.std.proofs.Common.{ap₂, ◌∙◌, take-append-drop, drop-drop}
 use mathlib.Core.List.{List, [], ◌∷◌, ◌++◌}
 use Rattle.std.proofs.Math.Option.{Option, none, some}
-use Prim.Native.Nat.{ℕ, zero, suc, ◌+◌, ◌*◌, ◌/◌, ◌-◌, ◌≤◌, ◌<◌, min}
+use Prim.Native.Nat.{ℕ, zero, suc, ◌+◌, ◌*◌, ◌/◌, ◌≤◌, ◌<◌, min}
 use native.Mathlib.Omega.{arith}
 use Rattle.std.proofs.Math.ListN.{length, drop, length-take, length-drop, drop_of_length-le}
 use borrow.Author.Tests.{eqb-true}
 use Rattle.words.specs.Laws.{by_cases}
 use Rattle.language.specs.Trees.{Items}
 use Rattle.page.specs.declared.Sizes.{Sizes}
-use Rattle.page.specs.Lines.{items_lines, read_lines}
-use Rattle.page.specs.Page.{line_bytes, lines_bytes, page_bytes}
-use Rattle.page_words.specs.Texts.{LineFits}
-use Rattle.page_words.specs.Trees.{Within, line_tree}
+use Rattle.page.specs.Lines.{read_lines}
+use Rattle.page.specs.Page.{lines_bytes, page_bytes}
+use Rattle.page_words.specs.Trees.{Within}
 use Rattle.page_words.specs.declared.Names.{Names}
 use Rattle.page_words.specs.declared.LineContent.{LineContent}
 use Rattle.page_words.specs.declared.LineRead.{LineRead}
@@ -22,18 +21,10 @@ use Rattle.page_words.specs.declared.LineRead.TheVariants as line-cases
 use Rattle.page_frame.specs.Frames.{line_in, statement_in}
 use Rattle.page_frame.proofs.FrameLaws.{statement-in, line-in-sound}
 use Rattle.page_blocks.specs.Blocks.{Open, outside, in_arguments, in_parameters, level_in, behind, onward, balanced, trees, levels}
-use Rattle.page_blocks.proofs.BlockLaws.{IsProgram, balanced-program}
+use Rattle.page_blocks.proofs.BlockLaws.{balanced-program}
 use Rattle.page_blocks.specs.Scans.{line_rows, ended, stepped, scan_from, scan, with_line, lines_from, lines_in}
-use Rattle.page_blocks.specs.declared.Scan.{Scan}
 use Rattle.page_blocks.specs.declared.Scan.TheVariants.{Whole, Wrong}
-
-abbrev pub lines_rows : List LineContent → ℕ
-lines_rows [] = 0
-lines_rows (line ∷ lines) = line_rows line + lines_rows lines
-
-unfoldable pub AllFit : Names → List LineContent → Type 0
-AllFit names [] = Unit
-AllFit names (line ∷ lines) = LineFits names line × AllFit names lines
+use Rattle.page_blocks.specs.LinesFit.{AllFit, lines_rows}
 
 -- The rest of a page: its lines, whose blocks close, whose bytes it is, and whose rows are counted.
 pub record IsRest (names : Names) (sizes : Sizes) (rest : List ℕ) (number : ℕ) (around : Open) (rows total : ℕ) (statements : List LineContent) : Type 0 where

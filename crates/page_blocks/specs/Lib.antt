@@ -5,3 +5,5 @@
 pub mod Blocks
 -- Scans: a page from its first line to its last: how many rows it has, or the first line that is wrong.
 pub mod Scans
+-- Lines of a page: whether they fit its names, and how many rows they have.
+pub mod LinesFit

@@ -18,7 +18,7 @@ use Rattle.page_words.specs.declared.LineRead.{LineRead}
 use Rattle.page_words.specs.declared.LineRead.TheVariants.{Read, Malformed}
 use Rattle.page_frame.specs.Frames.{statement_in}
 use Rattle.page_blocks.specs.Scans.{line_rows, with_line, lines_from, lines_in}
-use Rattle.page_blocks.proofs.ScanLaws.{lines_rows, AllFit}
+use Rattle.page_blocks.specs.LinesFit.{lines_rows, AllFit}
 use Rattle.page_scan.specs.Stacks.{stack_of}
 use Rattle.page_rows.specs.Rows.{Left, left_before, block_row, line_table, left_by, lines_table, page_table}
 use Rattle.page_rows.specs.Fits.{most_names, line-fits-most}

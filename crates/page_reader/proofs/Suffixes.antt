@@ -11,7 +11,7 @@ use Rattle.page_words.specs.declared.LineRead.{LineRead}
 use Rattle.page_words.specs.declared.LineRead.TheVariants.{Read, Malformed}
 use Rattle.page_frame.specs.Frames.{statement_in}
 use Rattle.page_blocks.specs.Scans.{line_rows, with_line, lines_from, lines_in}
-use Rattle.page_blocks.proofs.ScanLaws.{lines_rows, AllFit}
+use Rattle.page_blocks.specs.LinesFit.{lines_rows, AllFit}
 
 module _ (names : Names) (page : List ℕ) where
   abbrev statement_at : ℕ → LineRead

@@ -14,7 +14,7 @@ use Rattle.page.specs.Tables.{sizes_of, read_table}
 use Rattle.page_words.specs.Trees.{Within}
 use Rattle.page_words.specs.declared.Names.{Names}
 use Rattle.page_blocks.specs.Scans.{scan, lines_in, names_of}
-use Rattle.page_blocks.proofs.ScanLaws.{lines_rows}
+use Rattle.page_blocks.specs.LinesFit.{lines_rows}
 use Rattle.page_blocks.proofs.PageLaws.{ReadsAs, scan-reads}
 use Rattle.page_blocks.specs.declared.Scan.TheVariants.{Whole}
 use Rattle.page_rows.specs.Rows.{page_table}

@@ -3,7 +3,7 @@ use Rattle.std.specs.Prelude.{◌≡◌, List, ℕ, ◌+◌, ◌*◌, ◌≤◌,
 use Rattle.page.specs.declared.Sizes.{Sizes}
 use Rattle.page_words.specs.declared.Names.{Names}
 use Rattle.page_blocks.specs.Scans.{lines_in}
-use Rattle.page_blocks.proofs.ScanLaws.{lines_rows, AllFit}
+use Rattle.page_blocks.specs.LinesFit.{lines_rows, AllFit}
 use Rattle.page_scan.specs.Stacks.{stack_of}
 use Rattle.page_rows.specs.Rows.{Left}
 use Rattle.page_rows.specs.Fits.{SmallSizes}

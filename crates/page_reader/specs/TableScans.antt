@@ -37,7 +37,7 @@ use Rattle.page_words.specs.declared.LineContent.TheVariants.{Empty, Abort, Goto
 use Rattle.page_blocks.specs.Blocks.{outside, trees, levels, balanced}
 use Rattle.page_blocks.proofs.BlockLaws.{IsProgram, balanced-program, read-balanced}
 use Rattle.page_blocks.specs.Scans.{scan, names_of}
-use Rattle.page_blocks.proofs.ScanLaws.{lines_rows, AllFit}
+use Rattle.page_blocks.specs.LinesFit.{lines_rows, AllFit}
 use Rattle.page_blocks.proofs.ScanComplete.{scan-complete}
 use Rattle.page_blocks.proofs.RowLaws.{program-rows}
 use Rattle.page_blocks.specs.declared.Scan.TheVariants.{Whole}

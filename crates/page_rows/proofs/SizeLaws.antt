@@ -14,7 +14,7 @@ use Rattle.page_words.specs.declared.PageAtom.TheVariants.{Constant, Variable, D
 use Rattle.page_words.specs.declared.LineContent.{LineContent}
 use Rattle.page_words.specs.declared.LineContent.TheVariants.{Empty, Abort, Goto, Label, Store, Put, Opens, While, If, Turns, Closes, Return, OpensCall, Argument, LastArgument, OpensFunction, OpensParameters, Parameter, LastParameter}
 use Rattle.page_blocks.specs.Scans.{line_rows}
-use Rattle.page_blocks.proofs.ScanLaws.{lines_rows}
+use Rattle.page_blocks.specs.LinesFit.{lines_rows}
 use Rattle.page_blocks.proofs.RowLaws.{atom-rows, value-rows}
 use Rattle.page_rows.specs.Rows.{Left, line_item, block_row, line_table, left_by, lines_table, page_table}
 

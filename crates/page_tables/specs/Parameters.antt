@@ -11,7 +11,7 @@ use Rattle.accepted_calls.proofs.Counts.{parameter-inside}
 use Rattle.accepted_calls.proofs.Structured.{function-table}
 use Rattle.check_kernel.specs.Legal.{Legal}
 use Rattle.accepted_kernel.specs.Parameters.{parameter-words}
-use Rattle.translation_legal.proofs.Parameters.{ParameterWord, OwnParameters}
+use Rattle.translation_legal.specs.OwnWords.{ParameterWord, OwnParameters}
 use Rattle.translation_legal.proofs.ParameterLists.{own-lists}
 
 module _ (header rows : List ℤ) (legal : Legal header rows) where

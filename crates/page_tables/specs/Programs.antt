@@ -11,7 +11,7 @@ use Rattle.language.specs.Sizes.{items_rows, statement_rows}
 use Rattle.language.specs.WellFormed.{NamedWords}
 use Rattle.translation.specs.KernelForm.{IsAtom, constant-atom, variable_atom, AreAtoms, no_more_atoms, more_atoms, Assigns, assigns_atom, assigns_minus, assigns_operation, assigns_element, assigns_call, assigns_to_element, KernelStatement, kernel-empty, kernel-assign, kernel-block, kernel-if, kernel-while, kernel-goto, kernel-abort, kernel-return, KernelItems, kernel-none, kernel-then, kernel-label, KernelProgram, kernel_main, kernel_define}
 use Rattle.translation_legal.proofs.EmittedFunctions.{plain-count}
-use Rattle.translation_legal.proofs.Parameters.{ParameterWord, OwnWords, FrontParameters}
+use Rattle.translation_legal.specs.OwnWords.{ParameterWord, OwnWords, FrontParameters}
 use Rattle.page.proofs.Fits.{Parametered, no-parameter, more-parameters, ProgramFits, main-fits, define-fits}
 
 -- A program has fewer functions than rows.

@@ -30,7 +30,8 @@ use Rattle.language_emission.proofs.EmittedLaws.{emitted}
 use Rattle.language_emission.proofs.ReadBack.{decode-emit}
 use Rattle.translation_legal.specs.FormKinds.{program-kinds}
 use Rattle.translation_legal.proofs.EmittedStructured.{emitted-structured}
-use Rattle.translation_legal.proofs.Parameters.{OwnWords, OwnParameters, FrontParameters, own-front}
+use Rattle.translation_legal.specs.OwnWords.{OwnWords, OwnParameters, FrontParameters}
+use Rattle.translation_legal.proofs.Parameters.{own-front}
 use Rattle.translation_legal.proofs.EmittedLegal.{translated-legal, translated-decodes}
 use Rattle.check_kernel.specs.Legal.{Legal}
 use Rattle.accepted.specs.NamedWords.{NamesVariable}

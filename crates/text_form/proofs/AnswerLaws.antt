@@ -15,13 +15,9 @@ use Rattle.words.specs.Laws.{by_cases}
 use Rattle.words.specs.OverLaws.{take-over}
 use Rattle.text_form.specs.Answers.{finished, refused, cause_unless, cause_of, read_refused, read_program, tables_hold, read_parsed, read_result, Reads, write_bytes, write_result, Writes}
 use Rattle.text_form.proofs.TextLaws.{IsText, text-reads}
+use Rattle.text_form.specs.Passing.{Passes}
 
 -- ---- the causes
-
--- nothing turns a header and so many row words away
-pub record Passes (form : Form) (header : List ℤ) (row_words : ℕ) : Type 0 where
-  pub header-fits : header_fits form header ≡ true
-  pub count-fits : count_fits form row_words ≡ true
 
 some-none : {G : Type 0} {number : ℕ} → some number ≡ none → G
 some-none {number = number} e = absurd (let z : ◌≡◌ {A = ℕ} 0 1 = cc in omega arith)

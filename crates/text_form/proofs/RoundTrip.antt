@@ -10,7 +10,8 @@ use Rattle.words.specs.Over.{over}
 use Rattle.text_form.specs.Answers.{finished, read_result, write_bytes, write_result}
 use Rattle.text_lines.specs.LineLaws.{Words}
 use Rattle.text_form.proofs.TextLaws.{text-shows}
-use Rattle.text_form.proofs.AnswerLaws.{Passes, passes-cause, read-passing, accepted, written}
+use Rattle.text_form.specs.Passing.{Passes}
+use Rattle.text_form.proofs.AnswerLaws.{passes-cause, read-passing, accepted, written}
 
 -- ---- text that is accepted and written again
 

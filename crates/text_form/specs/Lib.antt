@@ -9,3 +9,5 @@ pub mod Answers
 pub mod Reader
 -- Writer: what the writer's inner functions ask of a buffer.
 pub mod Writer
+-- Passing: a header and rows that no limit turns away.
+pub mod Passing

@@ -23,7 +23,8 @@ use Rattle.words.specs.OverLaws.{written-part}
 use Rattle.text_form.specs.Answers.{finished, cause_unless, read_result, Reads}
 use Rattle.text_form.specs.declared.ReadAnswer.TheVariants.{Read, Refused}
 use Rattle.text_numbers.specs.NumberLaws.{not_some}
-use Rattle.text_form.proofs.AnswerLaws.{Passes, read-passing, refused-finished}
+use Rattle.text_form.specs.Passing.{Passes}
+use Rattle.text_form.proofs.AnswerLaws.{read-passing, refused-finished}
 use Rattle.text_lines.specs.Reader.{numbers_in}
 use Rattle.text_form.specs.Reader.{HasLines}
 use Rattle.text_form.proofs.ReaderLaws.{line-exactly, lent-line, scratch-part}

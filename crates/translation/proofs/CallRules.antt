@@ -16,7 +16,7 @@ use Rattle.language.specs.Calls.{argument_count}
 use Rattle.language.specs.Writes.{writes}
 use Rattle.translation.specs.declared.Use.{Use}
 use Rattle.translation.specs.Translate.{Atom, top, held, together, taken, atom_of, arguments_taken, atom, assigning, target, argument_atoms}
-use Rattle.translation.proofs.HeldCode.{hold_code}
+use Rattle.translation.specs.Holding.{hold_code}
 use Rattle.translation.specs.TranslateSize.{hold_rows}
 use Rattle.translation.specs.Stack.{Stack, bottom, ◌▹◌, depth, laid}
 use Rattle.translation.specs.RunThen.{run_then}

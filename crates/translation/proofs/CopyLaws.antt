@@ -18,7 +18,8 @@ use Rattle.translation.specs.Uses.{use_for, passed_on, direct}
 use Rattle.translation.specs.declared.Use.{Use}
 use Rattle.translation.specs.declared.Use.TheVariants.{Dropped as dropped, Wanted as wanted, Stored as stored}
 use Rattle.translation.specs.Translate.{Atom, number, word, top, held, together, nothing, landed, updated, atom_of, taken, place_taken, arguments_taken, atom, temporary, copy_code, move_code, read_code, store_code, kernel_place, update_code, step_code, postfix_code, expression_code, index_code, arguments_code, part_code, or_empty, test_code, case_tests, labels, Exits, exits, rounds_code, statement_code, arms_code, items_code, items_labels, program_levels, program_code, translate}
-use Rattle.translation.proofs.HeldCode.{hold_code, held-variable}
+use Rattle.translation.specs.Holding.{hold_code}
+use Rattle.translation.proofs.HeldCode.{held-variable}
 use Rattle.translation.specs.TranslateSize.{copied}
 use Rattle.translation.proofs.ExpressionPreserves.{InRange, PlaceInRange, ArgumentsInRange}
 use Rattle.translation.proofs.StatementPreserves.{PartInRange, StatementInRange, ArmsInRange, ItemsInRange}

@@ -12,12 +12,13 @@ use Rattle.language.specs.Meaning.{enter, evaluate, locate, given, value, items}
 use Rattle.language.specs.WellFormed.{NamedExpression, NamedPlace, NamedArguments, SourceName}
 use Rattle.language.specs.Calls.{CallsBelow, PlaceCallsBelow, ArgumentsCallBelow}
 use Rattle.language.specs.Writes.{writes, index_writes}
-use Rattle.language.proofs.Untouched.{leaves-enter, name-apart, expression-leaves}
+use Rattle.language.proofs.UntouchedLaws.{leaves-enter, name-apart, expression-leaves}
 use Rattle.translation.specs.Uses.{use_for, passed_on, direct}
 use Rattle.translation.specs.declared.Use.{Use}
 use Rattle.translation.specs.declared.Use.TheVariants.{Dropped as dropped, Wanted as wanted, Stored as stored}
 use Rattle.translation.specs.Translate.{Atom, word, held, together, nothing, landed, taken, place_taken, arguments_taken, atom_of, atom, store_code, kernel_place, expression_code, index_code, arguments_code, result_levels, expression_levels, index_levels, update_levels, postfix_levels, arguments_levels}
-use Rattle.translation.proofs.HeldCode.{hold_code, held-variable}
+use Rattle.translation.specs.Holding.{hold_code}
+use Rattle.translation.proofs.HeldCode.{held-variable}
 use Rattle.translation.proofs.TranslateBounds.{taken_most, taken-level, arguments-level}
 use Rattle.translation.specs.TranslateSize.{own_rows, index_rows, hold_rows, expression_size, index_size, arguments_size}
 use Rattle.translation.specs.Stack.{Stack, ◌▹◌, depth}

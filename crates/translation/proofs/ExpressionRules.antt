@@ -17,13 +17,13 @@ use Rattle.computation.specs.Computation.{Computation, ret, ◌>>=◌, load, sav
 use Rattle.computation.specs.Run.{State, written, Result, ok, rounds, run}
 use Rattle.language.specs.Trees.{constant, read, minus, binary, Place, variable, element, Items, none, ◌⧺◌}
 use Rattle.language.specs.Meaning.{Signal, next, enter, if_true, update, old_value, new_value, evaluate, perform, items}
-use Rattle.language.proofs.Untouched.{Untouched, untouched_ok, Leaves, Any}
+use Rattle.language.specs.Untouched.{Untouched, untouched_ok, Leaves, Any}
 use Rattle.language.specs.WellFormed.{SourceName}
 use Rattle.translation.specs.Uses.{passed_on}
 use Rattle.translation.specs.declared.Use.{Use}
 use Rattle.translation.specs.declared.Use.TheVariants.{Dropped as dropped, Wanted as wanted, Stored as stored}
 use Rattle.translation.specs.Translate.{Atom, number, word, top, held, taken, temporary, atom, assigning, choosing, copy_code, move_code, target, target_word, step_code}
-use Rattle.translation.proofs.HeldCode.{hold_code}
+use Rattle.translation.specs.Holding.{hold_code}
 use Rattle.translation.specs.TranslateSize.{copy_rows, hold_rows}
 use Rattle.translation.specs.Stack.{Stack, ◌▹◌, depth}
 use Rattle.translation.specs.RunThen.{run_then, then-run, run_then-run}

@@ -1,12 +1,13 @@
 -- Laws of values that wait: they are copied or not.
-use Rattle.std.specs.Prelude.{◌≡◌, refl, Bool, true, false, ℕ, ◌+◌, ◌≤◌, eqb}
+use Rattle.std.specs.Prelude.{◌≡◌, refl, Bool, true, false, ℕ, ◌+◌, ◌≤◌}
 use Rattle.std.proofs.Common.{arith}
 use Rattle.words.specs.Word.{pick}
 use Rattle.words.specs.Laws.{by_cases}
 use Rattle.language.specs.Writes.{writes, index_writes}
 use Rattle.language.specs.Trees.{Expression, Place, variable, element, Items, none}
-use Rattle.translation.specs.Translate.{Atom, number, word, top, held, taken, temporary, atom, assigning, copy_code, move_code, store_code}
+use Rattle.translation.specs.Translate.{Atom, number, word, top, held, taken, assigning, copy_code, move_code, store_code}
 use Rattle.translation.specs.TranslateSize.{copied}
+use Rattle.translation.specs.Holding.{held_by, hold_by, hold_code}
 
 -- What holds a waiting value is its own atom, or the temporary.
 pub held-either : (P : Atom → Type 0) (h : Atom) (W : ℕ → Bool) → P h → P top → P (held h W)
@@ -17,10 +18,6 @@ held-either P (word i) W p q = by (W i)
     by true = q
     by false = p
 held-either P top W p q = q
-
--- What brings a waiting value to the atom that holds it: a copy, or nothing.
-abbrev pub hold_code : (S t : ℕ) → Atom → (ℕ → Bool) → Items
-hold_code S t h W = move_code S t h (held h W)
 
 pub hold-either : (S : ℕ) (P : Items → Type 0) (t : ℕ) (h : Atom) (W : ℕ → Bool) → P (copy_code S t h) → P none → P (hold_code S t h W)
 hold-either S P t (number v) W p q = q
@@ -57,16 +54,10 @@ held-variable called top i = refl
 
 -- ---- by whether it is copied, as 1 or 0
 
-abbrev pub held_by : ℕ → Atom → Atom
-held_by k h = pick (eqb k 1) top h
-
 pub held-by : (h : Atom) (W : ℕ → Bool) → held h W ≡ held_by (copied h W) h
 held-by (number v) W = refl
 held-by (word i) W = by_cases (W i) (λ e. rw e) (λ e. rw e)
 held-by top W = refl
-
-abbrev pub hold_by : (S t : ℕ) → ℕ → Atom → Items
-hold_by S t k h = pick (eqb k 1) (assigning S (temporary S t) (atom S t h) none) none
 
 pub hold-by : (S t : ℕ) (h : Atom) (W : ℕ → Bool) → hold_code S t h W ≡ hold_by S t (copied h W) h
 hold-by S t (number v) W = refl

@@ -15,7 +15,8 @@ use Rattle.translation.specs.Uses.{use_for, passed_on, direct}
 use Rattle.translation.specs.declared.Use.{Use}
 use Rattle.translation.specs.declared.Use.TheVariants.{Dropped as dropped, Wanted as wanted, Stored as stored}
 use Rattle.translation.specs.Translate.{Atom, number, word, top, held, together, nothing, landed, taken, place_taken, arguments_taken, atom_of, atom, copy_code, read_code, store_code, kernel_place, update_code, step_code, postfix_code, expression_code, index_code, arguments_code, part_code, or_empty, test_code, case_tests, labels, items_labels, Exits, exits, rounds_labels, arms_labels, rounds_code, statement_code, arms_code, items_code, program_levels, program_labels, program_code, translate}
-use Rattle.translation.proofs.HeldCode.{hold_code, hold-either, store-either}
+use Rattle.translation.specs.Holding.{hold_code}
+use Rattle.translation.proofs.HeldCode.{hold-either, store-either}
 use Rattle.translation.specs.KernelForm.{mark_times, items_times}
 
 -- 1 where j is below c.

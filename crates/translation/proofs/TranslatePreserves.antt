@@ -12,7 +12,7 @@ use Rattle.words.specs.declared.FaultSort.{FaultSort}
 use Rattle.computation.specs.Computation.{Computation}
 use Rattle.computation.specs.Run.{State, start, spent, fault, Result, ok, stopped, Limit, steps, rounds, run, final, ending_of, Settled}
 use Rattle.computation.proofs.RunLaws.{budget-rounds, rounds-budget}
-use Rattle.computation.proofs.Unlimited.{Ends}
+use Rattle.computation.specs.Unlimited.{Ends}
 use Rattle.language.specs.Trees.{block, Items}
 use Rattle.language.specs.Meaning.{Signal, next, enter, items, perform, exec}
 use Rattle.language.specs.Functions.{function_count, context_by, call_by, context_of}

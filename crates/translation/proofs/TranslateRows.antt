@@ -17,7 +17,7 @@ use Rattle.translation.specs.Uses.{use_for, passed_on, direct}
 use Rattle.translation.specs.declared.Use.{Use}
 use Rattle.translation.specs.declared.Use.TheVariants.{Dropped as dropped, Wanted as wanted, Stored as stored}
 use Rattle.translation.specs.Translate.{Atom, number, word, top, held, together, nothing, landed, atom_of, taken, place_taken, arguments_taken, atom, copy_code, move_code, read_code, store_code, kernel_place, update_code, step_code, postfix_code, argument_atoms, expression_code, index_code, arguments_code, part_code, or_empty, test_code, case_tests, labels, Exits, exits, rounds_code, statement_code, arms_code, items_code, items_labels, program_levels, program_code, translate}
-use Rattle.translation.proofs.HeldCode.{hold_code}
+use Rattle.translation.specs.Holding.{hold_code}
 use Rattle.translation.specs.TranslateSize.{index_rows, copy_rows, hold_rows, store_rows, update_rows, step_rows, postfix_rows, expression_size, index_size, arguments_size, part_size, test_size, cases, rounds_rows, statement_size, arms_size, items_size, program_size}
 
 pub rows_append : (xs ys : Items) → items_rows (xs ⧺ ys) ≡ items_rows xs + items_rows ys

@@ -13,6 +13,8 @@ pub mod KernelForm
 pub mod PlainKernel
 -- Copies of variables in a code, and those that the rule allows.
 pub mod Copies
+-- Held values: the atom that holds a waiting value, and the copy that brings it there.
+pub mod Holding
 -- ---- laws: preservation
 -- The temporaries in use as a stack, and a store laid out with them.
 pub mod Stack

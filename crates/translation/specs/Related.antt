@@ -11,7 +11,7 @@ use Rattle.computation.specs.Computation.{Turn, again, leave, Computation}
 use Rattle.computation.specs.Run.{Write, State, stepped, written, spent, fault, Result, ok, stopped, and_then}
 use Rattle.language.specs.Meaning.{Context}
 use Rattle.language.specs.Functions.{context_by}
-use Rattle.language.proofs.Untouched.{Leaves, Any, NoElement}
+use Rattle.language.specs.Untouched.{Leaves, Any, NoElement}
 use Rattle.translation.specs.Stack.{Stack, bottom, ◌▹◌, depth, laid, read_word, write_word, read_behind, write-behind}
 use Rattle.translation.specs.RunThen.{rounds_then}
 

@@ -15,7 +15,7 @@ use Rattle.words.specs.declared.Ending.{Ending}
 use Rattle.words.specs.declared.Ending.TheVariants.{Spent}
 use Rattle.computation.specs.Run.{Result, ok, stopped, spent, fault, steps, run, start, final, ending_of, Settled}
 use Rattle.computation.proofs.RunLaws.{store-keeps-length}
-use Rattle.computation.proofs.Unlimited.{Ends}
+use Rattle.computation.specs.Unlimited.{Ends}
 use Rattle.computation.specs.WritesMade.{made}
 use Rattle.language.specs.Trees.{block, Items}
 use Rattle.language.specs.Decode.{decode}
@@ -37,7 +37,7 @@ use Rattle.translation.proofs.CopyLaws.{copies-exactly}
 use Rattle.translation_form.proofs.TranslateKernel.{header-layout, header-declared, header-temporaries}
 use Rattle.language_emission.specs.EmissionLaws.{length-emit}
 use Rattle.check_structure.specs.StructuredLaws.{structured-tree}
-use Rattle.translation_legal.proofs.Parameters.{OwnParameters}
+use Rattle.translation_legal.specs.OwnWords.{OwnParameters}
 use Rattle.translation_legal.proofs.EmittedLegal.{translated-legal, translated-decodes, translated-contents}
 use Rattle.check_source.specs.Legal.{Legal}
 use Rattle.check_source.proofs.AcceptsLegal.{accepts-legal as source-accepts}

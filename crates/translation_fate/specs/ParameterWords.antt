@@ -14,7 +14,7 @@ use Rattle.names.proofs.ResolvedNames.{declaration-resolved, declaration-word}
 use Rattle.check_parameter_causes.specs.Demands.{Parameter}
 use Rattle.accepted_calls.specs.Tables.{FunctionTable}
 use Rattle.accepted_calls.proofs.Counts.{parameter-inside}
-use Rattle.translation_legal.proofs.Parameters.{OwnParameters}
+use Rattle.translation_legal.specs.OwnWords.{OwnParameters}
 use Rattle.translation_legal.proofs.ParameterLists.{own-lists}
 
 module _ (S : ℕ) (rows : List ℤ) (t : Tree rows) (functions : FunctionTable (resolved S rows)) where

@@ -9,7 +9,8 @@ use Rattle.words.specs.Layout.{Layout, store_size, array_base, array_length}
 use Rattle.words.specs.Laws.{array-in-store}
 use Rattle.computation.specs.Computation.{Computation}
 use Rattle.computation.specs.Run.{spent, fault, State, Result, Limit, run, start, final, ending_of}
-use Rattle.computation.proofs.Agreement.{Words, ◌within◌, Agree, Same, same_ok, same-stopped, Blind, blind-ret, blind-then, blind-step, blind-save}
+use Rattle.computation.specs.Agreement.{Words, ◌within◌, Agree}
+use Rattle.computation.proofs.AgreementLaws.{Same, same_ok, same-stopped, Blind, blind-ret, blind-then, blind-step, blind-save}
 use Rattle.language.specs.Trees.{block, Items, none, ◌then◌, ◌here◌, define}
 use Rattle.language.specs.Meaning.{Signal, next, breaking, continuing, seeking, returning, perform, items, exec}
 use Rattle.language.specs.Functions.{Function, function_of, function_count, storing, returned, invoke, context_by, call_by, context_of}

@@ -13,7 +13,8 @@ use Rattle.language.specs.FunctionWrites.{functions_write}
 use Rattle.language.specs.Functions.{Function, function_of, function_count}
 use Rattle.language.specs.Calls.{argument_count, CallsBelow, PlaceCallsBelow, ArgumentsCallBelow, PartCallsBelow, StatementCallsBelow, ArmsCallBelow, ItemsCallBelow, arity_in, Numbered, CallsInOrder}
 use Rattle.language.specs.WellFormed.{PlacedItems, PlacedProgram, SourceTree}
-use Rattle.translation.proofs.HeldCode.{hold_code, hold-either, store-either}
+use Rattle.translation.specs.Holding.{hold_code}
+use Rattle.translation.proofs.HeldCode.{hold-either, store-either}
 use Rattle.translation.specs.Uses.{use_for, passed_on, direct}
 use Rattle.translation.specs.declared.Use.{Use}
 use Rattle.translation.specs.declared.Use.TheVariants.{Dropped as dropped, Wanted as wanted, Stored as stored}

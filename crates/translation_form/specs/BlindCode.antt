@@ -10,7 +10,8 @@ use Rattle.arithmetic.proofs.Laws.{element-inside}
 use Rattle.words.specs.declared.Operator.{Operator}
 use Rattle.words.specs.declared.FaultSort.TheVariants.{Guard}
 use Rattle.computation.specs.Computation.{again, leave, Computation, ret, ◌>>◌, step, load, settle}
-use Rattle.computation.proofs.Agreement.{Words, ◌within◌, Blind, blind-weaker, blind-ret, blind-then, blind-step, blind-load, blind-save, blind-fail, blind-loop, blind-again, blind-settle, after_round, then-then}
+use Rattle.computation.specs.Agreement.{Words, ◌within◌}
+use Rattle.computation.proofs.AgreementLaws.{Blind, blind-weaker, blind-ret, blind-then, blind-step, blind-load, blind-save, blind-fail, blind-loop, blind-again, blind-settle, after_round, then-then}
 use Rattle.computation.specs.Run.{State, Limit, and_then, run}
 use Rattle.language.specs.Trees.{Expression, constant, read, minus, binary, assign, call, variable, element, Arguments, no_more, ◌also◌, present, Mark, same_mark, Statement, empty, express, block, if_else, while, goto, abort, give_back, Items, none, ◌then◌, ◌here◌, define, ◌⧺◌}
 use Rattle.language.specs.Meaning.{Context, Signal, next, breaking, continuing, seeking, returning, enters_statement, enters_mark, enter, evaluate, given as argument_values, after_body, perform, items}

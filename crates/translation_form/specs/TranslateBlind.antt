@@ -7,7 +7,7 @@ use Rattle.words.specs.Word.{pick}
 use Rattle.words.specs.Layout.{Layout}
 use Rattle.words.specs.declared.Operator.{Operator}
 use Rattle.words.specs.declared.Operator.TheVariants.{NotEqual}
-use Rattle.computation.proofs.Agreement.{Words, ◌within◌}
+use Rattle.computation.specs.Agreement.{Words, ◌within◌}
 use Rattle.language.specs.Trees.{Expression, constant, read, minus, not, binary, and, or, comma, conditional, assign, compound, prefix, postfix, call, Place, variable, element, Arguments, no_more, ◌also◌, Part, absent, present, case, default, label, Statement, empty, express, block, if_then, if_else, while, do_while, for, switch, break, continue, goto, guarded_if, guarded_do, abort, declare, give_back, Arms, no_arm, arm, Items, none, ◌then◌, ◌here◌, define, ◌⧺◌}
 use Rattle.language.specs.Writes.{writes, index_writes}
 use Rattle.language.specs.WellFormed.{NamedExpression, NamedPlace, NamedArguments, NamedPart, NamedStatement, NamedArms, NamedItems, SourceName}
@@ -15,7 +15,7 @@ use Rattle.translation.specs.Uses.{use_for, passed_on, direct}
 use Rattle.translation.specs.declared.Use.{Use}
 use Rattle.translation.specs.declared.Use.TheVariants.{Dropped as dropped, Wanted as wanted, Stored as stored}
 use Rattle.translation.specs.Translate.{Atom, number, word, top, held, together, nothing, landed, updated, taken, arguments_taken, atom_of, atom, copy_code, move_code, store_code, target, kernel_place, assigning, choosing, temporary, update_code, step_code, postfix_code, argument_atoms, expression_code, index_code, arguments_code, part_code, or_empty, test_code, loop_code, case_tests, rounds_code, labels, Exits, exits, statement_code, arms_code, items_code}
-use Rattle.translation.proofs.HeldCode.{hold_code}
+use Rattle.translation.specs.Holding.{hold_code}
 use Rattle.translation_form.specs.BlindCode.{And, old, new, and-more, Ground, Seen, ArrayKnown, Reads, ReadsAll, reads_none, reads-also, reads-call, reads-constant, reads_word, reads-element, reads-minus, reads-binary, reads_more, after, BlindItems, items-less, items-none, items-here, items-empty, items-assign, items-element, items-block, items-if, items-goto, items-abort, items-return, items-while, items-append}
 
 -- Source trees name words below `first`, which are known all along; the temporaries of their code begin at S, wherever that is.

@@ -7,7 +7,8 @@ use Rattle.language.specs.Trees.{Expression, constant, read, minus, not, binary,
 use Rattle.language.specs.Writes.{writes, index_writes}
 use Rattle.language.specs.FunctionWrites.{functions_write}
 use Rattle.language.specs.Sizes.{expression_depth, place_depth, arguments_depth, parameters_depth, part_depth, statement_depth, arms_depth, items_depth}
-use Rattle.translation.proofs.HeldCode.{hold_code, hold-either, store-either}
+use Rattle.translation.specs.Holding.{hold_code}
+use Rattle.translation.proofs.HeldCode.{hold-either, store-either}
 use Rattle.translation.specs.Uses.{use_for, passed_on, direct}
 use Rattle.translation.specs.declared.Use.{Use}
 use Rattle.translation.specs.declared.Use.TheVariants.{Dropped as dropped, Wanted as wanted, Stored as stored}

@@ -10,7 +10,8 @@ use Rattle.language.specs.Trees.{Expression, constant, read, minus, not, binary,
 use Rattle.language.specs.WellFormed.{Placed, PlacedArms, PlacedItems, PlacedProgram}
 use Rattle.language.specs.TreeLaws.{append-append, has-next, has_left, has_right}
 use Rattle.language.specs.Writes.{writes, index_writes}
-use Rattle.translation.proofs.HeldCode.{hold_code, hold-either, store-either}
+use Rattle.translation.specs.Holding.{hold_code}
+use Rattle.translation.proofs.HeldCode.{hold-either, store-either}
 use Rattle.translation.specs.Uses.{use_for, passed_on, direct}
 use Rattle.translation.specs.declared.Use.{Use}
 use Rattle.translation.specs.declared.Use.TheVariants.{Dropped as dropped, Wanted as wanted, Stored as stored}

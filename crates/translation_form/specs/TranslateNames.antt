@@ -10,7 +10,8 @@ use Rattle.words.specs.declared.Operator.TheVariants.{Add}
 use Rattle.language.specs.Trees.{Expression, constant, read, minus, not, binary, and, or, comma, conditional, assign, compound, prefix, postfix, call, Place, variable, element, Arguments, no_more, ◌also◌, Part, absent, present, case, default, label, Statement, empty, express, block, if_then, if_else, while, do_while, for, switch, break, continue, goto, guarded_if, guarded_do, abort, declare, give_back, Arms, no_arm, arm, Items, none, ◌then◌, ◌here◌, define, ◌⧺◌}
 use Rattle.language.specs.WellFormed.{NamedExpression, NamedPlace, NamedArguments, NamedPart, NamedStatement, NamedArms, NamedItems}
 use Rattle.language.specs.Writes.{writes, index_writes}
-use Rattle.translation.proofs.HeldCode.{hold_code, held-either, held-variable, store-either}
+use Rattle.translation.specs.Holding.{hold_code}
+use Rattle.translation.proofs.HeldCode.{held-either, held-variable, store-either}
 use Rattle.translation.proofs.TranslateBounds.{taken_most, taken-level, arguments-level, stored-level}
 use Rattle.translation.specs.Uses.{use_for, passed_on, direct}
 use Rattle.translation.specs.declared.Use.{Use}

@@ -32,7 +32,8 @@ use Rattle.language_emission.specs.Emitted.{Row, EmittedParameters, no_parameter
 use Rattle.language_emission.proofs.ReadBack.{link-forward}
 use Rattle.translation_legal.specs.Ranges.{Each, none_of, join, first-and}
 use Rattle.translation_legal.specs.Suits.{row-link}
-use Rattle.translation_legal.proofs.Parameters.{Apart, OwnWords, FrontParameters, ParameterAt, parameters-listed, parameters-differ}
+use Rattle.translation_legal.specs.OwnWords.{Apart, OwnWords, FrontParameters}
+use Rattle.translation_legal.proofs.Parameters.{ParameterAt, parameters-listed, parameters-differ}
 use Rattle.translation_legal.proofs.EmittedRows.{not-kind, first-statement}
 use Rattle.translation_legal.proofs.EmittedAhead.{leads-to, definition-next, list_inside}
 use Rattle.translation_legal.proofs.EmittedInside.{CallAt, Inside, around-root, around-on, around-next, around-part, inside-statement, inside-items}

@@ -27,7 +27,8 @@ use Rattle.translation_legal.proofs.EmittedDepth.{emitted-depth}
 use Rattle.translation_legal.proofs.EmittedForms.{emitted-formed}
 use Rattle.translation_legal.proofs.EmittedAhead.{emitted-ahead}
 use Rattle.translation_legal.proofs.EmittedLabels.{labels-alone}
-use Rattle.translation_legal.proofs.Parameters.{OwnParameters, own-front, translated-own}
+use Rattle.translation_legal.specs.OwnWords.{OwnParameters}
+use Rattle.translation_legal.proofs.Parameters.{own-front, translated-own}
 use Rattle.translation_legal.proofs.EmittedFunctions.{emitted-returns, emitted-called, emitted-apart}
 
 -- ---- read-back

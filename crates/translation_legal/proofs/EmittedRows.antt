@@ -27,7 +27,7 @@ use Rattle.language_emission.specs.Emitted.{Row, EmittedExpression, constant-at,
 use Rattle.language_emission.proofs.ReadBack.{kind-binary, parameters-forward}
 use Rattle.translation_legal.specs.Ranges.{Each, none_of, join, first-and}
 use Rattle.translation_legal.specs.Suits.{Suits, RowLegal, suits-unused, suits-value, suits-function, suits-name, suits-link-to, suits-none, suits-absent, row-legal, parameter-legal}
-use Rattle.translation_legal.proofs.Parameters.{ParameterWord, OwnWords, FrontParameters}
+use Rattle.translation_legal.specs.OwnWords.{ParameterWord, OwnWords, FrontParameters}
 
 -- ---- the table of kinds
 

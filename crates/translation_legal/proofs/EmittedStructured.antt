@@ -21,7 +21,7 @@ use Rattle.language_emission.proofs.EmittedLaws.{emitted}
 use Rattle.language_emission.specs.KernelKinds.{a_block}
 use Rattle.translation_legal.specs.FormKinds.{program-kinds}
 use Rattle.translation_legal.specs.Suits.{RowLegal}
-use Rattle.translation_legal.proofs.Parameters.{ParameterWord, OwnWords, FrontParameters}
+use Rattle.translation_legal.specs.OwnWords.{ParameterWord, OwnWords, FrontParameters}
 use Rattle.translation_legal.proofs.EmittedRows.{emitted-rows}
 use Rattle.translation_legal.specs.EmittedKinds.{known-statement}
 use Rattle.translation_legal.proofs.EmittedOnce.{linked-once}

@@ -17,7 +17,7 @@ use Rattle.check_parameter_causes.specs.Demands.{Parameter, first_parameter, nex
 use Rattle.accepted_calls.specs.Tables.{FunctionTable}
 use Rattle.accepted_calls.proofs.Counts.{parameter-inside, parameter-list}
 use Rattle.accepted_calls.proofs.Front.{function-own, function-defined}
-use Rattle.translation_legal.proofs.Parameters.{NotAmong, Apart, ParameterWord, OwnWords, OwnParameters}
+use Rattle.translation_legal.specs.OwnWords.{NotAmong, Apart, ParameterWord, OwnWords, OwnParameters}
 
 module _ (S D : ℕ) (table : List ℤ) (functions : FunctionTable table)
     (within : (definition row : ℕ) → Parameter table definition row → ParameterWord S D (number_at table row 1))

@@ -1,6 +1,5 @@
--- Parameters: the words of each function's are words of declarations, no two of them the same; the rows of a list of parameters, and that no two of
--- them name one word then.
-use Rattle.std.specs.Prelude.{◌≡◌, List, [], ◌∷◌, ℕ, suc, ◌+◌, ◌≤◌, ◌<◌, ℤ, length}
+-- Laws of own words; the rows of a list of parameters, and that no two of them name one word then.
+use Rattle.std.specs.Prelude.{◌≡◌, List, ◌∷◌, ℕ, suc, ◌+◌, ◌≤◌, ◌<◌, ℤ, length}
 use Rattle.std.proofs.Math.Path.{sym}
 use Rattle.std.proofs.Common.{ap, subst, ◌∙◌, add-one, arith, eq-eqb, ne_eqb}
 use Rattle.words.specs.Table.{number_at}
@@ -11,7 +10,7 @@ use Rattle.language.specs.Trees.{Items, none, ◌then◌, ◌here◌, define}
 use Rattle.language.specs.Functions.{Function, function_of, function_count}
 use Rattle.language.specs.FunctionWrites.{functions_write}
 use Rattle.language.specs.Calls.{Numbered}
-use Rattle.language.specs.WellFormed.{NamedWords, SourceTree}
+use Rattle.language.specs.WellFormed.{SourceTree}
 use Rattle.translation.specs.Translate.{translate}
 use Rattle.translation.proofs.FunctionCode.{function-at, code-count}
 use Rattle.check_structure.specs.Structured.{Leads}
@@ -20,38 +19,7 @@ use Rattle.check_function_causes.specs.Demands.{Listed, ended, counted}
 use Rattle.language_emission.specs.Emission.{parameters_link}
 use Rattle.language_emission.specs.Emitted.{Row, EmittedParameters, no_parameter_at, parameter-at}
 use Rattle.translation_legal.specs.Suits.{row-link}
-
--- ---- definitions
-
--- The word is none of these.
-unfoldable pub NotAmong : ℕ → List ℕ → Type 0
-NotAmong word [] = Unit {0}
-NotAmong word (other ∷ words) = (other ≡ word → ⊥) × NotAmong word words
-
-unfoldable pub Apart : List ℕ → Type 0
-Apart [] = Unit {0}
-Apart (word ∷ words) = NotAmong word words × Apart words
-
--- A word that a parameter may have: one of D behind the first S.
-pub record ParameterWord (S D word : ℕ) : Type 0 where
-  pub least : S ≤ word
-  pub most : word < S + D
-
--- The words of a function's parameters. "Parameters count in D, and for .. 19 as c's first items; in the kernel they name their words, S to S+D−1".
-pub record OwnWords (S D : ℕ) (words : List ℕ) : Type 0 where
-  pub declared : NamedWords (ParameterWord S D) 0 words
-  pub apart : Apart words
-
--- So in each function of a program.
-abbrev pub OwnParameters : ℕ → ℕ → Items → Type 0
-OwnParameters S D program = (f : ℕ) → f < function_count program → OwnWords S D (function_of f program).parameters
-
--- The parameters of the definitions that items begin with.
-unfoldable pub FrontParameters : (List ℕ → Type 0) → Items → Type 0
-FrontParameters P none = Unit {0}
-FrontParameters P (s then is) = Unit {0}
-FrontParameters P (m here is) = Unit {0}
-FrontParameters P (define f words body is) = P words × FrontParameters P is
+use Rattle.translation_legal.specs.OwnWords.{FrontParameters, NotAmong, OwnParameters, OwnWords}
 
 -- ---- of programs
 

@@ -3,6 +3,8 @@
 -- ---- definitions
 -- Fields that suit their sorts.
 pub mod Suits
+-- Own words: the words of each function's parameters.
+pub mod OwnWords
 -- ---- laws
 -- Trees of kernel form have the kernel's kinds.
 pub mod FormKinds

@@ -18,7 +18,8 @@ use Rattle.translation.specs.Translate.{Atom, together, atom_of, taken, atom, ar
 use Rattle.translation.specs.TranslateSize.{copied}
 use Rattle.translation.proofs.TranslateBounds.{taken_most}
 use Rattle.translation.proofs.TranslateRows.{rows-atom}
-use Rattle.translation.proofs.HeldCode.{copied-most, held_by, held-by, hold_by, hold-by}
+use Rattle.translation.specs.Holding.{held_by, hold_by}
+use Rattle.translation.proofs.HeldCode.{copied-most, held-by, hold-by}
 use Rattle.language_emission.specs.Emission.{row_of, arguments_link, emit_expression, emit_arguments, emit_items}
 use Rattle.language_emission.specs.EmissionLaws.{length-expression, length-arguments}
 use Rattle.language_shapes.specs.Shapes.{OptionalOnward, ArgumentAt}

@@ -4,7 +4,7 @@ use Rattle.language.specs.Trees.{Arguments, no_more, ◌also◌, Items, none, �
 use Rattle.translation.specs.declared.Use.TheVariants.{Wanted as wanted}
 use Rattle.translation.specs.Translate.{atom_of, taken, atom, expression_code, expression_levels}
 use Rattle.translation.specs.TranslateSize.{expression_size}
-use Rattle.translation.proofs.HeldCode.{held_by, hold_by}
+use Rattle.translation.specs.Holding.{held_by, hold_by}
 
 -- `called f i`: whether function f can write the variable i.
 module _ (called : ℕ → ℕ → Bool) where

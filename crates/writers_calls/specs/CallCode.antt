@@ -12,7 +12,8 @@ use Rattle.translation.specs.declared.Use.TheVariants.{Wanted as wanted}
 use Rattle.translation.specs.Translate.{together, atom_of, taken, arguments_taken, expression_code, expression_levels, arguments_levels}
 use Rattle.translation.specs.TranslateSize.{copied, expression_size, arguments_size}
 use Rattle.translation.proofs.TranslateRows.{rows_append, rows-expression}
-use Rattle.translation.proofs.HeldCode.{held_by, held-by, hold_by}
+use Rattle.translation.specs.Holding.{held_by, hold_by}
+use Rattle.translation.proofs.HeldCode.{held-by}
 use Rattle.measures_table.specs.Arguments.{argument_copies}
 use Rattle.writers_steps.specs.AtomLaws.{rows-hold}
 use Rattle.writers_calls.specs.Arguments.{taken_by, size_by, levels_by, code_by}

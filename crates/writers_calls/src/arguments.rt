@@ -5,7 +5,7 @@ ghost use Rattle.language.specs.Calls.{argument_count};
 ghost use Rattle.language.specs.Decode.{expression_at, argument_list_at};
 ghost use Rattle.language_shapes.specs.Source.{Source};
 ghost use Rattle.translation.specs.Translate.{atom_of, taken};
-ghost use Rattle.translation.proofs.HeldCode.{held_by};
+ghost use Rattle.translation.specs.Holding.{held_by};
 ghost use Rattle.measures_table.specs.Parts.{called_in};
 ghost use Rattle.measures_table.specs.Measures.{Measured};
 ghost use Rattle.writers_calls.specs.Asks.{Passing, CountIs, TakenIs};

@@ -18,7 +18,7 @@ use Rattle.language.specs.DecodeLaws.{part-some}
 use Rattle.translation.specs.declared.Use.TheVariants.{Wanted as wanted}
 use Rattle.translation.specs.Translate.{atom_of, expression_levels, expression_code, operand_code, operand_levels}
 use Rattle.translation.specs.TranslateSize.{expression_size, operand_size}
-use Rattle.translation.proofs.HeldCode.{hold_by}
+use Rattle.translation.specs.Holding.{hold_by}
 use Rattle.language_emission.specs.Emission.{emit_items}
 use Rattle.measures_table.specs.Parts.{called_in}
 use Rattle.writers_rows.specs.Room.{Room, more_rows}

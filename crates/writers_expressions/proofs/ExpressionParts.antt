@@ -20,7 +20,7 @@ use Rattle.language_shapes.specs.Functions.{is_call}
 use Rattle.language_shapes.specs.Source.{Source}
 use Rattle.translation.specs.declared.Use.{Use}
 use Rattle.translation.specs.Translate.{atom_of, expression_code, operand_code, expression_levels, operand_levels}
-use Rattle.translation.proofs.HeldCode.{hold_by}
+use Rattle.translation.specs.Holding.{hold_by}
 use Rattle.measures_table.specs.Parts.{called_in, first_operand, above_first, first_copied, second_use, use_passed, UseFits, OwnAt}
 use Rattle.measures_table.specs.MeasureLaws.{passed-fits, size-parts, levels-parts, first-copied-most, own-copies}
 use Rattle.measures_table.specs.declared.Own.{Own}

@@ -8,7 +8,7 @@ use Rattle.translation.specs.Uses.{direct}
 use Rattle.translation.specs.declared.Use.{Use}
 use Rattle.translation.specs.declared.Use.TheVariants.{Wanted as wanted}
 use Rattle.translation.specs.Translate.{nothing, landed, atom_of, atom, temporary, assigning, choosing, copy_code, expression_code, arguments_code, operand_code}
-use Rattle.translation.proofs.HeldCode.{hold_code}
+use Rattle.translation.specs.Holding.{hold_code}
 use Rattle.measures_table.specs.Parts.{called_in}
 use Rattle.writers_rows.specs.Atoms.{atom_tree}
 use Rattle.writers_rows.specs.Straight.{straight_code}

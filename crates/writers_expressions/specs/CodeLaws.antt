@@ -14,7 +14,8 @@ use Rattle.translation.specs.Uses.{passed_on, direct}
 use Rattle.translation.specs.declared.Use.{Use}
 use Rattle.translation.specs.declared.Use.TheVariants.{Dropped as dropped, Wanted as wanted}
 use Rattle.translation.specs.Translate.{Atom as Held, number, word, top, landed, atom_of, move_code, expression_code, operand_code}
-use Rattle.translation.proofs.HeldCode.{held-variable, hold_code, hold_by, hold-by}
+use Rattle.translation.specs.Holding.{hold_code, hold_by}
+use Rattle.translation.proofs.HeldCode.{held-variable, hold-by}
 use Rattle.translation.specs.TranslateSize.{expression_size, operand_size}
 use Rattle.translation.proofs.TranslateRows.{rows_append, rows-expression}
 use Rattle.language_emission.specs.Emission.{row_of, emit_statement, emit_items}

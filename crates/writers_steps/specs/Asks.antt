@@ -8,7 +8,7 @@ use Rattle.translation.specs.Uses.{direct}
 use Rattle.translation.specs.declared.Use.{Use}
 use Rattle.translation.specs.Translate.{atom_of, atom, target_word, kernel_place, expression_levels}
 use Rattle.translation.specs.TranslateSize.{index_rows as index_rows_of, store_rows, copied, own_rows}
-use Rattle.translation.proofs.HeldCode.{held_by}
+use Rattle.translation.specs.Holding.{held_by}
 use Rattle.measures_table.specs.Parts.{called_in, first_copied, UseFits}
 use Rattle.measures_table.specs.Measures.{Measured}
 use Rattle.language_shapes.specs.Functions.{is_call}

@@ -12,7 +12,8 @@ use Rattle.translation.specs.declared.Use.{Use}
 use Rattle.translation.specs.declared.Use.TheVariants.{Dropped as dropped, Wanted as wanted, Stored as stored}
 use Rattle.translation.specs.Translate.{Atom as Held, number, word, top, held, atom_of, taken, temporary, atom, assigning, target_word, kernel_place}
 use Rattle.translation.specs.TranslateSize.{update_rows, postfix_rows, copied}
-use Rattle.translation.proofs.HeldCode.{taken-held, held-variable as held-no-index, held_by, held-by, hold_by}
+use Rattle.translation.specs.Holding.{held_by, hold_by}
+use Rattle.translation.proofs.HeldCode.{taken-held, held-variable as held-no-index, held-by}
 use Rattle.language_shapes.specs.Shapes.{choice_tree, expression_tree, PlaceOnward}
 use Rattle.language_shapes.specs.Source.{Name, most_arrays, ExpressionAt, PlaceAt as ShapePlaceAt}
 use Rattle.measures_table.specs.Parts.{called_in, UseFits, Holding}

@@ -5,7 +5,7 @@ ghost use Rattle.language.specs.Trees.{binary, assign, variable, element};
 ghost use Rattle.language.specs.Decode.{place_of, expression_at};
 ghost use Rattle.translation.specs.Translate.{atom_of, place_taken, read_code, kernel_place, update_code, step_code, postfix_code};
 ghost use Rattle.translation.specs.TranslateSize.{update_rows, step_rows, postfix_rows};
-ghost use Rattle.translation.proofs.HeldCode.{hold_by};
+ghost use Rattle.translation.specs.Holding.{hold_by};
 ghost use Rattle.language_shapes.specs.Shapes.{place_tree as place_shape_tree};
 ghost use Rattle.language_emission.specs.Emission.{emit_items};
 ghost use Rattle.measures_table.specs.Parts.{called_in};

@@ -7,7 +7,7 @@ use Prim.Native.Nat.{ℕ, ◌+◌}
 use lib.ListN.{length, drop}
 use lib.Seq.{length-take-le}
 use Rattle.words.specs.Layout.{Layout}
-use Rattle.computation.proofs.Remaining.{spend}
+use Rattle.computation.specs.Remaining.{spend}
 use Rattle.language.specs.Decode.{statement_at}
 use Rattle.language.specs.Meaning.{exec}
 use Rattle.language.specs.Functions.{function_count}

@@ -6,7 +6,7 @@ use native.Mathlib.Omega.{arith}
 use lib.IntN.{ℤ, pos, negsuc}
 use lib.ListN.{set, length-set}
 use Rattle.words.specs.Laws.{back, by_cases}
-use Rattle.computation.proofs.Remaining.{gives, spend, Rest, onward}
+use Rattle.computation.specs.Remaining.{gives, spend, Rest, onward}
 use Rattle.machine_operations.specs.Rows.{value_at, context_at, evaluate_at, locate_at}
 use Rattle.machine_operations.proofs.Operands.{answered-least, goes, hands-up, found, lost, handed-value, link-asks, linked, linked-place, handed-on, operands-handed, chosen-true, chosen-false, fetched, negated, hands-placed, handed_on-placed, element-handed, array-asks, array-is, decided-left, decided-right, decided-bit, truth-is}
 use Rattle.machine_operations.proofs.Positions.{given-at, place_inside, locate-inside, place-variable}

@@ -3,7 +3,7 @@
 use mathlib.Core.Path.{◌≡◌}
 use Prim.Native.Nat.{◌+◌, ◌*◌, ◌<◌, ◌≤◌}
 use lib.ListN.{length}
-use Rattle.computation.proofs.Remaining.{spend}
+use Rattle.computation.specs.Remaining.{spend}
 use Rattle.machine_operations.specs.Rows.{context_at}
 use Rattle.words.specs.Table.{row_count}
 use Rattle.machine_flows.proofs.Items.{ahead}

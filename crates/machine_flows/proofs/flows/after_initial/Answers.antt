@@ -6,7 +6,7 @@ use lib.IntN.{ℤ}
 use lib.ListN.{set, length-set}
 use Rattle.words.specs.Table.{number_at}
 use Rattle.words.specs.Laws.{back}
-use Rattle.computation.proofs.Remaining.{gives}
+use Rattle.computation.specs.Remaining.{gives}
 use Rattle.language.specs.Meaning.{next}
 use Rattle.machine_operations.proofs.Operands.{goes}
 use Rattle.machine_flows.proofs.Answers.{ran-next, hands-flow}

@@ -1,7 +1,7 @@
 -- `constant` casts the word of its field.
 use mathlib.Core.Path.{ap, ◌∙◌}
 use lib.IntN.{ℤ}
-use Rattle.computation.proofs.Remaining.{gives}
+use Rattle.computation.specs.Remaining.{gives}
 use Rattle.machine_operations.proofs.Decoding.{wide_fits, answered-wide}
 use borrow.Author.Rules.{rules}
 use Rattle.machine_operations.proofs.operations.constant.Goals as goal

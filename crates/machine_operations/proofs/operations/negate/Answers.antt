@@ -3,7 +3,7 @@ use mathlib.Core.Path.{refl, sym, ap, ◌∙◌}
 use lib.IntN.{ℤ}
 use Rattle.words.specs.Laws.{back}
 use Rattle.arithmetic.specs.Arithmetic.{logical_not, minus as minus_word}
-use Rattle.computation.proofs.Remaining.{gives}
+use Rattle.computation.specs.Remaining.{gives}
 use Rattle.machine_operations.proofs.Decoding.{wide_fits, answered-wide}
 use Rattle.machine_operations.proofs.Operands.{goes, hands-up, settled_is, chosen-true, chosen-false}
 use borrow.Author.Rules.{rules}

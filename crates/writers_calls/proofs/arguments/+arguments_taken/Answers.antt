@@ -4,7 +4,7 @@ use native.Mathlib.Omega.{arith}
 use Rattle.language.specs.Decode.{expression_at, argument_list_at}
 use Rattle.language.specs.Trees.{no_more}
 use Rattle.translation.specs.Translate.{atom_of}
-use Rattle.translation.proofs.HeldCode.{held_by}
+use Rattle.translation.specs.Holding.{held_by}
 use Rattle.translation.proofs.TranslateBounds.{taken_most}
 use Rattle.language_shapes.specs.ShapeLaws.{argued}
 use Rattle.measures_table.specs.Parts.{called_in}

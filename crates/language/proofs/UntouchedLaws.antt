@@ -1,4 +1,4 @@
--- Untouched words: an expression leaves every variable alone that it cannot write, under every limit, and where its run stops too. By
+-- Laws of untouched words: an expression leaves every variable alone that it cannot write, under every limit, and where its run stops too. By
 -- rules for computations, and then by induction on the expression.
 use Rattle.std.specs.Prelude.{◌≡◌, Bool, ◌||◌, List, ℕ, ◌+◌, ◌<◌, ◌≤◌, eqb, ℤ, pos, length, get_or}
 use Rattle.std.proofs.Math.Path.{refl}
@@ -13,26 +13,14 @@ use Rattle.arithmetic.proofs.Laws.{element-inside}
 use Rattle.arithmetic.specs.Arithmetic.{Outcome, value, fault, is_true, apply, minus as minus_word, element as element_word}
 use Rattle.words.specs.declared.Operator.{Operator}
 use Rattle.computation.specs.Computation.{Computation, ret, ◌>>=◌, step, load, save, settle}
-use Rattle.computation.specs.Run.{State, stepped, Stop, spent, Result, ok, stopped, Limit, has_room, and_then, run}
+use Rattle.computation.specs.Run.{State, stepped, spent, Result, ok, stopped, has_room, and_then, run}
 use Rattle.language.specs.Trees.{Expression, constant, read, minus, not, binary, and, or, comma, conditional, assign, compound, prefix, postfix, call, Place, variable, element, Arguments, no_more, ◌also◌}
 use Rattle.language.specs.Meaning.{enter, update, Context, evaluate, locate, given}
 use Rattle.language.specs.WellFormed.{SourceName}
 use Rattle.language.specs.Writes.{is_variable, writes, index_writes, arguments_write}
+use Rattle.language.specs.Untouched.{Any, Leaves, NoElement, Untouched, untouched_ok, untouched_stopped}
 
 -- ---- computations
-
--- A result in which word i holds w; where there is a value, Q holds of it.
-pub data Untouched {A : Type 0} (i : ℕ) (Q : A → Type 0) (w : ℤ) : Result A → Type 0 where
-  untouched_ok : {a : A} {σ : State} → get_or σ.store i (pos 0) ≡ w → Q a → Untouched i Q w (ok a σ)
-  untouched_stopped : {why : Stop} {σ : State} → get_or σ.store i (pos 0) ≡ w → Untouched i Q w (stopped why σ)
-
--- A computation that leaves word i as it was, and whose value satisfies Q.
-pub record Leaves {A : Type 0} (i : ℕ) (Q : A → Type 0) (m : Computation A) : Type 0 where
-  pub leaves : (l : Limit) (σ : State) → Untouched i Q (get_or σ.store i (pos 0)) (run l m σ)
-
--- Nothing is said of the value.
-abbrev pub Any : {A : Type 0} → A → Type 0
-Any a = Unit {0}
 
 module _ {i : ℕ} where
   pub leaves_ret : {A : Type 0} {Q : A → Type 0} {a : A} → Q a → Leaves i Q (ret a)
@@ -84,10 +72,6 @@ module _ {i : ℕ} where
 
 other-variable : (j i : ℕ) → eqb j i ≡ false → i ≡ j → ⊥
 other-variable j i e f = true≢false (sym (eq-eqb j i (sym f)) ∙ e)
-
--- No element of an array is word i.
-abbrev pub NoElement : Layout → ℕ → Type 0
-NoElement L i = (array : ℕ) (index : ℤ) (position : ℕ) → element_word (array_base L array) (array_length L array) index ≡ value position → i ≡ position → ⊥
 
 -- "Variables, then the arrays in order": every element lies in the first S words, behind the variables.
 element-in-store : (L : Layout) (array position : ℕ) → array_base L array ≤ position → position < array_base L array + array_length L array → position < store_size L

@@ -6,7 +6,7 @@ use Rattle.language.specs.Program.{Finished, contents, run_table}
 use Rattle.flat.specs.Lines.{FlatLine}
 use Rattle.flat.specs.Words.{line_parts, five_words}
 use Rattle.flat.specs.Results.{run_list}
-use Rattle.flat_fate.proofs.Addresses.{flat_of}
+use Rattle.flat_fate.specs.Addresses.{flat_of}
 
 -- The words of lines from line i on.
 unfoldable pub words_from : ℕ → List FlatLine → List ℤ

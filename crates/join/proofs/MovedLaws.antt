@@ -1,67 +1,19 @@
--- Moved: a table that holds another one's rows at other places, with its links led along. Over any map of row numbers that grows along the links that are
--- kept; those at the seam of a join are spoken of by themselves.
-use Rattle.std.specs.Prelude.{◌≡◌, Bool, ◌||◌, List, ℕ, zero, suc, ◌≤◌, ◌<◌, eqb, ℤ}
+-- Laws of moved rows: over any map of row numbers that grows along the links that are kept; those at the seam of a join are spoken of by themselves.
+use Rattle.std.specs.Prelude.{◌≡◌, Bool, List, ℕ, zero, suc, ◌≤◌, ◌<◌, eqb, ℤ}
 use Rattle.std.proofs.Math.Path.{refl, ap}
 use Rattle.std.proofs.Common.{◌∙◌, ⊎_elim, arith, eqb-true}
 use Rattle.std.proofs.Math.Bool.{true, false}
 use Rattle.words.specs.Word.{natural, pick}
-use Rattle.words.specs.Table.{row_count, Whole, word_at, number_at}
+use Rattle.words.specs.Table.{row_count, number_at}
 use Rattle.words.specs.Laws.{either}
-use Rattle.words.specs.Kinds.{kind_of, kind_at, sort_of, sort_at, variable, declared_number, function_number, is_link}
+use Rattle.words.specs.Kinds.{kind_of, kind_at, sort_of, sort_at, variable, declared_number, is_link}
 use Rattle.words.specs.Declarations.{is_declaration}
 use Rattle.words.specs.Links.{link}
 use Rattle.words.specs.declared.Form.{Form}
 use Rattle.check_structure.specs.Structured.{Leads, Structured}
 use Rattle.check_fields.specs.declared.Bounds.{Bounds}
 use Rattle.check_function_causes.specs.Functions.{is_definition}
-use Rattle.join.specs.Join.{first_item}
-use Rattle.join.proofs.Fronts.{at_seam}
-
--- Where a link leads; 0 stays absent.
-abbrev pub moved_link : (ℕ → ℕ) → ℕ → ℕ
-moved_link ρ zero = 0
-moved_link ρ (suc l) = ρ (suc l)
-
--- A field of this sort is the number of a function.
-abbrev pub numbers_function : ℕ → Bool
-numbers_function sort = eqb sort function_number
-
--- Row r of the table `rows` is row ρ r of the table `joined`, and function f of the one is function φ f of the other.
-pub record Holds (joined rows : List ℤ) (ρ φ : ℕ → ℕ) : Type 0 where
-  pub whole : Whole joined
-  pub inside : (row : ℕ) → row < row_count rows → ρ row < row_count joined
-  pub grows : (row field : ℕ) → field < 6 → Leads rows row field → at_seam rows row field ≡ false → ρ row < ρ (link rows row field)
-  pub kind : (row : ℕ) → row < row_count rows → word_at joined (ρ row) 0 ≡ word_at rows row 0
-  -- Of the words that are kept: a word that is no link and no function's number stays, ..
-  pub stays : (row field : ℕ) → row < row_count rows → field < 6 → at_seam rows row field ≡ false → is_link (sort_at rows row field) ≡ false → numbers_function (sort_at rows row field) ≡ false
-      → word_at joined (ρ row) field ≡ word_at rows row field
-  pub numbered : (row field : ℕ) → row < row_count rows → field < 6 → at_seam rows row field ≡ false → numbers_function (sort_at rows row field) ≡ true
-      → number_at joined (ρ row) field ≡ φ (number_at rows row field)
-  -- .. and a link leads along.
-  pub follows : (row field : ℕ) → row < row_count rows → field < 6 → at_seam rows row field ≡ false → is_link (sort_at rows row field) ≡ true
-      → number_at joined (ρ row) field ≡ moved_link ρ (number_at rows row field)
-  -- The old block begins behind the definitions.
-  pub begins : number_at joined (ρ 0) 1 ≡ moved_link ρ (first_item rows)
-  pub begins_later : 0 < first_item rows → ρ 0 < ρ (first_item rows)
-
--- A field of this sort names a store word, in a table whose names are resolved.
-abbrev pub names_word : ℕ → Bool
-names_word sort = eqb sort variable || eqb sort declared_number
-
--- Row r of the table `rows` is row ρ r of the table `joined`, and names the word `π i` where it named the word i, and the function φ f where it named f.
-pub record HoldsRenamed (π φ : ℕ → ℕ) (joined rows : List ℤ) (ρ : ℕ → ℕ) : Type 0 where
-  pub whole : Whole joined
-  pub grows : (row field : ℕ) → field < 6 → Leads rows row field → at_seam rows row field ≡ false → ρ row < ρ (link rows row field)
-  pub kind : (row : ℕ) → row < row_count rows → number_at joined (ρ row) 0 ≡ number_at rows row 0
-  pub stays : (row field : ℕ) → row < row_count rows → field < 6 → at_seam rows row field ≡ false → is_link (sort_at rows row field) ≡ false → numbers_function (sort_at rows row field) ≡ false
-      → names_word (sort_at rows row field) ≡ false → word_at joined (ρ row) field ≡ word_at rows row field
-  pub numbered : (row field : ℕ) → row < row_count rows → field < 6 → at_seam rows row field ≡ false → numbers_function (sort_at rows row field) ≡ true
-      → number_at joined (ρ row) field ≡ φ (number_at rows row field)
-  pub named : (row field : ℕ) → row < row_count rows → field < 6 → at_seam rows row field ≡ false → names_word (sort_at rows row field) ≡ true → number_at joined (ρ row) field ≡ π (number_at rows row field)
-  pub follows : (row field : ℕ) → row < row_count rows → field < 6 → at_seam rows row field ≡ false → is_link (sort_at rows row field) ≡ true
-      → number_at joined (ρ row) field ≡ moved_link ρ (number_at rows row field)
-  pub begins : number_at joined (ρ 0) 1 ≡ moved_link ρ (first_item rows)
-  pub begins_later : 0 < first_item rows → ρ 0 < ρ (first_item rows)
+use Rattle.join.specs.Moved.{at_seam, Holds, HoldsRenamed, moved_link, names_word, numbers_function}
 
 -- The item before a row, at its old place.
 pub record Earlier (rows : List ℤ) (ρ : ℕ → ℕ) (row item : ℕ) : Type 0 where

@@ -1,50 +1,21 @@
--- Addresses: the line that each label of a kernel tree stands before. Where a label stands once, its address is found; so the code of
--- every kernel program stands in its own list, and shares its fate.
+-- Laws of addresses: where a label stands once, its address is found; so the code of every kernel program stands in its own list, and
+-- shares its fate.
 use Rattle.std.specs.Prelude.{◌≡◌, Bool, true, false, List, [], ◌∷◌, ℕ, suc, ◌+◌, ◌≤◌, ℤ, eqb}
 use Rattle.std.proofs.Math.Path.{refl, subst}
 use Rattle.std.proofs.Common.{sym, ◌∙◌, ap, arith, eq-eqb}
 use Rattle.std.proofs.Math.ListN.{length}
 use Rattle.words.specs.Word.{pick}
 use Rattle.words.specs.Layout.{Layout}
-use Rattle.language.specs.Trees.{label, case, default, Statement, empty, express, block, if_then, if_else, while, do_while, for, switch, break, continue, goto, guarded_if, guarded_do, abort, declare, Items, none, ◌then◌, ◌here◌, give_back, define}
+use Rattle.language.specs.Trees.{label, Statement, Items, none}
 use Rattle.language.specs.Calls.{ItemsCallBelow}
 use Rattle.translation.specs.KernelForm.{mark_times, statement_times, items_times, KernelStatement, kernel-empty, kernel-assign, kernel-block, kernel-if, kernel-while, kernel-goto, kernel-abort, kernel-return, KernelItems, kernel-none, kernel-then, kernel-label}
 use Rattle.flat.specs.Lines.{FlatLine, next_at}
 use Rattle.flat_fate.specs.Stands.{StandsItems}
-use Rattle.flat_fate.specs.Code.{operand_of, always, statement_lines, items_lines, items_code}
-use Rattle.flat_fate.proofs.CodeStands.{first_at, second_at, body_at, Has, items-length, Addressed, AddressedItems, items-stands}
+use Rattle.flat_fate.specs.Code.{operand_of, always, statement_lines, items_lines}
+use Rattle.flat_fate.specs.Branches.{first_at, second_at, body_at}
+use Rattle.flat_fate.proofs.CodeStands.{Has, items-length, Addressed, AddressedItems, items-stands}
 use Rattle.flat_fate.specs.FlatFate.{FlatFate, flat-fate}
-
--- The address of the label l in a tree whose lines begin at line i; `other` where the tree does not have it. A later label wins, as in a
--- table that is written in the order of the lines.
-unfoldable mutual
-  pub statement_address : ℕ → Statement → ℕ → ℕ → ℕ
-  statement_address l empty i other = other
-  statement_address l (express e) i other = other
-  statement_address l (block is) i other = items_address l is i other
-  statement_address l (if_then e on_true) i other = other
-  statement_address l (if_else e on_true on_false) i other =
-      statement_address l on_false (second_at (statement_lines on_true) (statement_lines on_false) i) (statement_address l on_true (first_at (statement_lines on_true) (statement_lines on_false) i) other)
-  statement_address l (while e body) i other = statement_address l body (body_at (always (operand_of e)) i) other
-  statement_address l (do_while body e) i other = other
-  statement_address l (for first test action body) i other = other
-  statement_address l (switch e is) i other = other
-  statement_address l break i other = other
-  statement_address l continue i other = other
-  statement_address l (goto k) i other = other
-  statement_address l (guarded_if arms) i other = other
-  statement_address l (guarded_do arms) i other = other
-  statement_address l abort i other = other
-  statement_address l (declare word e) i other = other
-  statement_address l (give_back value) i other = other
-
-  pub items_address : ℕ → Items → ℕ → ℕ → ℕ
-  items_address l none i other = other
-  items_address l (s then is) i other = items_address l is (i + statement_lines s) (statement_address l s i other)
-  items_address l (case v here is) i other = items_address l is i other
-  items_address l (default here is) i other = items_address l is i other
-  items_address l (label k here is) i other = items_address l is i (pick (eqb l k) i other)
-  items_address l (define f words body is) i other = items_address l is i other
+use Rattle.flat_fate.specs.Addresses.{address_in, flat_of, items_address, statement_address}
 
 label-absent : (l k i other : ℕ) → mark_times l (label k) ≡ 0 → pick (eqb l k) i other ≡ other
 label-absent l k i other h = go (eqb l k) h
@@ -124,12 +95,6 @@ module _ (L : Layout) (lines : List FlatLine) (address : ℕ → ℕ) where
       )
 
 -- ---- the flat list of a program
-
-abbrev pub address_in : Items → ℕ → ℕ
-address_in contents l = items_address l contents 0 0
-
-unfoldable pub flat_of : Items → List FlatLine
-flat_of contents = items_code (address_in contents) contents 0
 
 module _ (L : Layout) (contents : Items) (form : KernelItems false none contents) (arity : ℕ → ℕ) (calls : ItemsCallBelow arity 0 contents) (once : (l : ℕ) → items_times l contents ≤ 1) where
   own-lines : Has L (flat_of contents) (address_in contents) 0 (flat_of contents)

@@ -1,23 +1,10 @@
--- Runs with no limit on steps: "a run ends exactly when some whole number as its budget, past 32 bits too, gives another ending
--- than spent. Its ending, count and store are those that the least such number gives. A machine whose budget is that number or
--- more gives the same."
+-- Laws of runs with no limit on steps: "A machine whose budget is that number or more gives the same."
 use Rattle.std.specs.Prelude.{◌≡◌, ℕ, suc, ◌+◌, ◌≤◌}
 use Rattle.std.proofs.Common.{sym, ◌∙◌, ap, arith}
 use Rattle.computation.specs.Computation.{Computation}
 use Rattle.computation.specs.Run.{State, steps, run, final, Settled}
 use Rattle.computation.proofs.RunLaws.{count-never-passes, run_wider, wider-budget, budget-rounds, rounds-budget}
-
-module _ {A : Type 0} (m : Computation A) (σ : State) where
-  -- The run ends with no limit on steps.
-  pub record Ends : Type 0 where
-    pub budget : ℕ
-    pub settled : Settled (run (steps budget) m σ)
-
-  -- The least budget with which it ends.
-  pub record LeastBudget : Type 0 where
-    pub budget : ℕ
-    pub settled : Settled (run (steps budget) m σ)
-    pub least : (b : ℕ) → Settled (run (steps b) m σ) → budget ≤ b
+use Rattle.computation.specs.Unlimited.{Ends, LeastBudget}
 
 module _ {A : Type 0} (m : Computation A) (σ : State) where
   -- Any two budgets that are enough give the same.

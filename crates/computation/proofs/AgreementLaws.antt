@@ -1,5 +1,5 @@
--- Agreement: two states that agree on a set of words, and computations that do not tell them apart. A rule for each constructor; for
--- every limit, so that runs that are cut off are covered too.
+-- Laws of agreement: computations that do not tell apart two states that agree. A rule for each constructor; for every limit, so that runs that
+-- are cut off are covered too.
 use Rattle.std.specs.Prelude.{◌≡◌, refl, Bool, true, false, List, [], ◌∷◌, ℕ, zero, suc, ℤ, pos, length, set}
 use Rattle.std.proofs.Math.Path.{sym}
 use Rattle.std.proofs.Common.{◌∙◌, ap, arith}
@@ -10,21 +10,8 @@ use Rattle.words.specs.Word.{pick}
 use Rattle.words.specs.declared.FaultSort.{FaultSort}
 use Rattle.arithmetic.specs.Arithmetic.{Outcome, value, fault as faulty}
 use Rattle.computation.specs.Computation.{Turn, again, leave, Computation, ret, ◌>>=◌, step, load, save, fail, loop, settle}
-use Rattle.computation.specs.Run.{State, stepped, written, Stop, spent, fault, Result, ok, stopped, Limit, steps, rounds, and_then, has_room, run_step, rounds_from, after_turn, iterate, run}
-
--- A set of store words.
-abbrev pub Words : Type 1
-Words = ℕ → Type 0
-
-infixl 20 ◌within◌
-abbrev pub ◌within◌ : Words → Words → Type 0
-P within Q = (i : ℕ) → P i → Q i
-
--- The two states have the same count, stores of one length, and the same values in the words P.
-pub record Agree (P : Words) (σ τ : State) : Type 0 where
-  pub counts : σ.count ≡ τ.count
-  pub lengths : length σ.store ≡ length τ.store
-  pub values : (i : ℕ) → P i → get_or σ.store i (pos 0) ≡ get_or τ.store i (pos 0)
+use Rattle.computation.specs.Run.{State, stepped, Stop, spent, Result, ok, stopped, Limit, steps, rounds, and_then, has_room, run_step, rounds_from, iterate, run}
+use Rattle.computation.specs.Agreement.{Words, ◌within◌, Agree}
 
 agree-fewer : {P Q : Words} {σ τ : State} → Q within P → Agree P σ τ → Agree Q σ τ
 agree-fewer h a = record { counts = a.counts; lengths = a.lengths; values = λ i q. a.values i (h i q) }

@@ -1,18 +1,17 @@
 -- Calls: the functions of a program and its calls are in order, and what a run asks of them holds.
-use Rattle.std.specs.Prelude.{◌≡◌, true, List, ℕ, ◌<◌, ◌≤◌, ℤ, length}
+use Rattle.std.specs.Prelude.{◌≡◌, List, ℕ, ◌<◌, ◌≤◌, ℤ, length}
 use Rattle.std.proofs.Math.Path.{refl, sym, ap}
 use Rattle.std.proofs.Common.{subst, ◌∙◌, arith}
 use Rattle.std.proofs.Math.Decide.{dec_lt}
 use Rattle.words.specs.Table.{row_count, Whole, number_at}
 use Rattle.words.specs.Kinds.{kind_at, is_link, sort_in, kind_row, expression_fields, statement_fields, definition_fields}
 use Rattle.words.specs.Links.{link}
-use Rattle.words.specs.declared.Kind.TheVariants.{OfExpression, OfStatement, Definition}
+use Rattle.words.specs.declared.Kind.TheVariants.{OfExpression, OfStatement}
 use Rattle.words.specs.declared.ExpressionKind.TheVariants.{Call}
 use Rattle.words.specs.declared.StatementKind.TheVariants.{Block}
 use Rattle.check_structure.specs.LinkLaws.{part-inside}
 use Rattle.check_structure.specs.Structured.{Leads}
-use Rattle.language.specs.Trees.{block}
-use Rattle.language.specs.Decode.{block_items, statement_at, list_at, argument_list_at}
+use Rattle.language.specs.Decode.{block_items, list_at, argument_list_at}
 use Rattle.language.specs.DecodeLaws.{at_block}
 use Rattle.language.specs.Functions.{Function, function_of, function_count}
 use Rattle.language.specs.Calls.{argument_count, ItemsCallBelow, arity_in, CallsInOrder}
@@ -22,12 +21,12 @@ use Rattle.check_function_causes.proofs.FrontLaws.{front-defines, front-inside}
 use Rattle.check_function_causes.proofs.LengthLaws.{length-listed}
 use Rattle.check_function_causes.specs.Functions.{list_length}
 use Rattle.check_parameter_causes.specs.Demands.{first_parameter}
-use Rattle.machine_operations.specs.Functions.{ArgumentLinks, SoundCalls}
+use Rattle.machine_operations.specs.Functions.{SoundCalls}
 use Rattle.accepted_calls.specs.Tables.{FunctionTable, FewParameters}
-use Rattle.accepted_calls.specs.Kinds.{definition-kind, kind-call, block-kind}
+use Rattle.accepted_calls.specs.Kinds.{definition-kind, kind-call}
 use Rattle.accepted_calls.specs.Owners.{front-number}
 use Rattle.accepted_calls.proofs.Front.{none-beyond, root, front-links, program-list, program-numbered, program-first, function-own, function-below, function-defined}
-use Rattle.accepted_calls.proofs.Counts.{AtArgument, arguments-counted, parameters-counted}
+use Rattle.accepted_calls.proofs.Counts.{arguments-counted, parameters-counted}
 use Rattle.accepted_calls.specs.CallsAlong.{link-same, list-calls}
 
 module _ (rows : List ℤ) (table : FunctionTable rows) where

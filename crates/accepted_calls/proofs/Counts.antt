@@ -1,15 +1,13 @@
 -- Counts: as many arguments as a call's list has rows, and as many parameters as a definition's.
-use Rattle.std.specs.Prelude.{◌≡◌, true, List, ◌∷◌, ℤ, length}
+use Rattle.std.specs.Prelude.{◌≡◌, List, ◌∷◌, ℤ, length}
 use Rattle.std.proofs.Math.Path.{refl, sym, ap}
 use Rattle.std.proofs.Common.{◌∙◌, arith, add-one}
-use Prim.Native.Nat.{ℕ, zero, suc, ◌+◌, ◌<◌}
+use Prim.Native.Nat.{ℕ, zero, suc, ◌<◌}
 use Rattle.words.specs.Table.{row_count, Whole, number_at}
 use Rattle.words.specs.Kinds.{kind_at, is_link, sort_in, kind_row, statement_fields, member_fields}
 use Rattle.words.specs.Links.{link}
-use Rattle.words.specs.declared.Kind.TheVariants.{OfStatement, OfMember}
-use Rattle.words.specs.declared.StatementKind.TheVariants.{Declare}
+use Rattle.words.specs.declared.Kind.TheVariants.{OfMember}
 use Rattle.words.specs.declared.MemberKind.TheVariants.{Argument}
-use Rattle.check_structure.specs.Structured.{Leads}
 use Rattle.language.specs.Decode.{arguments_at, argument_list_at, parameters_at, parameter_list_at}
 use Rattle.language.specs.DecodeLaws.{at-argument, at-parameter}
 use Rattle.language.specs.Calls.{argument_count}

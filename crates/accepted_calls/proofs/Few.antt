@@ -1,12 +1,12 @@
 -- Few parameters: no function has more than 64. In the source parameters count with the declarations; in the kernel each names a word of its
 -- own among those of the declarations.
-use Rattle.std.specs.Prelude.{◌≡◌, refl, true, List, [], ◌∷◌, ℕ, zero, suc, ◌+◌, ◌≤◌, ◌<◌, ℤ, length}
-use Rattle.std.proofs.Common.{sym, subst, ap, ◌∙◌}
+use Rattle.std.specs.Prelude.{◌≡◌, refl, true, List, ℕ, ◌+◌, ◌≤◌, ◌<◌, ℤ}
+use Rattle.std.proofs.Common.{sym}
 use native.Mathlib.Omega.{arith}
 use Rattle.std.proofs.Math.Decide.{ℕ_discrete}
-use Rattle.words.specs.Table.{row_count, Whole, number_at}
+use Rattle.words.specs.Table.{row_count, number_at}
 use Rattle.words.specs.Links.{link}
-use Rattle.words.specs.Declarations.{is_declaration, declarations_before, declaration_count}
+use Rattle.words.specs.Declarations.{declarations_before, declaration_count}
 use Rattle.check_structure.specs.NoteLaws.{above_zero}
 use Rattle.check_structure.specs.Structured.{Leads}
 use Rattle.check_structure.specs.Lists.{Before, adjacent, further}

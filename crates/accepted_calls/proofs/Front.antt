@@ -1,13 +1,11 @@
 -- The front: the definitions of a table are those of its program, in order: the items of a program by the rows of its definitions, its functions
 -- by their places.
-use Rattle.std.specs.Prelude.{◌≡◌, true, false, List, [], eqb, ltb, ℤ}
+use Rattle.std.specs.Prelude.{◌≡◌, true, false, List, [], ltb, ℤ}
 use Rattle.std.proofs.Math.Path.{refl}
 use Rattle.std.proofs.Common.{sym, ap, ◌∙◌, true≢false, arith, add-one}
 use Prim.Native.Nat.{ℕ, zero, suc, ◌+◌, ◌≤◌, ◌<◌}
-use Rattle.std.proofs.Math.Decide.{ℕ_discrete}
 use borrow.Author.Tests.{eq-eqb, ne_eqb, ltb-true, le-ltb}
-use Rattle.words.specs.Word.{pick}
-use Rattle.words.specs.Table.{row_count, Whole, word_at, number_at}
+use Rattle.words.specs.Table.{row_count, Whole, number_at}
 use Rattle.words.specs.Laws.{by_cases}
 use Rattle.words.specs.Kinds.{kind_at, is_link, sort_in, kind_row, expression_fields, statement_fields, mark_fields, definition_fields, member_fields}
 use Rattle.words.specs.Links.{link}
@@ -19,7 +17,7 @@ use Rattle.check_structure.specs.LinkLaws.{part-inside}
 use Rattle.language.specs.Trees.{Items, none, ◌then◌, ◌here◌, define}
 use Rattle.language.specs.Decode.{later, block_items, items_of, statement_at, items_at, list_at, Forward, parameter_list_at}
 use Rattle.language.specs.DecodeLaws.{items-at, at-definition}
-use Rattle.language.specs.Functions.{Function, function_of, function_count}
+use Rattle.language.specs.Functions.{function_of, function_count}
 use Rattle.language.specs.Calls.{Numbered, DefinitionsFirst}
 use Rattle.language.specs.Program.{contents}
 use Rattle.check_function_causes.specs.Functions.{is_definition}
@@ -28,7 +26,7 @@ use Rattle.check_function_causes.proofs.FrontLaws.{block-undefined, front-define
 use Rattle.accepted_calls.specs.Tables.{FunctionTable}
 use Rattle.accepted_calls.specs.Kinds.{definition-kind, kind-definition, block-kind}
 use Rattle.accepted_calls.specs.Owners.{front-number, next-other}
-use Rattle.accepted_calls.specs.CallsAlong.{Followed, followed, link-same}
+use Rattle.accepted_calls.specs.CallsAlong.{followed, link-same}
 
 -- ---- lists without definitions
 

@@ -1,20 +1,16 @@
 -- Structured tables: the links of definitions, parameters, calls and arguments are as the trees of functions ask.
-use Rattle.std.specs.Prelude.{◌≡◌, Bool, true, false, ◌&&◌, List, ℕ, ◌≤◌, ◌<◌, eqb, ℤ}
+use Rattle.std.specs.Prelude.{◌≡◌, Bool, true, false, List, ℕ, ◌≤◌, ◌<◌, eqb, ℤ}
 use Rattle.std.proofs.Math.Path.{refl, ap}
 use Rattle.std.proofs.Common.{sym, ◌∙◌, true≢false, arith, eqb-true}
 use Rattle.std.proofs.lemmas.Bool.{false≢true}
-use Rattle.words.specs.Word.{pick}
 use Rattle.words.specs.Table.{row_count, number_at}
 use Rattle.words.specs.Laws.{both, by_cases}
-use Rattle.words.specs.Kinds.{kinds, kind_in, kind_of, kind_at, is_expression_kind, unused, expression, body_block, optional_argument, sort_in, sort_of, sort_at, is_link, is_required, kind_row, expression_fields, statement_fields, mark_fields, definition_fields, member_fields}
+use Rattle.words.specs.Kinds.{kind_at, is_expression_kind, sort_in, sort_of, sort_at, is_link, is_required, kind_row, expression_fields, definition_fields, member_fields}
 use Rattle.words.specs.KindLaws.{argument-kind}
 use Rattle.words.specs.Links.{link, fits, is_block, is_argument}
-use Rattle.words.specs.Declarations.{is_declaration}
 use Rattle.words.specs.declared.Form.{Form}
 use Rattle.words.specs.declared.Kind.{Kind}
 use Rattle.words.specs.declared.Kind.TheVariants.{OfExpression, OfStatement, OfMark, OfMember, Definition, Other}
-use Rattle.words.specs.declared.ExpressionKind.TheVariants.{Call}
-use Rattle.words.specs.declared.StatementKind.TheVariants.{Declare}
 use Rattle.words.specs.declared.MemberKind.TheVariants.{Argument}
 use Rattle.words_roles.specs.Roles.{is_parameter, role_sort}
 use Rattle.words_roles.proofs.RoleLaws.{parameter-declaration, sort-other}

@@ -1,11 +1,11 @@
 -- Calls along the links: where a property goes along the links of a table, and every call at a row that has it goes to a number below the
 -- limit with as many arguments as the function has parameters, the trees at such rows call below the limit. By induction on the links.
-use Rattle.std.specs.Prelude.{◌≡◌, Bool, true, false, ◌&&◌, List, ltb, ℤ, pos}
+use Rattle.std.specs.Prelude.{◌≡◌, Bool, true, ◌&&◌, List, ltb, ℤ, pos}
 use Rattle.std.proofs.Math.Path.{refl}
-use Rattle.std.proofs.Common.{sym, ap, ◌∙◌, arith}
+use Rattle.std.proofs.Common.{sym, arith}
 use Prim.Native.Nat.{ℕ, zero, suc, ◌+◌, ◌≤◌, ◌<◌}
 use borrow.Author.Tests.{ltb-true, le-ltb}
-use Rattle.words.specs.Table.{row_count, Whole, word_at, number_at}
+use Rattle.words.specs.Table.{row_count, Whole, number_at}
 use Rattle.words.specs.Laws.{both, by_cases}
 use Rattle.words.specs.Kinds.{kind_at, is_expression_kind, is_link, sort_in, sort_of, sort_at, kind_row, expression_fields, statement_fields, mark_fields, definition_fields, member_fields}
 use Rattle.words.specs.Links.{link}

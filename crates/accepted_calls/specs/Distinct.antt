@@ -1,6 +1,6 @@
 -- Distinct numbers: so many different numbers, each one of D in a row, are at most D. Counted number by number.
 use Rattle.std.specs.Prelude.{◌≡◌, refl, Bool, true, false, List, [], ◌∷◌, ℕ, zero, suc, ◌+◌, ◌≤◌, ◌<◌, ltb, eqb, length}
-use Rattle.std.proofs.Common.{sym, ◌∙◌, arith, eqb-true, ne_eqb, ltb-true, lt-ltb, le-ltb, ltb-false}
+use Rattle.std.proofs.Common.{arith, eqb-true, ne_eqb, ltb-true, lt-ltb, le-ltb, ltb-false}
 use Rattle.std.proofs.lemmas.Bool.{eqb-false}
 use Rattle.words.specs.Word.{one}
 use Rattle.words.specs.Laws.{by_cases}

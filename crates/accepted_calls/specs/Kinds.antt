@@ -1,6 +1,6 @@
 -- Kinds of functions: a row's kind and its number, for definitions and calls; and what their fields link.
-use Rattle.std.specs.Prelude.{◌≡◌, refl, Bool, true, false, List, ℕ, ◌<◌, eqb, ℤ}
-use Rattle.std.proofs.Common.{sym, ◌∙◌, eqb-true}
+use Rattle.std.specs.Prelude.{◌≡◌, refl, Bool, true, List, ℕ, eqb, ℤ}
+use Rattle.std.proofs.Common.{eqb-true}
 use Rattle.std.proofs.Math.Path.{ap}
 use Rattle.words.specs.Word.{pick}
 use Rattle.words.specs.Table.{number_at}

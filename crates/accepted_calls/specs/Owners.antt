@@ -1,5 +1,5 @@
 -- Owners: a row is linked once; so a definition at the front has one place, and behind a row that is no definition stands none.
-use Rattle.std.specs.Prelude.{◌≡◌, refl, true, false, List, ℕ, ◌+◌, ◌*◌, ◌<◌, ℤ}
+use Rattle.std.specs.Prelude.{◌≡◌, refl, false, List, ℕ, ◌+◌, ◌*◌, ◌<◌, ℤ}
 use Rattle.std.proofs.Common.{sym, subst, ap, ◌∙◌, true≢false, arith}
 use Rattle.words.specs.Table.{row_count, number_at}
 use Rattle.words.specs.Laws.{by_cases}

@@ -1,10 +1,9 @@
 -- Resolved tables: another table with the same kinds, links and numbers of functions has the same functions and calls; so has the resolved table,
 -- in which the names alone change.
-use Rattle.std.specs.Prelude.{◌≡◌, refl, true, false, List, ℕ, ◌+◌, ◌<◌, eqb, ℤ}
+use Rattle.std.specs.Prelude.{◌≡◌, true, false, List, ℕ, ◌+◌, ◌<◌, ℤ}
 use Rattle.std.proofs.Common.{sym, subst, ◌∙◌, arith}
 use borrow.Author.Tests.{eqb-true}
 use Rattle.words.specs.Table.{row_count, number_at}
-use Rattle.words.specs.Word.{natural}
 use Rattle.words.specs.Links.{link}
 use Rattle.words.specs.Declarations.{is_declaration}
 use Rattle.check_structure.specs.Structured.{Leads}
@@ -12,7 +11,6 @@ use Rattle.names.specs.Names.{is_name, resolved}
 use Rattle.names.proofs.ResolvedLaws.{resolved-other, resolved-kind, resolved-link, resolved-count}
 use Rattle.check_function_causes.specs.Functions.{is_definition, is_call}
 use Rattle.check_function_causes.specs.Demands.{InFront, foremost, behind, Within, function_part, function_along, Listed, ended, counted, Called, WellCalled}
-use Rattle.check_function_causes.proofs.FrontLaws.{front-defines, front-inside}
 
 -- The same rows, as far as functions go.
 pub record Alike (rows other : List ℤ) : Type 0 where

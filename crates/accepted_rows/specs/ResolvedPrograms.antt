@@ -1,5 +1,5 @@
 -- Laws of an accepted source program's resolved table: what writing it asks, that it is lent, and where it is the rows themselves.
-use Rattle.std.specs.Prelude.{◌≡◌, true, List, ℕ, ◌-◌, ◌≤◌, ℤ, length, take}
+use Rattle.std.specs.Prelude.{◌≡◌, true, List, ℕ, ◌-◌, ◌≤◌, ℤ, length, take, Ok}
 use Rattle.std.proofs.Common.{sym, ◌∙◌, arith}
 use Rattle.words.specs.Over.{over}
 use Rattle.words.specs.OverLaws.{written-part}
@@ -7,7 +7,6 @@ use Rattle.words.specs.Declarations.{declaration_count}
 use Rattle.words.specs.Layout.{header_fits, layout_of, store_size}
 use Rattle.words.specs.Laws.{header_fits-facts, count_fits-facts}
 use Rattle.words.specs.declared.Form.TheVariants.{Source}
-use Rattle.words.specs.declared.Verdict.TheVariants.{Accepted}
 use Rattle.check_structure.specs.Structured.{Tree}
 use Rattle.check_structure.specs.StructuredLaws.{structured-tree}
 use Rattle.names.proofs.ResolvedLaws.{resolved-length}
@@ -17,7 +16,7 @@ use Rattle.check_source.specs.Refusal.{refusal}
 use Rattle.check_source.specs.Legal.{Legal}
 use Rattle.check_source.proofs.AcceptsLegal.{accepts-legal}
 
-module _ (header rows : List ℤ) (accepted : refusal header rows ≡ Accepted) where
+module _ (header rows : List ℤ) (accepted : refusal header rows ≡ Ok tt) where
   legal : Legal header rows
   legal = (accepts-legal header rows).0 accepted
 

@@ -4,7 +4,6 @@
 ghost use Rattle.std.specs.Prelude.{◌≡◌, ◌≤◌, length};
 ghost use Rattle.words.specs.Over.{over};
 ghost use Rattle.words.specs.declared.Form.TheVariants.{Source};
-ghost use Rattle.words.specs.declared.Verdict.TheVariants.{Accepted};
 ghost use Rattle.language_programs.specs.Program.{resolved_rows};
 ghost use Rattle.check_source.specs.Refusal.{refusal};
 
@@ -14,7 +13,7 @@ use words::layout::store_size;
 
 // Writes them from the start of a table that has room for the rows: 12,288 words have.
 pub fn resolve_accepted(header: &[i32], rows: &[i32], out: &mut [i32])
-    requires { (refusal header.now rows.now ≡ Accepted) × (length rows.now ≤ length out.old) }
+    requires { (refusal header.now rows.now ≡ Ok tt) × (length rows.now ≤ length out.old) }
     ensures { out.new ≡ over (resolved_rows Source header.now rows.now) out.old }
 {
     let size = store_size(Form::Source, header);

@@ -1,4 +1,6 @@
 -- Results of operations as the code computes them: 64-bit results, quotients, remainders and comparisons. Assumes nothing.
+use Rattle.std.specs.Prelude.{Err, Ok, Result}
+use Rattle.words.specs.declared.FaultSort.{FaultSort}
 use mathlib.Core.Path.{◌≡◌, refl, sym, ap, ap₂, ◌∙◌}
 use mathlib.Core.Bool.{Bool, true, false, not, cond, false≢true}
 use Prim.Native.Nat.{ℕ, zero, suc, ◌+◌, ◌-◌, ◌*◌, ◌^◌, ◌/◌, ◌<◌, ◌≤◌}
@@ -12,7 +14,7 @@ use mir.Val.{SFits, to_z, of_z}
 use mir.Facts.{to_z-of_z, sfits_widen}
 use borrow.Author.Tests.{lt-ltb, ltb-true, eqb-true, eq-eqb, ne_eqb, not-true, not-false}
 use Rattle.words.specs.Word.{is_word, same_word}
-use Rattle.arithmetic.specs.Arithmetic.{Outcome, value, fault, in_word, is_true, bit, minus, dividing, remainder_by, apply}
+use Rattle.arithmetic.specs.Arithmetic.{in_word, is_true, bit, minus, dividing, remainder_by, apply}
 use Rattle.words.specs.Laws.{same_word-bits, below-least-word, above-greatest-word, between-words}
 use Rattle.arithmetic.proofs.Laws.{in_word-fits, in_word-overflows}
 use Rattle.words.specs.declared.FaultSort.TheVariants.{Overflow, ZeroDivisor}
@@ -80,20 +82,20 @@ module _ (operation : ℤ → ℤ → ℤ) (holds : Holds64 operation) {x y : �
 -- ---- narrow: a 64-bit result, if it is a word
 
 module _ {z : ℤ} (h : SFits w64 z) where
-  pub narrow_below : lt_z (to_z w64 (of_z w64 z)) (negsuc 2147483647) ≡ true → fault Overflow ≡ in_word z
+  pub narrow_below : lt_z (to_z w64 (of_z w64 z)) (negsuc 2147483647) ≡ true → Err Overflow ≡ in_word z
   narrow_below e = sym (in_word-overflows z (below-least-word z (rw (to_z-of_z {z = z} h) at e)))
 
-  pub narrow-above : lt_z (pos 2147483647) (to_z w64 (of_z w64 z)) ≡ true → fault Overflow ≡ in_word z
+  pub narrow-above : lt_z (pos 2147483647) (to_z w64 (of_z w64 z)) ≡ true → Err Overflow ≡ in_word z
   narrow-above e = sym (in_word-overflows z (above-greatest-word z (rw (to_z-of_z {z = z} h) at e)))
 
   module _ (e : lt_z (to_z w64 (of_z w64 z)) (negsuc 2147483647) ≡ false) (g : lt_z (pos 2147483647) (to_z w64 (of_z w64 z)) ≡ false) where
     pub narrow-fits : SFits w32 (to_z w64 (of_z w64 z))
     narrow-fits = record { sfits = between-words (to_z w64 (of_z w64 z)) e g }
 
-    pub narrow-is : value (again (to_z w64 (of_z w64 z))) ≡ in_word z
+    pub narrow-is : Ok (again (to_z w64 (of_z w64 z))) ≡ in_word z
     narrow-is =
         let same = to_z-of_z {z = z} h in
-        ap value (to_z-of_z narrow-fits ∙ same) ∙ sym (in_word-fits z (rw same at narrow-fits.sfits))
+        ap Ok (to_z-of_z narrow-fits ∙ same) ∙ sym (in_word-fits z (rw same at narrow-fits.sfits))
 
 -- ---- truth
 
@@ -114,7 +116,7 @@ bit-again false e = ap again e
 
 -- ---- minus
 
-pub minus-least : {z : ℤ} → SFits w32 z → of_z w32 z ≡ 2147483648 → fault Overflow ≡ minus z
+pub minus-least : {z : ℤ} → SFits w32 z → of_z w32 z ≡ 2147483648 → Err Overflow ≡ minus z
 unfolding minus
 minus-least {z} h e = rw (of-bits z 2147483648 h e) (sym (in_word-overflows (pos 2147483648) (omega arith)))
 
@@ -133,9 +135,9 @@ module _ {z : ℤ} (h : SFits w32 z) (ne : of_z w32 z ≡ 2147483648 → ⊥) wh
   pub minus-fits : SFits w32 (pos 0 -ℤ again z)
   minus-fits = rw negation (record { sfits = negated })
 
-  pub minus_is : value (again (pos 0 -ℤ again z)) ≡ minus z
+  pub minus_is : Ok (again (pos 0 -ℤ again z)) ≡ minus z
   unfolding minus
-  minus_is = ap value (to_z-of_z minus-fits ∙ negation) ∙ sym (in_word-fits (neg_ℤ z) negated)
+  minus_is = ap Ok (to_z-of_z minus-fits ∙ negation) ∙ sym (in_word-fits (neg_ℤ z) negated)
 
 -- ---- quotients and remainders
 
@@ -148,11 +150,11 @@ quotient-word (negsuc a) (negsuc zero) h m =
     omega (arith, div-le_self (suc a) 1)
 quotient-word (negsuc a) (negsuc (suc b)) h m = omega (arith, div-lt_self {n = suc a} {k = suc (suc b)} (omega arith) (omega arith))
 
-zero-divisor : {y : ℤ} (q : Outcome ℤ) → SFits w32 y → of_z w32 y ≡ 0 → fault ZeroDivisor ≡ dividing y q
+zero-divisor : {y : ℤ} (q : Result ℤ FaultSort) → SFits w32 y → of_z w32 y ≡ 0 → Err ZeroDivisor ≡ dividing y q
 unfolding dividing
 zero-divisor {y} q h e = rw (← true-bits h, eq-eqb _ _ e)
 
-divisor : {y : ℤ} (q : Outcome ℤ) → SFits w32 y → (of_z w32 y ≡ 0 → ⊥) → dividing y q ≡ q
+divisor : {y : ℤ} (q : Result ℤ FaultSort) → SFits w32 y → (of_z w32 y ≡ 0 → ⊥) → dividing y q ≡ q
 unfolding dividing
 divisor q h n = rw (← true-bits h, ne_eqb _ _ n)
 
@@ -177,20 +179,20 @@ module _ {x y : ℤ} (h : SFits w32 x) (k : SFits w32 y) where
   pub quotient-told : {result test : Bool} → result ≡ not (is_word (quot_z (again x) (again y))) → result ≡ test → not (is_word (quot_z x y)) ≡ test
   quotient-told e t = rw (to_z-of_z {z = x} h, to_z-of_z {z = y} k) at (sym e ∙ t)
 
-  pub divide-zero : of_z w32 y ≡ 0 → fault ZeroDivisor ≡ apply Divide x y
+  pub divide-zero : of_z w32 y ≡ 0 → Err ZeroDivisor ≡ apply Divide x y
   unfolding apply
   divide-zero = zero-divisor _ k
 
-  pub remainder-zero : of_z w32 y ≡ 0 → fault ZeroDivisor ≡ apply Remainder x y
+  pub remainder-zero : of_z w32 y ≡ 0 → Err ZeroDivisor ≡ apply Remainder x y
   unfolding apply
   remainder-zero = zero-divisor _ k
 
   module _ (n : of_z w32 y ≡ 0 → ⊥) where
-    pub divide-overflows : not (is_word (quot_z x y)) ≡ true → fault Overflow ≡ apply Divide x y
+    pub divide-overflows : not (is_word (quot_z x y)) ≡ true → Err Overflow ≡ apply Divide x y
     unfolding apply in_word
     divide-overflows t = rw (divisor (in_word (quot_z x y)) k n, not-true (is_word (quot_z x y)) t)
 
-    pub remainder-overflows : not (is_word (quot_z x y)) ≡ true → fault Overflow ≡ apply Remainder x y
+    pub remainder-overflows : not (is_word (quot_z x y)) ≡ true → Err Overflow ≡ apply Remainder x y
     unfolding apply remainder_by
     remainder-overflows t = rw (divisor (remainder_by x y) k n, not-true (is_word (quot_z x y)) t)
 
@@ -203,17 +205,17 @@ module _ {x y : ℤ} (h : SFits w32 x) (k : SFits w32 y) where
       pub divide-fits : (0 < of_z w32 y) × SFits w32 (quot_z (again x) (again y))
       divide-fits = (omega arith, rw (to_z-of_z {z = x} h, to_z-of_z {z = y} k) quotient_fits)
 
-      pub divide_is : value (again (quot_z (again x) (again y))) ≡ apply Divide x y
+      pub divide_is : Ok (again (quot_z (again x) (again y))) ≡ apply Divide x y
       unfolding apply
       divide_is =
           rw (to_z-of_z {z = x} h, to_z-of_z {z = y} k)
-          (ap value (to_z-of_z quotient_fits) ∙ sym (in_word-fits (quot_z x y) quotient_fits.sfits) ∙ sym (divisor _ k n))
+          (ap Ok (to_z-of_z quotient_fits) ∙ sym (in_word-fits (quot_z x y) quotient_fits.sfits) ∙ sym (divisor _ k n))
 
-      pub remainder_is : value (again (rem_z (again x) (again y))) ≡ apply Remainder x y
+      pub remainder_is : Ok (again (rem_z (again x) (again y))) ≡ apply Remainder x y
       unfolding apply remainder_by
       remainder_is =
           rw (to_z-of_z {z = x} h, to_z-of_z {z = y} k, not-false (is_word (quot_z x y)) t)
-          (ap value (to_z-of_z {w = w32} (record { sfits = omega (arith, mag_rem x y, h.sfits) })) ∙ sym (divisor _ k n))
+          (ap Ok (to_z-of_z {w = w32} (record { sfits = omega (arith, mag_rem x y, h.sfits) })) ∙ sym (divisor _ k n))
 
 -- ---- every operator, on words handed on to the function for it
 
@@ -222,8 +224,8 @@ module _ {x y : ℤ} (h : SFits w32 x) (k : SFits w32 y) where
   handed-on {o} e = ap₂ (apply o) (to_z-of_z {z = x} h) (to_z-of_z {z = y} k) ∙ ap (λ (p : Operator). apply p x y) (sym e)
 
   -- a comparison, with the test that the code makes
-  pub compared : {operator o : Operator} (test : Bool) {r : ℤ} → operator ≡ o → r ≡ bit test → value (bit test) ≡ apply o (again x) (again y) → value (again r) ≡ apply operator x y
-  compared test e g t = ap value (bit-again test g) ∙ t ∙ handed-on e
+  pub compared : {operator o : Operator} (test : Bool) {r : ℤ} → operator ≡ o → r ≡ bit test → Ok (bit test) ≡ apply o (again x) (again y) → Ok (again r) ≡ apply operator x y
+  compared test e g t = ap Ok (bit-again test g) ∙ t ∙ handed-on e
 
   pub equal-bits : eqb (of_z w32 x) (of_z w32 y) ≡ same_word (again x) (again y)
   equal-bits = rw (to_z-of_z {z = x} h, to_z-of_z {z = y} k) (same_word-bits x y h.sfits k.sfits)

@@ -3,5 +3,3 @@
 -- ---- definitions
 -- Arithmetic: the operations on words, with their faults.
 pub mod Arithmetic
--- Answers: what the code's answers to arithmetic and to the bounds test say.
-pub mod Answers

@@ -1,57 +1,43 @@
 // The operations on words, and the bounds test.
 #![tactic(auto)]
 
-ghost use Rattle.std.specs.Prelude.{◌≡◌, not, ◌+◌, ◌<◌};
+ghost use Rattle.words.specs.declared.FaultSort.TheVariants.{Index};
+ghost use Rattle.std.specs.Prelude.{◌≡◌, not, ◌+◌, ◌<◌, ok_or};
 ghost use Rattle.std.specs.Int.Signed.{quot_z};
 ghost use Rattle.words.specs.Word.{is_word};
 ghost use Rattle.arithmetic.specs.Arithmetic.{in_word, apply as apply_of, minus as minus_of, element as element_of, bit as bit_of, is_true, logical_not};
-ghost use Rattle.arithmetic.specs.Answers.{computed, located};
 ghost use Rattle.words.specs.declared.Operator.TheVariants.{Add, Subtract, Multiply, Divide, Remainder};
 
 use words::table::natural;
 use words::{FaultSort, Operator};
 
-// What an operation on words gives.
-#[derive(Clone, Copy)]
-pub enum Computed {
-    Value(i32),
-    Fails(FaultSort),
-}
-
-// Where an element lies in the store; outside its array it lies nowhere.
-#[derive(Clone, Copy)]
-pub enum Located {
-    At(usize),
-    Outside,
-}
-
 // A result of 32-bit operands, if 32 bits hold it.
-fn narrow(res: i64) -> Computed
-    ensures { computed result ≡ in_word res }
+fn narrow(res: i64) -> Result<i32, FaultSort>
+    ensures { result ≡ in_word res }
 {
     if res < -2147483648 {
-        return Computed::Fails(FaultSort::Overflow);
+        return Err(FaultSort::Overflow);
     }
     if res > 2147483647 {
-        return Computed::Fails(FaultSort::Overflow);
+        return Err(FaultSort::Overflow);
     }
-    Computed::Value(res as i32)
+    Ok(res as i32)
 }
 
-pub fn add(left: i32, right: i32) -> Computed
-    ensures { computed result ≡ apply_of Add left right }
+pub fn add(left: i32, right: i32) -> Result<i32, FaultSort>
+    ensures { result ≡ apply_of Add left right }
 {
     narrow(left as i64 + right as i64)
 }
 
-pub fn subtract(left: i32, right: i32) -> Computed
-    ensures { computed result ≡ apply_of Subtract left right }
+pub fn subtract(left: i32, right: i32) -> Result<i32, FaultSort>
+    ensures { result ≡ apply_of Subtract left right }
 {
     narrow(left as i64 - right as i64)
 }
 
-pub fn multiply(left: i32, right: i32) -> Computed
-    ensures { computed result ≡ apply_of Multiply left right }
+pub fn multiply(left: i32, right: i32) -> Result<i32, FaultSort>
+    ensures { result ≡ apply_of Multiply left right }
 {
     narrow((left as i64) * (right as i64))
 }
@@ -66,29 +52,29 @@ fn quotient_overflows(left: i32, right: i32) -> bool
     false
 }
 
-pub fn divide(left: i32, right: i32) -> Computed
-    ensures { computed result ≡ apply_of Divide left right }
+pub fn divide(left: i32, right: i32) -> Result<i32, FaultSort>
+    ensures { result ≡ apply_of Divide left right }
 {
     if right == 0 {
-        return Computed::Fails(FaultSort::ZeroDivisor);
+        return Err(FaultSort::ZeroDivisor);
     }
     if quotient_overflows(left, right) {
-        return Computed::Fails(FaultSort::Overflow);
+        return Err(FaultSort::Overflow);
     }
-    Computed::Value(left / right)
+    Ok(left / right)
 }
 
 // The remainder is defined where the quotient is a word.
-pub fn remainder(left: i32, right: i32) -> Computed
-    ensures { computed result ≡ apply_of Remainder left right }
+pub fn remainder(left: i32, right: i32) -> Result<i32, FaultSort>
+    ensures { result ≡ apply_of Remainder left right }
 {
     if right == 0 {
-        return Computed::Fails(FaultSort::ZeroDivisor);
+        return Err(FaultSort::ZeroDivisor);
     }
     if quotient_overflows(left, right) {
-        return Computed::Fails(FaultSort::Overflow);
+        return Err(FaultSort::Overflow);
     }
-    Computed::Value(left % right)
+    Ok(left % right)
 }
 
 // 1 for true, 0 for false.
@@ -113,18 +99,18 @@ pub fn logical_not(value: i32) -> i32
     bit(!is_true(value))
 }
 
-pub fn minus(value: i32) -> Computed
-    ensures { computed result ≡ minus_of value }
+pub fn minus(value: i32) -> Result<i32, FaultSort>
+    ensures { result ≡ minus_of value }
 {
     if value == -2147483648 {
-        return Computed::Fails(FaultSort::Overflow);
+        return Err(FaultSort::Overflow);
     }
-    Computed::Value(-value)
+    Ok(-value)
 }
 
 // Kinds 6 to 16.
-pub fn apply(operator: Operator, left: i32, right: i32) -> Computed
-    ensures { computed result ≡ apply_of operator left right }
+pub fn apply(operator: Operator, left: i32, right: i32) -> Result<i32, FaultSort>
+    ensures { result ≡ apply_of operator left right }
 {
     match operator {
         Operator::Add => add(left, right),
@@ -132,23 +118,23 @@ pub fn apply(operator: Operator, left: i32, right: i32) -> Computed
         Operator::Multiply => multiply(left, right),
         Operator::Divide => divide(left, right),
         Operator::Remainder => remainder(left, right),
-        Operator::Less => Computed::Value(bit(left < right)),
-        Operator::Greater => Computed::Value(bit(right < left)),
-        Operator::LessOrEqual => Computed::Value(bit(left <= right)),
-        Operator::GreaterOrEqual => Computed::Value(bit(right <= left)),
-        Operator::Equal => Computed::Value(bit(left == right)),
-        Operator::NotEqual => Computed::Value(bit(left != right)),
+        Operator::Less => Ok(bit(left < right)),
+        Operator::Greater => Ok(bit(right < left)),
+        Operator::LessOrEqual => Ok(bit(left <= right)),
+        Operator::GreaterOrEqual => Ok(bit(right <= left)),
+        Operator::Equal => Ok(bit(left == right)),
+        Operator::NotEqual => Ok(bit(left != right)),
     }
 }
 
 // The bounds test, for the array of `length` words from `base` on.
-pub fn element(base: usize, length: usize, index: i32) -> Located
+pub fn element(base: usize, length: usize, index: i32) -> Option<usize>
     requires { (base < 65536) × (length < 65536) }
-    ensures { located result ≡ element_of base length index }
+    ensures { ok_or result Index ≡ element_of base length index }
 {
     let at = natural(index);
     if at < length {
-        return Located::At(base + at);
+        return Some(base + at);
     }
-    Located::Outside
+    None
 }

@@ -1,13 +1,12 @@
 -- Declaration samples: small source programs with declarations, and what the check must answer of each, worked out from document 02.
-use Rattle.std.specs.Prelude.{List, [], ◌∷◌, ◌++◌, pos, negsuc}
-use Rattle.words.specs.declared.Verdict.TheVariants.{Accepted}
+use Rattle.std.specs.Prelude.{List, [], ◌∷◌, ◌++◌, pos, negsuc, Ok}
 use Rattle.check_answers.specs.Sample.{Sample, sample, row, refused}
 
 -- Causes 4 to 6 of kind 58, and programs that have none of them.
 abbrev pub declaration_rows : List Sample
 declaration_rows =
-    sample (pos 1 ∷ []) (row 42 1 0 0 0 0 ++ row 58 0 2 0 0 3 ++ row 1 1 0 0 0 0 ++ row 44 4 5 0 0 8 ++ row 2 0 0 0 0 0 ++ row 42 6 0 0 0 0 ++ row 58 0 7 0 0 0 ++ row 1 2 0 0 0 0 ++ row 54 9 0 0 0 14 ++ row 56 10 11 0 0 0 ++ row 2 0 0 0 0 0 ++ row 42 12 0 0 0 0 ++ row 58 0 13 0 0 0 ++ row 1 3 0 0 0 0 ++ row 47 15 16 0 0 0 ++ row 2 0 0 0 0 0 ++ row 42 17 0 0 0 0 ++ row 58 0 18 0 0 0 ++ row 1 4 0 0 0 0) Accepted ∷  -- in row 0, in the blocks of a body, an arm and a switch
-    sample (pos 2 ∷ []) (row 42 1 0 0 0 0 ++ row 40 0 0 0 0 2 ++ row 58 1 3 0 0 0 ++ row 2 0 0 0 0 0) Accepted ∷  -- the last variable, the last item
+    sample (pos 1 ∷ []) (row 42 1 0 0 0 0 ++ row 58 0 2 0 0 3 ++ row 1 1 0 0 0 0 ++ row 44 4 5 0 0 8 ++ row 2 0 0 0 0 0 ++ row 42 6 0 0 0 0 ++ row 58 0 7 0 0 0 ++ row 1 2 0 0 0 0 ++ row 54 9 0 0 0 14 ++ row 56 10 11 0 0 0 ++ row 2 0 0 0 0 0 ++ row 42 12 0 0 0 0 ++ row 58 0 13 0 0 0 ++ row 1 3 0 0 0 0 ++ row 47 15 16 0 0 0 ++ row 2 0 0 0 0 0 ++ row 42 17 0 0 0 0 ++ row 58 0 18 0 0 0 ++ row 1 4 0 0 0 0) (Ok tt) ∷  -- in row 0, in the blocks of a body, an arm and a switch
+    sample (pos 2 ∷ []) (row 42 1 0 0 0 0 ++ row 40 0 0 0 0 2 ++ row 58 1 3 0 0 0 ++ row 2 0 0 0 0 0) (Ok tt) ∷  -- the last variable, the last item
     sample (pos 1 ∷ []) (row 42 1 0 0 0 0 ++ row 58 0 0 0 0 0) (refused 4 1) ∷  -- no initial expression
     sample (pos 1 ∷ []) (row 42 1 0 0 0 0 ++ row 58 0 2 0 0 0 ++ row 40 0 0 0 0 0) (refused 4 1) ∷  -- a statement for it
     sample (pos 1 ∷ []) (row 42 1 0 0 0 0 ++ row 41 2 0 0 0 0 ++ row 58 0 3 0 0 0 ++ row 1 0 0 0 0 0) (refused 4 1) ∷  -- a declaration for an expression
@@ -49,9 +48,9 @@ initial_names =
     sample (pos 1 ∷ []) (row 42 1 0 0 0 0 ++ row 58 0 2 0 0 3 ++ row 1 1 0 0 0 0 ++ row 42 4 0 0 0 0 ++ row 58 0 5 0 0 0 ++ row 2 0 0 0 0 0) (refused 18 4) ∷  -- where the number means an outer declared object
     sample (pos 2 ∷ []) (row 42 1 0 0 0 0 ++ row 40 0 0 0 0 2 ++ row 58 1 3 0 0 4 ++ row 2 1 0 0 0 0 ++ row 58 0 5 0 0 0 ++ row 2 0 0 0 0 0) (refused 18 2) ∷  -- the lower of two rows
     sample (pos 2 ∷ []) (row 42 1 0 0 0 0 ++ row 58 0 2 0 0 3 ++ row 1 0 0 0 0 0 ++ row 58 0 4 0 0 5 ++ row 1 0 0 0 0 0 ++ row 58 1 6 0 0 0 ++ row 2 1 0 0 0 0) (refused 18 5) ∷  -- 18 before 19
-    sample (pos 2 ∷ []) (row 42 1 0 0 0 0 ++ row 41 2 0 0 0 3 ++ row 2 0 0 0 0 0 ++ row 58 0 4 0 0 5 ++ row 2 1 0 0 0 0 ++ row 41 6 0 0 0 0 ++ row 2 0 0 0 0 0) Accepted ∷  -- another number; its own before and behind the declaration
-    sample (pos 2 ∷ pos 3 ∷ []) (row 42 1 0 0 0 0 ++ row 58 0 2 0 0 0 ++ row 6 3 5 0 0 0 ++ row 3 0 4 0 0 0 ++ row 1 0 0 0 0 0 ++ row 1 0 0 0 0 0) Accepted ∷  -- its own number as an array and as a value
-    sample (pos 2 ∷ []) (row 42 1 0 0 0 0 ++ row 58 0 2 0 0 3 ++ row 2 1 0 0 0 0 ++ row 58 1 4 0 0 0 ++ row 2 0 0 0 0 0) Accepted ∷  -- the number of the declaration before
+    sample (pos 2 ∷ []) (row 42 1 0 0 0 0 ++ row 41 2 0 0 0 3 ++ row 2 0 0 0 0 0 ++ row 58 0 4 0 0 5 ++ row 2 1 0 0 0 0 ++ row 41 6 0 0 0 0 ++ row 2 0 0 0 0 0) (Ok tt) ∷  -- another number; its own before and behind the declaration
+    sample (pos 2 ∷ pos 3 ∷ []) (row 42 1 0 0 0 0 ++ row 58 0 2 0 0 0 ++ row 6 3 5 0 0 0 ++ row 3 0 4 0 0 0 ++ row 1 0 0 0 0 0 ++ row 1 0 0 0 0 0) (Ok tt) ∷  -- its own number as an array and as a value
+    sample (pos 2 ∷ []) (row 42 1 0 0 0 0 ++ row 58 0 2 0 0 3 ++ row 2 1 0 0 0 0 ++ row 58 1 4 0 0 0 ++ row 2 0 0 0 0 0) (Ok tt) ∷  -- the number of the declaration before
     []
 
 -- Cause 19, "a number declared twice in one block". For cause 20 see `count-answers` (check_declaration_causes/Examples) and program check_trial.
@@ -61,8 +60,8 @@ declared_numbers =
     sample (pos 2 ∷ []) (row 42 1 0 0 0 0 ++ row 58 0 2 0 0 3 ++ row 1 0 0 0 0 0 ++ row 42 0 0 0 0 4 ++ row 58 1 5 0 0 6 ++ row 1 0 0 0 0 0 ++ row 58 0 7 0 0 0 ++ row 1 0 0 0 0 0) (refused 19 6) ∷  -- a block and another declaration between
     sample (pos 1 ∷ []) (row 42 1 0 0 0 0 ++ row 42 2 0 0 0 0 ++ row 58 0 3 0 0 4 ++ row 1 0 0 0 0 0 ++ row 58 0 5 0 0 0 ++ row 1 0 0 0 0 0) (refused 19 4) ∷  -- in an inner block
     sample (pos 2 ∷ []) (row 42 1 0 0 0 0 ++ row 58 0 2 0 0 3 ++ row 1 0 0 0 0 0 ++ row 58 0 4 0 0 5 ++ row 1 0 0 0 0 0 ++ row 58 0 6 0 0 0 ++ row 1 0 0 0 0 0) (refused 19 3) ∷  -- the lower of two rows
-    sample (pos 1 ∷ []) (row 42 1 0 0 0 0 ++ row 42 2 0 0 0 7 ++ row 58 0 3 0 0 4 ++ row 1 0 0 0 0 0 ++ row 42 5 0 0 0 0 ++ row 58 0 6 0 0 0 ++ row 1 0 0 0 0 0 ++ row 42 8 0 0 0 0 ++ row 58 0 9 0 0 0 ++ row 1 0 0 0 0 0) Accepted ∷  -- in a block, in a block of it, in the next
-    sample (pos 1 ∷ []) (row 42 1 0 0 0 0 ++ row 42 2 0 0 0 4 ++ row 58 0 3 0 0 0 ++ row 1 0 0 0 0 0 ++ row 58 0 5 0 0 0 ++ row 1 0 0 0 0 0) Accepted ∷  -- behind a block that declares it
+    sample (pos 1 ∷ []) (row 42 1 0 0 0 0 ++ row 42 2 0 0 0 7 ++ row 58 0 3 0 0 4 ++ row 1 0 0 0 0 0 ++ row 42 5 0 0 0 0 ++ row 58 0 6 0 0 0 ++ row 1 0 0 0 0 0 ++ row 42 8 0 0 0 0 ++ row 58 0 9 0 0 0 ++ row 1 0 0 0 0 0) (Ok tt) ∷  -- in a block, in a block of it, in the next
+    sample (pos 1 ∷ []) (row 42 1 0 0 0 0 ++ row 42 2 0 0 0 4 ++ row 58 0 3 0 0 0 ++ row 1 0 0 0 0 0 ++ row 58 0 5 0 0 0 ++ row 1 0 0 0 0 0) (Ok tt) ∷  -- behind a block that declares it
     []
 
 abbrev pub declaration_samples : List Sample

@@ -1,10 +1,10 @@
 -- Function answers: the checks answer each sample with functions as they must, by computing brief tests that answer the same.
-use Rattle.std.specs.Prelude.{◌≡◌, refl, List, map, ℤ}
+use Rattle.std.specs.Prelude.{◌≡◌, refl, List, map, ℤ, Result}
+use Rattle.words.specs.Refusals.{NumberedRefusal}
 use Rattle.std.proofs.Common.{ap, ◌∙◌}
 use Rattle.words.specs.Word.{same_word, natural}
 use Rattle.words.specs.Table.{word_at, number_at}
 use Rattle.words.specs.Layout.{layout_of, sum, store_size, header_store, all_within, header_fits, count_fits}
-use Rattle.words.specs.declared.Verdict.{Verdict}
 use Rattle.words.specs.Links.{fits, is_expression, is_place, is_statement, is_block, is_arm, is_argument, link, target, linker, received, note_by, note}
 use Rattle.words.specs.Kinds.{kind_of, kind_in, kinds, sort_in, kind_row, expression_fields, statement_fields, mark_fields, definition_fields, member_fields, parameter_fields, sort_of, sort_at, in_language, is_link, is_required}
 use Rattle.words.specs.Search.{lowest, some, lowest_row, some_field}
@@ -33,15 +33,15 @@ use Rattle.check_answers.specs.Sample.{Sample}
 use Rattle.check_answers.specs.FunctionSamples.{function_samples}
 use Rattle.check_answers.specs.KernelFunctionSamples.{kernel_function_samples, plain_samples}
 
-abbrev pub expected : Sample → Verdict
+abbrev pub expected : Sample → Result (Unit {0}) NumberedRefusal
 expected sample = sample.answer
 
 -- ---- source programs
 
-abbrev pub source_checked : Sample → Verdict
+abbrev pub source_checked : Sample → Result (Unit {0}) NumberedRefusal
 source_checked sample = source_refusal sample.header sample.rows
 
-abbrev source_tested : Sample → Verdict
+abbrev source_tested : Sample → Result (Unit {0}) NumberedRefusal
 source_tested sample = brief_source sample.header sample.rows
 
 source-tested : map source_tested function_samples ≡ map expected function_samples
@@ -53,10 +53,10 @@ source-functions-answer = map_same source_checked source_tested (λ sample. same
 
 -- ---- kernel programs
 
-abbrev pub kernel_checked : Sample → Verdict
+abbrev pub kernel_checked : Sample → Result (Unit {0}) NumberedRefusal
 kernel_checked sample = kernel_refusal sample.header sample.rows
 
-abbrev kernel_tested : Sample → Verdict
+abbrev kernel_tested : Sample → Result (Unit {0}) NumberedRefusal
 kernel_tested sample = brief_kernel sample.header sample.rows
 
 kernel-tested : map kernel_tested kernel_function_samples ≡ map expected kernel_function_samples
@@ -68,18 +68,18 @@ kernel-functions-answer = map_same kernel_checked kernel_tested (λ sample. same
 
 -- ---- before a flat list
 
-abbrev pub plain_checked : Sample → Verdict
+abbrev pub plain_checked : Sample → Result (Unit {0}) NumberedRefusal
 plain_checked sample = plain_refusal sample.header sample.rows
 
 -- 25 behind the brief test.
-abbrev brief_plain : List ℤ → List ℤ → Verdict
+abbrev brief_plain : List ℤ → List ℤ → Result (Unit {0}) NumberedRefusal
 brief_plain header rows = brief_kernel header rows next at 25 (lowest_row rows (is_definition rows))
 
 same-plain : (header rows : List ℤ) → plain_refusal header rows ≡ brief_plain header rows
 unfolding plain_refusal
-same-plain header rows = ap (λ (verdict : Verdict). verdict next at 25 (lowest_row rows (is_definition rows))) (same-kernel header rows)
+same-plain header rows = ap (λ (verdict : Result (Unit {0}) NumberedRefusal). verdict next at 25 (lowest_row rows (is_definition rows))) (same-kernel header rows)
 
-abbrev plain_tested : Sample → Verdict
+abbrev plain_tested : Sample → Result (Unit {0}) NumberedRefusal
 plain_tested sample = brief_plain sample.header sample.rows
 
 plain-tested : map plain_tested plain_samples ≡ map expected plain_samples

@@ -1,10 +1,10 @@
 -- Kernel answers: the kernel check answers each kernel sample as it must, by computing a brief test that answers the same.
-use Rattle.std.specs.Prelude.{◌≡◌, refl, map}
+use Rattle.std.specs.Prelude.{◌≡◌, refl, map, Result}
+use Rattle.words.specs.Refusals.{NumberedRefusal}
 use Rattle.std.proofs.Common.{◌∙◌}
 use Rattle.words.specs.Word.{natural}
 use Rattle.words.specs.Table.{word_at, number_at}
 use Rattle.words.specs.Layout.{layout_of, sum, store_size, header_store, all_within, header_fits, count_fits}
-use Rattle.words.specs.declared.Verdict.{Verdict}
 use Rattle.words.specs.Links.{fits, is_expression, is_place, is_statement, link, target, linker, received, note_by, note}
 use Rattle.words_roles.specs.Roles.{links_parameter, is_parameter_by, is_parameter, role_sort}
 use Rattle.check_fields.specs.Fields.{foreign, leads_right, mislinked, bounds_of, number_fits, outside}
@@ -25,14 +25,14 @@ use Rattle.check_brief.specs.BriefLaws.{same-kernel, map_same}
 use Rattle.check_answers.specs.Sample.{Sample}
 use Rattle.check_answers.specs.KernelSamples.{kernel_samples}
 
-abbrev pub checked : Sample → Verdict
+abbrev pub checked : Sample → Result (Unit {0}) NumberedRefusal
 checked sample = refusal sample.header sample.rows
 
-abbrev pub expected : Sample → Verdict
+abbrev pub expected : Sample → Result (Unit {0}) NumberedRefusal
 expected sample = sample.answer
 
 -- A brief test of it.
-abbrev tested : Sample → Verdict
+abbrev tested : Sample → Result (Unit {0}) NumberedRefusal
 tested sample = brief_kernel sample.header sample.rows
 
 samples-tested : map tested kernel_samples ≡ map expected kernel_samples

@@ -1,19 +1,18 @@
 -- A sample: a program as words, and what a check must answer of it.
-use Rattle.std.specs.Prelude.{List, [], ◌∷◌, ◌++◌, ℕ, zero, suc, ◌+◌, ℤ, pos, set}
-use Rattle.words.specs.declared.Verdict.{Verdict}
-use Rattle.words.specs.declared.Verdict.TheVariants.{Refused}
+use Rattle.std.specs.Prelude.{List, [], ◌∷◌, ◌++◌, ℕ, zero, suc, ◌+◌, ℤ, pos, set, Err, Result}
+use Rattle.words.specs.Refusals.{NumberedRefusal}
 
 pub record Sample : Type 0 where
   pub header : List ℤ
   pub rows : List ℤ
-  pub answer : Verdict
+  pub answer : Result (Unit {0}) NumberedRefusal
 
-abbrev pub sample : List ℤ → List ℤ → Verdict → Sample
+abbrev pub sample : List ℤ → List ℤ → Result (Unit {0}) NumberedRefusal → Sample
 sample header rows answer = record { header = header; rows = rows; answer = answer }
 
 -- The answer with this cause and place.
-abbrev pub refused : ℕ → ℕ → Verdict
-refused number place = Refused (record { number = number; place = place })
+abbrev pub refused : ℕ → ℕ → Result (Unit {0}) NumberedRefusal
+refused number place = Err (record { number = number; place = place })
 
 abbrev pub row : ℕ → ℕ → ℕ → ℕ → ℕ → ℕ → List ℤ
 row kind a b c d next = pos kind ∷ pos a ∷ pos b ∷ pos c ∷ pos d ∷ pos next ∷ []

@@ -1,26 +1,25 @@
 -- Source samples: small source programs, and what the check must answer of each, worked out from documents 01 and 02. For each cause the last program
 -- that it does not turn down, and the first that it does.
-use Rattle.std.specs.Prelude.{List, [], ◌∷◌, ◌++◌, map, ℕ, ℤ, pos, negsuc, replicate}
+use Rattle.std.specs.Prelude.{List, [], ◌∷◌, ◌++◌, map, ℕ, ℤ, pos, negsuc, replicate, Ok, Result}
+use Rattle.words.specs.Refusals.{NumberedRefusal}
 use Rattle.words.specs.Layout.{zeros}
-use Rattle.words.specs.declared.Verdict.{Verdict}
-use Rattle.words.specs.declared.Verdict.TheVariants.{Accepted}
 use Rattle.check_answers.specs.Sample.{Sample, sample, row, unused_from, refused}
 use Rattle.check_answers.specs.DeclarationSamples.{declaration_samples}
 
 -- Cause 1, "header outside its limits"; cause 2, "no rows, too many, or words not a multiple of 6".
 abbrev pub headers : List Sample
 headers =
-    sample (pos 256 ∷ []) (row 42 0 0 0 0 0) Accepted ∷  -- 256 variables
+    sample (pos 256 ∷ []) (row 42 0 0 0 0 0) (Ok tt) ∷  -- 256 variables
     sample (pos 257 ∷ []) (row 42 0 0 0 0 0) (refused 1 0) ∷  -- 257
     sample (negsuc 0 ∷ []) (row 42 0 0 0 0 0) (refused 1 0) ∷  -- −1
     sample [] (row 42 0 0 0 0 0) (refused 1 0) ∷  -- no number
-    sample (pos 0 ∷ pos 1 ∷ pos 4096 ∷ []) (row 42 0 0 0 0 0) Accepted ∷  -- lengths 1 and 4,096
+    sample (pos 0 ∷ pos 1 ∷ pos 4096 ∷ []) (row 42 0 0 0 0 0) (Ok tt) ∷  -- lengths 1 and 4,096
     sample (pos 0 ∷ pos 4097 ∷ []) (row 42 0 0 0 0 0) (refused 1 0) ∷  -- length 4,097
     sample (pos 0 ∷ pos 0 ∷ []) (row 42 0 0 0 0 0) (refused 1 0) ∷  -- length 0
     sample (pos 0 ∷ negsuc 0 ∷ []) (row 42 0 0 0 0 0) (refused 1 0) ∷  -- length −1
-    sample (pos 0 ∷ replicate 32 (pos 1)) (row 42 0 0 0 0 0) Accepted ∷  -- 32 arrays
+    sample (pos 0 ∷ replicate 32 (pos 1)) (row 42 0 0 0 0 0) (Ok tt) ∷  -- 32 arrays
     sample (pos 0 ∷ replicate 33 (pos 1)) (row 42 0 0 0 0 0) (refused 1 0) ∷  -- 33
-    sample (pos 0 ∷ pos 4096 ∷ pos 4096 ∷ []) (row 42 0 0 0 0 0) Accepted ∷  -- 8,192 words
+    sample (pos 0 ∷ pos 4096 ∷ pos 4096 ∷ []) (row 42 0 0 0 0 0) (Ok tt) ∷  -- 8,192 words
     sample (pos 1 ∷ pos 4096 ∷ pos 4096 ∷ []) (row 42 0 0 0 0 0) (refused 1 0) ∷  -- 8,193
     sample (pos 0 ∷ []) [] (refused 2 0) ∷  -- no rows
     sample (pos 0 ∷ []) (row 42 0 0 0 0 0 ++ pos 0 ∷ []) (refused 2 0) ∷  -- 7 words
@@ -40,7 +39,7 @@ fields =
     sample (pos 0 ∷ []) (row 42 1 0 0 0 0 ++ row 57 0 0 0 0 0) (refused 3 1) ∷  -- kind 57
     sample (pos 0 ∷ []) (row 42 1 0 0 0 0 ++ row 61 0 0 0 0 0) (refused 3 1) ∷  -- kind 61
     sample (pos 0 ∷ []) (row 42 1 0 0 0 0 ++ (negsuc 0 ∷ pos 0 ∷ pos 0 ∷ pos 0 ∷ pos 0 ∷ pos 0 ∷ [])) (refused 3 1) ∷  -- kind −1
-    sample (pos 0 ∷ []) (row 42 1 0 0 0 0 ++ row 40 0 0 0 0 0) Accepted ∷  -- 40 empty
+    sample (pos 0 ∷ []) (row 42 1 0 0 0 0 ++ row 40 0 0 0 0 0) (Ok tt) ∷  -- 40 empty
     sample (pos 0 ∷ []) (row 42 1 0 0 0 0 ++ row 51 0 0 0 0 0) (refused 7 1) ∷  -- 51 is in the language
     sample (pos 0 ∷ []) (row 42 0 0 0 0 0 ++ row 33 0 0 0 0 0) (refused 3 1) ∷  -- 3 before 5
     sample (pos 0 ∷ []) (row 42 1 0 0 0 0 ++ row 41 0 0 0 0 0 ++ row 33 0 0 0 0 0) (refused 3 2) ∷  -- 3 before 4
@@ -65,25 +64,25 @@ links =
     sample (pos 0 ∷ []) (row 42 1 0 0 0 0 ++ row 43 2 3 0 0 0 ++ row 1 0 0 0 0 0 ++ row 40 0 0 0 0 4 ++ row 40 0 0 0 0 0) (refused 4 1) ∷  -- a branch with next
     sample (pos 0 ∷ []) (row 42 1 0 0 0 0 ++ row 43 2 3 4 0 0 ++ row 1 0 0 0 0 0 ++ row 40 0 0 0 0 0 ++ row 40 0 0 0 0 5 ++ row 40 0 0 0 0 0) (refused 4 1) ∷  -- an else with next
     sample (pos 0 ∷ []) (row 42 1 0 0 0 0 ++ row 44 2 3 0 0 0 ++ row 1 0 0 0 0 0 ++ row 40 0 0 0 0 4 ++ row 40 0 0 0 0 0) (refused 4 1) ∷  -- a body with next
-    sample (pos 0 ∷ []) (row 42 1 0 0 0 0 ++ row 40 0 0 0 0 2 ++ row 40 0 0 0 0 0) Accepted ∷  -- an item with next
+    sample (pos 0 ∷ []) (row 42 1 0 0 0 0 ++ row 40 0 0 0 0 2 ++ row 40 0 0 0 0 0) (Ok tt) ∷  -- an item with next
     sample (pos 0 ∷ []) (row 42 1 0 0 0 0 ++ row 46 0 0 0 0 0) (refused 4 1) ∷  -- for without a body
-    sample (pos 0 ∷ []) (row 42 1 0 0 0 0 ++ row 46 0 0 0 2 0 ++ row 40 0 0 0 0 0) Accepted ∷  -- for without its parts
+    sample (pos 0 ∷ []) (row 42 1 0 0 0 0 ++ row 46 0 0 0 2 0 ++ row 40 0 0 0 0 0) (Ok tt) ∷  -- for without its parts
     sample (pos 0 ∷ []) (row 42 1 0 0 0 0 ++ row 44 2 0 0 0 0 ++ row 1 0 0 0 0 0) (refused 4 1) ∷  -- while without a body
-    sample (pos 0 ∷ []) (row 42 1 0 0 0 0 ++ row 46 2 3 4 5 0 ++ row 1 0 0 0 0 0 ++ row 1 0 0 0 0 0 ++ row 1 0 0 0 0 0 ++ row 40 0 0 0 0 0) Accepted ∷  -- for with its parts
+    sample (pos 0 ∷ []) (row 42 1 0 0 0 0 ++ row 46 2 3 4 5 0 ++ row 1 0 0 0 0 0 ++ row 1 0 0 0 0 0 ++ row 1 0 0 0 0 0 ++ row 40 0 0 0 0 0) (Ok tt) ∷  -- for with its parts
     sample (pos 0 ∷ []) (row 42 1 0 0 0 0 ++ row 46 2 0 0 3 0 ++ row 40 0 0 0 0 0 ++ row 40 0 0 0 0 0) (refused 4 1) ∷  -- a statement for its start
     sample (pos 0 ∷ []) (row 42 1 0 0 0 0 ++ row 46 0 2 0 3 0 ++ row 40 0 0 0 0 0 ++ row 40 0 0 0 0 0) (refused 4 1) ∷  -- a statement for its test
     sample (pos 0 ∷ []) (row 42 1 0 0 0 0 ++ row 46 0 0 2 3 0 ++ row 40 0 0 0 0 0 ++ row 40 0 0 0 0 0) (refused 4 1) ∷  -- a statement for its step
-    sample (pos 0 ∷ []) (row 42 1 0 0 0 0 ++ row 43 2 3 0 0 0 ++ row 1 0 0 0 0 0 ++ row 40 0 0 0 0 0) Accepted ∷  -- if
-    sample (pos 0 ∷ []) (row 42 1 0 0 0 0 ++ row 43 2 3 4 0 0 ++ row 1 0 0 0 0 0 ++ row 40 0 0 0 0 0 ++ row 40 0 0 0 0 0) Accepted ∷  -- with else
+    sample (pos 0 ∷ []) (row 42 1 0 0 0 0 ++ row 43 2 3 0 0 0 ++ row 1 0 0 0 0 0 ++ row 40 0 0 0 0 0) (Ok tt) ∷  -- if
+    sample (pos 0 ∷ []) (row 42 1 0 0 0 0 ++ row 43 2 3 4 0 0 ++ row 1 0 0 0 0 0 ++ row 40 0 0 0 0 0 ++ row 40 0 0 0 0 0) (Ok tt) ∷  -- with else
     sample (pos 0 ∷ []) (row 42 1 0 0 0 0 ++ row 43 0 2 0 0 0 ++ row 40 0 0 0 0 0) (refused 4 1) ∷  -- without a test
     sample (pos 0 ∷ []) (row 42 1 0 0 0 0 ++ row 44 0 2 0 0 0 ++ row 40 0 0 0 0 0) (refused 4 1) ∷  -- while without a test
-    sample (pos 0 ∷ []) (row 42 1 0 0 0 0 ++ row 45 2 3 0 0 0 ++ row 40 0 0 0 0 0 ++ row 1 0 0 0 0 0) Accepted ∷  -- do
+    sample (pos 0 ∷ []) (row 42 1 0 0 0 0 ++ row 45 2 3 0 0 0 ++ row 40 0 0 0 0 0 ++ row 1 0 0 0 0 0) (Ok tt) ∷  -- do
     sample (pos 0 ∷ []) (row 42 1 0 0 0 0 ++ row 45 2 0 0 0 0 ++ row 40 0 0 0 0 0) (refused 4 1) ∷  -- do without a test
     sample (pos 0 ∷ []) (row 42 1 0 0 0 0 ++ row 45 0 2 0 0 0 ++ row 1 0 0 0 0 0) (refused 4 1) ∷  -- do without a body
-    sample (pos 0 ∷ []) (row 42 1 0 0 0 0 ++ row 47 2 0 0 0 0 ++ row 1 0 0 0 0 0) Accepted ∷  -- switch without items
+    sample (pos 0 ∷ []) (row 42 1 0 0 0 0 ++ row 47 2 0 0 0 0 ++ row 1 0 0 0 0 0) (Ok tt) ∷  -- switch without items
     sample (pos 0 ∷ []) (row 42 1 0 0 0 0 ++ row 47 0 2 0 0 0 ++ row 40 0 0 0 0 0) (refused 4 1) ∷  -- switch without a selector
     sample (pos 0 ∷ pos 1 ∷ []) (row 42 1 0 0 0 0 ++ row 41 2 0 0 0 0 ++ row 3 0 0 0 0 0) (refused 4 2) ∷  -- element without an index
-    sample (pos 0 ∷ []) (row 42 1 0 0 0 0 ++ row 41 2 0 0 0 0 ++ row 19 3 4 5 0 0 ++ row 1 0 0 0 0 0 ++ row 1 0 0 0 0 0 ++ row 1 0 0 0 0 0) Accepted ∷  -- conditional
+    sample (pos 0 ∷ []) (row 42 1 0 0 0 0 ++ row 41 2 0 0 0 0 ++ row 19 3 4 5 0 0 ++ row 1 0 0 0 0 0 ++ row 1 0 0 0 0 0 ++ row 1 0 0 0 0 0) (Ok tt) ∷  -- conditional
     sample (pos 0 ∷ []) (row 42 1 0 0 0 0 ++ row 41 2 0 0 0 0 ++ row 19 0 3 4 0 0 ++ row 1 0 0 0 0 0 ++ row 1 0 0 0 0 0) (refused 4 2) ∷  -- without a test
     sample (pos 0 ∷ []) (row 42 1 0 0 0 0 ++ row 41 2 0 0 0 0 ++ row 19 3 0 4 0 0 ++ row 1 0 0 0 0 0 ++ row 1 0 0 0 0 0) (refused 4 2) ∷  -- without yes
     sample (pos 0 ∷ []) (row 42 1 0 0 0 0 ++ row 41 2 0 0 0 0 ++ row 19 3 4 0 0 0 ++ row 1 0 0 0 0 0 ++ row 1 0 0 0 0 0) (refused 4 2) ∷  -- without no
@@ -102,11 +101,11 @@ rows_once =
 -- Cause 6, "variable, array or label number outside".
 abbrev pub numbers : List Sample
 numbers =
-    sample (pos 1 ∷ []) (row 42 1 0 0 0 0 ++ row 41 2 0 0 0 0 ++ row 2 0 0 0 0 0) Accepted ∷  -- the last variable
+    sample (pos 1 ∷ []) (row 42 1 0 0 0 0 ++ row 41 2 0 0 0 0 ++ row 2 0 0 0 0 0) (Ok tt) ∷  -- the last variable
     sample (pos 1 ∷ []) (row 42 1 0 0 0 0 ++ row 41 2 0 0 0 0 ++ row 2 1 0 0 0 0) (refused 6 2) ∷  -- one more
     sample (pos 1 ∷ []) (row 42 1 0 0 0 0 ++ row 41 2 0 0 0 0 ++ (pos 2 ∷ negsuc 0 ∷ pos 0 ∷ pos 0 ∷ pos 0 ∷ pos 0 ∷ [])) (refused 6 2) ∷  -- negative
     sample (pos 1 ∷ pos 3 ∷ []) (row 42 1 0 0 0 0 ++ row 41 2 0 0 0 0 ++ row 2 1 0 0 0 0) (refused 6 2) ∷  -- a number from V to S−1
-    sample (pos 0 ∷ pos 1 ∷ []) (row 42 1 0 0 0 0 ++ row 41 2 0 0 0 0 ++ row 3 0 3 0 0 0 ++ row 1 0 0 0 0 0) Accepted ∷  -- the last array
+    sample (pos 0 ∷ pos 1 ∷ []) (row 42 1 0 0 0 0 ++ row 41 2 0 0 0 0 ++ row 3 0 3 0 0 0 ++ row 1 0 0 0 0 0) (Ok tt) ∷  -- the last array
     sample (pos 0 ∷ pos 1 ∷ []) (row 42 1 0 0 0 0 ++ row 41 2 0 0 0 0 ++ row 3 1 3 0 0 0 ++ row 1 0 0 0 0 0) (refused 6 2) ∷  -- one more
     []
 
@@ -116,15 +115,15 @@ places =
     sample (pos 0 ∷ []) (row 42 1 0 0 0 0 ++ row 50 0 0 0 0 0) (refused 7 1) ∷  -- break in a block
     sample (pos 0 ∷ []) (row 42 1 0 0 0 0 ++ row 48 0 0 0 0 0) (refused 7 1) ∷  -- case in a block
     sample (pos 0 ∷ []) (row 42 1 0 0 0 0 ++ row 49 0 0 0 0 0) (refused 7 1) ∷  -- default in a block
-    sample (pos 0 ∷ []) (row 42 1 0 0 0 0 ++ row 47 2 3 0 0 0 ++ row 1 0 0 0 0 0 ++ row 50 0 0 0 0 0) Accepted ∷  -- break in a switch
+    sample (pos 0 ∷ []) (row 42 1 0 0 0 0 ++ row 47 2 3 0 0 0 ++ row 1 0 0 0 0 0 ++ row 50 0 0 0 0 0) (Ok tt) ∷  -- break in a switch
     sample (pos 0 ∷ []) (row 42 1 0 0 0 0 ++ row 47 2 3 0 0 0 ++ row 1 0 0 0 0 0 ++ row 51 0 0 0 0 0) (refused 7 3) ∷  -- continue in a switch
-    sample (pos 0 ∷ []) (row 42 1 0 0 0 0 ++ row 44 2 3 0 0 0 ++ row 1 0 0 0 0 0 ++ row 50 0 0 0 0 0) Accepted ∷  -- break in a while
-    sample (pos 0 ∷ []) (row 42 1 0 0 0 0 ++ row 44 2 3 0 0 0 ++ row 1 0 0 0 0 0 ++ row 51 0 0 0 0 0) Accepted ∷  -- continue in a while
-    sample (pos 0 ∷ []) (row 42 1 0 0 0 0 ++ row 45 2 3 0 0 0 ++ row 51 0 0 0 0 0 ++ row 1 0 0 0 0 0) Accepted ∷  -- continue in a do
-    sample (pos 0 ∷ []) (row 42 1 0 0 0 0 ++ row 46 0 0 0 2 0 ++ row 51 0 0 0 0 0) Accepted ∷  -- continue in a for
-    sample (pos 0 ∷ []) (row 42 1 0 0 0 0 ++ row 44 2 3 0 0 0 ++ row 1 0 0 0 0 0 ++ row 47 4 5 0 0 0 ++ row 1 0 0 0 0 0 ++ row 51 0 0 0 0 0) Accepted ∷  -- continue in a switch in a while
+    sample (pos 0 ∷ []) (row 42 1 0 0 0 0 ++ row 44 2 3 0 0 0 ++ row 1 0 0 0 0 0 ++ row 50 0 0 0 0 0) (Ok tt) ∷  -- break in a while
+    sample (pos 0 ∷ []) (row 42 1 0 0 0 0 ++ row 44 2 3 0 0 0 ++ row 1 0 0 0 0 0 ++ row 51 0 0 0 0 0) (Ok tt) ∷  -- continue in a while
+    sample (pos 0 ∷ []) (row 42 1 0 0 0 0 ++ row 45 2 3 0 0 0 ++ row 51 0 0 0 0 0 ++ row 1 0 0 0 0 0) (Ok tt) ∷  -- continue in a do
+    sample (pos 0 ∷ []) (row 42 1 0 0 0 0 ++ row 46 0 0 0 2 0 ++ row 51 0 0 0 0 0) (Ok tt) ∷  -- continue in a for
+    sample (pos 0 ∷ []) (row 42 1 0 0 0 0 ++ row 44 2 3 0 0 0 ++ row 1 0 0 0 0 0 ++ row 47 4 5 0 0 0 ++ row 1 0 0 0 0 0 ++ row 51 0 0 0 0 0) (Ok tt) ∷  -- continue in a switch in a while
     sample (pos 0 ∷ []) (row 42 1 0 0 0 0 ++ row 44 2 3 0 0 4 ++ row 1 0 0 0 0 0 ++ row 40 0 0 0 0 0 ++ row 50 0 0 0 0 0) (refused 7 4) ∷  -- break after a while
-    sample (pos 0 ∷ []) (row 42 1 0 0 0 0 ++ row 47 2 3 0 0 0 ++ row 1 0 0 0 0 0 ++ row 48 0 0 0 0 0) Accepted ∷  -- case in a switch
+    sample (pos 0 ∷ []) (row 42 1 0 0 0 0 ++ row 47 2 3 0 0 0 ++ row 1 0 0 0 0 0 ++ row 48 0 0 0 0 0) (Ok tt) ∷  -- case in a switch
     sample (pos 0 ∷ []) (row 42 1 0 0 0 0 ++ row 47 2 3 0 0 0 ++ row 1 0 0 0 0 0 ++ row 42 4 0 0 0 0 ++ row 48 0 0 0 0 0) (refused 7 4) ∷  -- case in a block in a switch
     sample (pos 0 ∷ []) (row 42 1 0 0 0 0 ++ row 44 2 3 0 0 0 ++ row 1 0 0 0 0 0 ++ row 49 0 0 0 0 0) (refused 7 3) ∷  -- default as a body
     []
@@ -133,24 +132,24 @@ places =
 abbrev pub marks : List Sample
 marks =
     sample (pos 0 ∷ []) (row 42 1 0 0 0 0 ++ row 47 2 3 0 0 0 ++ row 1 0 0 0 0 0 ++ row 48 5 0 0 0 4 ++ row 48 5 0 0 0 0) (refused 8 4) ∷  -- two equal cases
-    sample (pos 0 ∷ []) (row 42 1 0 0 0 0 ++ row 47 2 3 0 0 0 ++ row 1 0 0 0 0 0 ++ row 48 5 0 0 0 4 ++ row 48 6 0 0 0 0) Accepted ∷  -- two cases
-    sample (pos 0 ∷ []) (row 42 1 0 0 0 0 ++ row 47 2 3 0 0 0 ++ row 1 0 0 0 0 0 ++ row 48 5 0 0 0 4 ++ (pos 48 ∷ negsuc 4 ∷ pos 0 ∷ pos 0 ∷ pos 0 ∷ pos 0 ∷ [])) Accepted ∷  -- 5 and −5
+    sample (pos 0 ∷ []) (row 42 1 0 0 0 0 ++ row 47 2 3 0 0 0 ++ row 1 0 0 0 0 0 ++ row 48 5 0 0 0 4 ++ row 48 6 0 0 0 0) (Ok tt) ∷  -- two cases
+    sample (pos 0 ∷ []) (row 42 1 0 0 0 0 ++ row 47 2 3 0 0 0 ++ row 1 0 0 0 0 0 ++ row 48 5 0 0 0 4 ++ (pos 48 ∷ negsuc 4 ∷ pos 0 ∷ pos 0 ∷ pos 0 ∷ pos 0 ∷ [])) (Ok tt) ∷  -- 5 and −5
     sample (pos 0 ∷ []) (row 42 1 0 0 0 0 ++ row 47 2 3 0 0 0 ++ row 1 0 0 0 0 0 ++ row 48 5 0 0 0 4 ++ row 40 0 0 0 0 5 ++ row 48 5 0 0 0 0) (refused 8 5) ∷  -- a statement between
     sample (pos 0 ∷ []) (row 42 1 0 0 0 0 ++ row 47 2 3 0 0 0 ++ row 1 0 0 0 0 0 ++ row 48 5 0 0 0 4 ++ row 48 6 0 0 0 5 ++ row 48 5 0 0 0 0) (refused 8 5) ∷  -- a case between
     sample (pos 0 ∷ []) (row 42 1 0 0 0 0 ++ row 47 2 3 0 0 0 ++ row 1 0 0 0 0 0 ++ row 49 0 0 0 0 4 ++ row 49 0 0 0 0 0) (refused 8 4) ∷  -- two defaults
-    sample (pos 0 ∷ []) (row 42 1 0 0 0 0 ++ row 47 2 3 0 0 0 ++ row 1 0 0 0 0 0 ++ row 48 0 0 0 0 4 ++ row 49 0 0 0 0 0) Accepted ∷  -- case 0 and default
-    sample (pos 0 ∷ []) (row 42 1 0 0 0 0 ++ row 47 2 3 0 0 0 ++ row 1 0 0 0 0 0 ++ row 48 5 0 0 0 4 ++ row 47 5 6 0 0 0 ++ row 1 0 0 0 0 0 ++ row 48 5 0 0 0 0) Accepted ∷  -- one in an inner switch
+    sample (pos 0 ∷ []) (row 42 1 0 0 0 0 ++ row 47 2 3 0 0 0 ++ row 1 0 0 0 0 0 ++ row 48 0 0 0 0 4 ++ row 49 0 0 0 0 0) (Ok tt) ∷  -- case 0 and default
+    sample (pos 0 ∷ []) (row 42 1 0 0 0 0 ++ row 47 2 3 0 0 0 ++ row 1 0 0 0 0 0 ++ row 48 5 0 0 0 4 ++ row 47 5 6 0 0 0 ++ row 1 0 0 0 0 0 ++ row 48 5 0 0 0 0) (Ok tt) ∷  -- one in an inner switch
     sample (pos 0 ∷ []) (row 42 1 0 0 0 0 ++ row 47 2 3 0 0 5 ++ row 1 0 0 0 0 0 ++ row 48 5 0 0 0 4 ++ row 48 5 0 0 0 0 ++ row 50 0 0 0 0 0) (refused 7 5) ∷  -- 7 before 8
     []
 
 -- Kinds 54 to 56: cause 4, "An arm elsewhere, or another kind among arms, gets 4", and cause 5.
 abbrev pub arms : List Sample
 arms =
-    sample (pos 0 ∷ []) (row 42 1 0 0 0 0 ++ row 54 0 0 0 0 0) Accepted ∷  -- guarded if without arms
-    sample (pos 0 ∷ []) (row 42 1 0 0 0 0 ++ row 55 0 0 0 0 0) Accepted ∷  -- guarded do without arms
-    sample (pos 0 ∷ []) (row 42 1 0 0 0 0 ++ row 54 2 0 0 0 0 ++ row 56 3 4 0 0 5 ++ row 1 0 0 0 0 0 ++ row 42 0 0 0 0 0 ++ row 56 6 7 0 0 0 ++ row 1 0 0 0 0 0 ++ row 42 0 0 0 0 0) Accepted ∷  -- guarded if with two arms
-    sample (pos 0 ∷ []) (row 42 1 0 0 0 0 ++ row 55 2 0 0 0 0 ++ row 56 3 4 0 0 5 ++ row 1 0 0 0 0 0 ++ row 42 0 0 0 0 0 ++ row 56 6 7 0 0 0 ++ row 1 0 0 0 0 0 ++ row 42 0 0 0 0 0) Accepted ∷  -- guarded do with two arms
-    sample (pos 0 ∷ []) (row 42 1 0 0 0 0 ++ row 54 0 0 0 0 2 ++ row 40 0 0 0 0 0) Accepted ∷  -- an item behind it
+    sample (pos 0 ∷ []) (row 42 1 0 0 0 0 ++ row 54 0 0 0 0 0) (Ok tt) ∷  -- guarded if without arms
+    sample (pos 0 ∷ []) (row 42 1 0 0 0 0 ++ row 55 0 0 0 0 0) (Ok tt) ∷  -- guarded do without arms
+    sample (pos 0 ∷ []) (row 42 1 0 0 0 0 ++ row 54 2 0 0 0 0 ++ row 56 3 4 0 0 5 ++ row 1 0 0 0 0 0 ++ row 42 0 0 0 0 0 ++ row 56 6 7 0 0 0 ++ row 1 0 0 0 0 0 ++ row 42 0 0 0 0 0) (Ok tt) ∷  -- guarded if with two arms
+    sample (pos 0 ∷ []) (row 42 1 0 0 0 0 ++ row 55 2 0 0 0 0 ++ row 56 3 4 0 0 5 ++ row 1 0 0 0 0 0 ++ row 42 0 0 0 0 0 ++ row 56 6 7 0 0 0 ++ row 1 0 0 0 0 0 ++ row 42 0 0 0 0 0) (Ok tt) ∷  -- guarded do with two arms
+    sample (pos 0 ∷ []) (row 42 1 0 0 0 0 ++ row 54 0 0 0 0 2 ++ row 40 0 0 0 0 0) (Ok tt) ∷  -- an item behind it
     sample (pos 0 ∷ []) (row 42 1 0 0 0 0 ++ row 44 2 3 0 0 0 ++ row 1 0 0 0 0 0 ++ row 54 0 0 0 0 4 ++ row 40 0 0 0 0 0) (refused 4 1) ∷  -- as a body, with next
     sample (pos 0 ∷ []) (row 42 1 0 0 0 0 ++ row 56 2 3 0 0 0 ++ row 1 0 0 0 0 0 ++ row 42 0 0 0 0 0) (refused 4 0) ∷  -- an arm for the first item of a block
     sample (pos 0 ∷ []) (row 42 1 0 0 0 0 ++ row 40 0 0 0 0 2 ++ row 56 3 4 0 0 0 ++ row 1 0 0 0 0 0 ++ row 42 0 0 0 0 0) (refused 4 1) ∷  -- an arm for the next item
@@ -178,15 +177,15 @@ guarded_places =
     sample (pos 0 ∷ []) (row 42 1 0 0 0 0 ++ row 54 2 0 0 0 0 ++ row 56 3 4 0 0 0 ++ row 1 0 0 0 0 0 ++ row 42 5 0 0 0 0 ++ row 50 0 0 0 0 0) (refused 7 5) ∷  -- break in a guarded if
     sample (pos 0 ∷ []) (row 42 1 0 0 0 0 ++ row 55 2 0 0 0 0 ++ row 56 3 4 0 0 0 ++ row 1 0 0 0 0 0 ++ row 42 5 0 0 0 0 ++ row 50 0 0 0 0 0) (refused 7 5) ∷  -- break in a guarded do
     sample (pos 0 ∷ []) (row 42 1 0 0 0 0 ++ row 55 2 0 0 0 0 ++ row 56 3 4 0 0 0 ++ row 1 0 0 0 0 0 ++ row 42 5 0 0 0 0 ++ row 51 0 0 0 0 0) (refused 7 5) ∷  -- continue in a guarded do
-    sample (pos 0 ∷ []) (row 42 1 0 0 0 0 ++ row 44 2 3 0 0 0 ++ row 1 0 0 0 0 0 ++ row 55 4 0 0 0 0 ++ row 56 5 6 0 0 0 ++ row 1 0 0 0 0 0 ++ row 42 7 0 0 0 0 ++ row 50 0 0 0 0 0) Accepted ∷  -- break in a guarded do in a while
-    sample (pos 0 ∷ []) (row 42 1 0 0 0 0 ++ row 44 2 3 0 0 0 ++ row 1 0 0 0 0 0 ++ row 54 4 0 0 0 0 ++ row 56 5 6 0 0 0 ++ row 1 0 0 0 0 0 ++ row 42 7 0 0 0 0 ++ row 51 0 0 0 0 0) Accepted ∷  -- continue in a guarded if in a while
-    sample (pos 0 ∷ []) (row 42 1 0 0 0 0 ++ row 47 2 3 0 0 0 ++ row 1 0 0 0 0 0 ++ row 54 4 0 0 0 0 ++ row 56 5 6 0 0 0 ++ row 1 0 0 0 0 0 ++ row 42 7 0 0 0 0 ++ row 50 0 0 0 0 0) Accepted ∷  -- break in a guarded if in a switch
+    sample (pos 0 ∷ []) (row 42 1 0 0 0 0 ++ row 44 2 3 0 0 0 ++ row 1 0 0 0 0 0 ++ row 55 4 0 0 0 0 ++ row 56 5 6 0 0 0 ++ row 1 0 0 0 0 0 ++ row 42 7 0 0 0 0 ++ row 50 0 0 0 0 0) (Ok tt) ∷  -- break in a guarded do in a while
+    sample (pos 0 ∷ []) (row 42 1 0 0 0 0 ++ row 44 2 3 0 0 0 ++ row 1 0 0 0 0 0 ++ row 54 4 0 0 0 0 ++ row 56 5 6 0 0 0 ++ row 1 0 0 0 0 0 ++ row 42 7 0 0 0 0 ++ row 51 0 0 0 0 0) (Ok tt) ∷  -- continue in a guarded if in a while
+    sample (pos 0 ∷ []) (row 42 1 0 0 0 0 ++ row 47 2 3 0 0 0 ++ row 1 0 0 0 0 0 ++ row 54 4 0 0 0 0 ++ row 56 5 6 0 0 0 ++ row 1 0 0 0 0 0 ++ row 42 7 0 0 0 0 ++ row 50 0 0 0 0 0) (Ok tt) ∷  -- break in a guarded if in a switch
     sample (pos 0 ∷ []) (row 42 1 0 0 0 0 ++ row 47 2 3 0 0 0 ++ row 1 0 0 0 0 0 ++ row 55 4 0 0 0 0 ++ row 56 5 6 0 0 0 ++ row 1 0 0 0 0 0 ++ row 42 7 0 0 0 0 ++ row 51 0 0 0 0 0) (refused 7 7) ∷  -- continue in a guarded do in a switch
     sample (pos 0 ∷ []) (row 42 1 0 0 0 0 ++ row 47 2 3 0 0 0 ++ row 1 0 0 0 0 0 ++ row 54 4 0 0 0 0 ++ row 56 5 6 0 0 0 ++ row 1 0 0 0 0 0 ++ row 42 7 0 0 0 0 ++ row 48 0 0 0 0 0) (refused 7 7) ∷  -- case in an arm's block in a switch
     []
 
 -- A row of a kind as an expression statement's value, with the rows below it.
-abbrev pub valued : Verdict → List ℤ → (ℕ → List ℤ) → ℕ → Sample
+abbrev pub valued : Result (Unit {0}) NumberedRefusal → List ℤ → (ℕ → List ℤ) → ℕ → Sample
 valued answer below top kind = sample (pos 1 ∷ []) (row 42 1 0 0 0 0 ++ row 41 2 0 0 0 0 ++ top kind ++ below) answer
 
 abbrev pub signs : List ℕ
@@ -204,15 +203,15 @@ increments = 27 ∷ 28 ∷ 29 ∷ 30 ∷ []
 -- Kinds 4 and 5; 6 to 18 and comma; 21 to 26; 27 to 30: accepted with their operands, and cause 4 where one is absent or no place.
 abbrev pub operands : List Sample
 operands =
-    map (valued Accepted (row 1 0 0 0 0 0) (λ kind. row kind 3 0 0 0 0)) signs
+    map (valued (Ok tt) (row 1 0 0 0 0 0) (λ kind. row kind 3 0 0 0 0)) signs
     ++ map (valued (refused 4 2) [] (λ kind. row kind 0 0 0 0 0)) signs
-    ++ map (valued Accepted (row 1 0 0 0 0 0 ++ row 1 0 0 0 0 0) (λ kind. row kind 3 4 0 0 0)) operations
+    ++ map (valued (Ok tt) (row 1 0 0 0 0 0 ++ row 1 0 0 0 0 0) (λ kind. row kind 3 4 0 0 0)) operations
     ++ map (valued (refused 4 2) (row 1 0 0 0 0 0) (λ kind. row kind 0 3 0 0 0)) operations
     ++ map (valued (refused 4 2) (row 1 0 0 0 0 0) (λ kind. row kind 3 0 0 0 0)) operations
-    ++ map (valued Accepted (row 2 0 0 0 0 0 ++ row 1 0 0 0 0 0) (λ kind. row kind 3 4 0 0 0)) stores
+    ++ map (valued (Ok tt) (row 2 0 0 0 0 0 ++ row 1 0 0 0 0 0) (λ kind. row kind 3 4 0 0 0)) stores
     ++ map (valued (refused 4 2) (row 1 0 0 0 0 0 ++ row 1 0 0 0 0 0) (λ kind. row kind 3 4 0 0 0)) stores
     ++ map (valued (refused 4 2) (row 2 0 0 0 0 0) (λ kind. row kind 3 0 0 0 0)) stores
-    ++ map (valued Accepted (row 2 0 0 0 0 0) (λ kind. row kind 3 0 0 0 0)) increments
+    ++ map (valued (Ok tt) (row 2 0 0 0 0 0) (λ kind. row kind 3 0 0 0 0)) increments
     ++ map (valued (refused 4 2) (row 1 0 0 0 0 0) (λ kind. row kind 3 0 0 0 0)) increments
 
 -- Cause 3 for each field that the table of kinds does not name, by how many it names, from a on. Next is unused in expressions.

@@ -1,6 +1,7 @@
 -- Brief: what the checks answer, by tests that cost less to compute on a small table: the rows that are linked are listed once, and depth is
 -- looked at only where there are more rows than levels are allowed.
-use Rattle.std.specs.Prelude.{List, [], ◌∷◌, ℕ, zero, suc, ◌+◌, ◌*◌, leb, eqb, ℤ, length}
+use Rattle.std.specs.Prelude.{List, [], ◌∷◌, ℕ, zero, suc, ◌+◌, ◌*◌, leb, eqb, ℤ, length, None, Option, Result}
+use Rattle.words.specs.Refusals.{NumberedRefusal}
 use Rattle.words.specs.Word.{pick, one}
 use Rattle.words.specs.Table.{row_count}
 use Rattle.words.specs.Layout.{header_fits, count_fits, depth_limit}
@@ -8,9 +9,6 @@ use Rattle.words.specs.Links.{target}
 use Rattle.words.specs.Search.{lowest_row, some_field}
 use Rattle.words.specs.declared.Form.{Form}
 use Rattle.words.specs.declared.Form.TheVariants.{Source, Kernel}
-use Rattle.words.specs.declared.Found.{Found}
-use Rattle.words.specs.declared.Found.TheVariants.{Nothing}
-use Rattle.words.specs.declared.Verdict.{Verdict}
 use Rattle.check_fields.specs.Fields.{foreign, mislinked, bounds_of, outside}
 use Rattle.check_structure.specs.Links.{not_once, too_deep}
 use Rattle.check_structure.specs.Refusal.{at, unless, ◌next◌}
@@ -32,7 +30,7 @@ times [] row = 0
 times (linked ∷ rest) row = times rest row + one (eqb linked row)
 
 -- Causes 3 to 6, with the rows that are linked.
-unfoldable pub brief_causes : Form → List ℤ → List ℤ → List ℕ → Verdict
+unfoldable pub brief_causes : Form → List ℤ → List ℤ → List ℕ → Result (Unit {0}) NumberedRefusal
 brief_causes form header rows linked =
     at 3 (lowest_row rows (λ row. some_field (foreign form rows row)))
     next at 4 (lowest_row rows (λ row. some_field (mislinked rows row)))
@@ -40,18 +38,18 @@ brief_causes form header rows linked =
     next at 6 (lowest_row rows (λ row. some_field (outside (bounds_of form header) rows row)))
 
 -- Causes 1 to 6.
-unfoldable pub brief_structure : Form → List ℤ → List ℤ → Verdict
+unfoldable pub brief_structure : Form → List ℤ → List ℤ → Result (Unit {0}) NumberedRefusal
 brief_structure form header rows =
     unless (header_fits form header) 1
     next unless (count_fits form (length rows)) 2
     next brief_causes form header rows (targets rows (6 * row_count rows))
 
 -- The lowest row that is too deep, where there may be one.
-unfoldable pub brief_depth : Form → List ℤ → Found
-brief_depth form rows = pick (leb (row_count rows) (depth_limit form)) Nothing (lowest_row rows (too_deep form rows))
+unfoldable pub brief_depth : Form → List ℤ → Option ℕ
+brief_depth form rows = pick (leb (row_count rows) (depth_limit form)) None (lowest_row rows (too_deep form rows))
 
 -- What the check of source programs answers.
-unfoldable pub brief_source : List ℤ → List ℤ → Verdict
+unfoldable pub brief_source : List ℤ → List ℤ → Result (Unit {0}) NumberedRefusal
 brief_source header rows =
     brief_structure Source header rows
     next at 7 (lowest_row rows (wrongly_placed rows))
@@ -61,7 +59,7 @@ brief_source header rows =
     next function_refusal rows
 
 -- What the check of kernel programs answers.
-unfoldable pub brief_kernel : List ℤ → List ℤ → Verdict
+unfoldable pub brief_kernel : List ℤ → List ℤ → Result (Unit {0}) NumberedRefusal
 brief_kernel header rows =
     brief_structure Kernel header rows
     next at 7 (lowest_row rows (returns_outside rows))

@@ -1,5 +1,6 @@
 -- Laws of the brief tests: the checks answer the same.
-use Rattle.std.specs.Prelude.{◌≡◌, Bool, true, false, List, [], ◌∷◌, map, ℕ, zero, suc, ◌+◌, ◌*◌, ◌≤◌, leb, ℤ}
+use Rattle.std.specs.Prelude.{◌≡◌, Bool, true, false, List, [], ◌∷◌, map, ℕ, zero, suc, ◌+◌, ◌*◌, ◌≤◌, leb, ℤ, Err, None, Ok, Option, Result}
+use Rattle.words.specs.Refusals.{NumberedRefusal}
 use Rattle.std.proofs.Math.Path.{refl, ap}
 use Rattle.std.proofs.Common.{sym, ap₂, ◌∙◌, arith, leb-true}
 use Rattle.words.specs.Word.{pick}
@@ -9,10 +10,6 @@ use Rattle.words.specs.Search.{lowest_row}
 use Rattle.words.specs.SearchLaws.{lowest_row-same}
 use Rattle.words.specs.declared.Form.{Form}
 use Rattle.words.specs.declared.Form.TheVariants.{Source, Kernel}
-use Rattle.words.specs.declared.Found.{Found}
-use Rattle.words.specs.declared.Found.TheVariants.{Nothing}
-use Rattle.words.specs.declared.Verdict.{Verdict}
-use Rattle.words.specs.declared.Verdict.TheVariants.{Accepted, Refused}
 use Rattle.check_fields.specs.Fields.{bounds_of}
 use Rattle.check_structure.specs.Links.{links_among, link_count, not_once, too_deep}
 use Rattle.check_structure.specs.DepthLaws.{depth-inside, shallow-none-deep}
@@ -42,10 +39,10 @@ depth-few (beside leads d) = let less = depth-few d in let later = leads.later i
 
 -- ---- chains of causes: the later ones count only where the first accept
 
-same_next : (verdict rest other : Verdict) → (verdict ≡ Accepted → rest ≡ other) → (verdict next rest) ≡ (verdict next other)
+same_next : (verdict rest other : Result (Unit {0}) NumberedRefusal) → (verdict ≡ Ok tt → rest ≡ other) → (verdict next rest) ≡ (verdict next other)
 unfolding ◌next◌
-same_next Accepted rest other e = e refl
-same_next (Refused refusal) rest other e = refl
+same_next (Ok tt) rest other e = e refl
+same_next (Err refusal) rest other e = refl
 
 -- ---- the same answers
 
@@ -61,22 +58,22 @@ module _ (form : Form) (header rows : List ℤ) where
   unfolding brief_structure structural_refusal
   same-structure = rw same-causes
 
-  few-shallow : row_count rows ≤ depth_limit form → structural_refusal form header rows ≡ Accepted → lowest_row rows (too_deep form rows) ≡ Nothing
+  few-shallow : row_count rows ≤ depth_limit form → structural_refusal form header rows ≡ Ok tt → lowest_row rows (too_deep form rows) ≡ None
   few-shallow few e =
       let t = structured-tree form _ rows (accepted-structured form header rows e).1 in
       shallow-none-deep rows t form (λ row depth d. let inside = depth-inside rows t d in let less = depth-few d in omega arith)
 
-  same-depth-by : (few : Bool) → leb (row_count rows) (depth_limit form) ≡ few → structural_refusal form header rows ≡ Accepted → lowest_row rows (too_deep form rows) ≡ pick few Nothing (lowest_row rows (too_deep form rows))
+  same-depth-by : (few : Bool) → leb (row_count rows) (depth_limit form) ≡ few → structural_refusal form header rows ≡ Ok tt → lowest_row rows (too_deep form rows) ≡ pick few None (lowest_row rows (too_deep form rows))
   same-depth-by true few e = few-shallow (leb-true _ _ few) e
   same-depth-by false few e = refl
 
-  same-depth : structural_refusal form header rows ≡ Accepted → lowest_row rows (too_deep form rows) ≡ brief_depth form rows
+  same-depth : structural_refusal form header rows ≡ Ok tt → lowest_row rows (too_deep form rows) ≡ brief_depth form rows
   unfolding brief_depth
   same-depth e = same-depth-by (leb (row_count rows) (depth_limit form)) refl e
 
 -- where the first six causes accept, the cause of depth may be the brief one
-skip-depth : (form : Form) (header rows : List ℤ) (rest : Verdict) → structural_refusal form header rows ≡ Accepted → (at 9 (lowest_row rows (too_deep form rows)) next rest) ≡ (at 9 (brief_depth form rows) next rest)
-skip-depth form header rows rest e = ap (λ (found : Found). at 9 found next rest) (same-depth form header rows e)
+skip-depth : (form : Form) (header rows : List ℤ) (rest : Result (Unit {0}) NumberedRefusal) → structural_refusal form header rows ≡ Ok tt → (at 9 (lowest_row rows (too_deep form rows)) next rest) ≡ (at 9 (brief_depth form rows) next rest)
+skip-depth form header rows rest e = ap (λ (found : Option ℕ). at 9 found next rest) (same-depth form header rows e)
 
 pub same_source : (header rows : List ℤ) → source_refusal header rows ≡ brief_source header rows
 unfolding brief_source source_refusal later_refusal
@@ -90,11 +87,11 @@ unfolding brief_kernel kernel_refusal kernel_causes form_causes
 same-kernel header rows =
     rw (← same-structure Kernel header rows)
     (same_next (structural_refusal Kernel header rows) _ _ (λ e.
-    same_next (at 7 _) _ _ (λ _. ap (λ (verdict : Verdict). verdict next at 19 (lowest_row rows (declared_before rows)) next function_refusal rows) (skip-depth Kernel header rows _ e))))
+    same_next (at 7 _) _ _ (λ _. ap (λ (verdict : Result (Unit {0}) NumberedRefusal). verdict next at 19 (lowest_row rows (declared_before rows)) next function_refusal rows) (skip-depth Kernel header rows _ e))))
 
 -- ---- tables
 
 -- what is answered of each of a list, where two tests answer the same
-pub map_same : {A : Type 0} (test other : A → Verdict) → ((a : A) → test a ≡ other a) → (list : List A) → map test list ≡ map other list
+pub map_same : {A : Type 0} (test other : A → Result (Unit {0}) NumberedRefusal) → ((a : A) → test a ≡ other a) → (list : List A) → map test list ≡ map other list
 map_same test other same [] = refl
 map_same test other same (a ∷ rest) = ap₂ ◌∷◌ (same a) (map_same test other same rest)

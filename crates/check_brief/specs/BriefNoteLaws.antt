@@ -1,5 +1,5 @@
 -- Laws of the brief notes: they are the notes.
-use Rattle.std.specs.Prelude.{◌≡◌, Bool, List, ltb, ℤ}
+use Rattle.std.specs.Prelude.{◌≡◌, Bool, List, ltb, ℤ, None, Option, Some}
 use Rattle.std.proofs.Math.Path.{refl, sym, ap}
 use Rattle.std.proofs.Common.{◌∙◌}
 use Prim.Native.Nat.{ℕ, zero, suc, ◌+◌, ◌*◌, ◌/◌, ◌%◌, ◌≤◌, ◌<◌}
@@ -10,8 +10,6 @@ use Rattle.words.specs.Links.{target, linker, received, note_by, note}
 use Rattle.words.specs.Search.{lowest}
 use Rattle.words.specs.SearchLaws.{lowest-below}
 use Rattle.words.specs.declared.Form.{Form}
-use Rattle.words.specs.declared.Found.{Found}
-use Rattle.words.specs.declared.Found.TheVariants.{At, Nothing}
 use Rattle.check_structure.specs.Links.{deeper, depth_at, too_deep}
 use Rattle.check_brief.specs.BriefNotes.{linked_from, linker_among, brief_note, brief_depth_at}
 
@@ -26,15 +24,15 @@ module _ (rows : List ℤ) where
   unfolding linker
   same-linker words row h = same-among (6 * row) words 0 row h
 
-  linker-below : (row word : ℕ) → linker rows row ≡ At word → word < 6 * row
+  linker-below : (row word : ℕ) → linker rows row ≡ Some word → word < 6 * row
   unfolding linker
   linker-below row word e = let b = lowest-below (λ (w : ℕ). eqb (target rows w) row) word (6 * row) 0 e in omega arith
 
   module _ (hand : ℕ → ℕ → ℕ → ℕ) (first words : ℕ) where
-    same_received : (f g : ℕ → ℕ) (row : ℕ) → ((other : ℕ) → other < row → f other ≡ g other) → (found : Found) → linker rows row ≡ found → received hand first f found ≡ received hand first g found
+    same_received : (f g : ℕ → ℕ) (row : ℕ) → ((other : ℕ) → other < row → f other ≡ g other) → (found : Option ℕ) → linker rows row ≡ found → received hand first f found ≡ received hand first g found
     unfolding received
-    same_received f g row same Nothing e = refl
-    same_received f g row same (At word) e = ap (hand (word / 6) (word % 6)) (same (word / 6) (let b = linker-below row word e in omega arith))
+    same_received f g row same None e = refl
+    same_received f g row same (Some word) e = ap (hand (word / 6) (word % 6)) (same (word / 6) (let b = linker-below row word e in omega arith))
 
     same-note : (links row : ℕ) → 6 * row ≤ words → brief_note links hand first (linked_from rows 0 words) row ≡ note_by links hand first rows row
     unfolding brief_note note_by

@@ -1,9 +1,7 @@
 -- Brief notes: what is noted of a row along the links, by tests that cost less to compute: the rows that are linked are listed once.
-use Rattle.std.specs.Prelude.{List, [], ◌∷◌, ℕ, zero, suc, ◌+◌, ◌*◌, eqb, ℤ}
+use Rattle.std.specs.Prelude.{List, [], ◌∷◌, ℕ, zero, suc, ◌+◌, ◌*◌, eqb, ℤ, None, Option, Some}
 use Rattle.words.specs.Word.{pick}
 use Rattle.words.specs.Links.{target, received}
-use Rattle.words.specs.declared.Found.{Found}
-use Rattle.words.specs.declared.Found.TheVariants.{At, Nothing}
 use Rattle.check_structure.specs.Links.{deeper}
 
 -- The rows that so many words from a word on link, in order.
@@ -12,10 +10,10 @@ linked_from rows word zero = []
 linked_from rows word (suc count) = target rows word ∷ linked_from rows (word + 1) count
 
 -- The first of so many words that links the row; the list begins with what `word` links.
-unfoldable pub linker_among : ℕ → List ℕ → ℕ → ℕ → Found
-linker_among zero linked word row = Nothing
-linker_among (suc count) [] word row = Nothing
-linker_among (suc count) (first ∷ rest) word row = let later = linker_among count rest (word + 1) row in pick (eqb first row) (At word) later
+unfoldable pub linker_among : ℕ → List ℕ → ℕ → ℕ → Option ℕ
+linker_among zero linked word row = None
+linker_among (suc count) [] word row = None
+linker_among (suc count) (first ∷ rest) word row = let later = linker_among count rest (word + 1) row in pick (eqb first row) (Some word) later
 
 -- The note of a row, with the rows that are linked.
 unfoldable pub brief_note : ℕ → (ℕ → ℕ → ℕ → ℕ) → ℕ → List ℕ → ℕ → ℕ

@@ -11,3 +11,5 @@ pub mod BriefNotes
 pub mod BriefLaws
 -- Laws of the brief notes: they are the notes.
 pub mod BriefNoteLaws
+-- Pass laws: what the pass for the causes 3, 4 and 6 finds, in numbers.
+pub mod PassLaws

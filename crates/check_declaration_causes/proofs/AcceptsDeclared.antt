@@ -1,13 +1,11 @@
 -- The causes 18, 19 and 20 accept exactly the tables whose declarations are as the request demands; so a table without declarations.
-use Rattle.std.specs.Prelude.{◌≡◌, false, List, ◌↔◌, ℕ, ◌<◌, ℤ}
+use Rattle.std.specs.Prelude.{◌≡◌, false, List, ◌↔◌, ℕ, ◌<◌, ℤ, None, Ok}
 use Rattle.std.proofs.Common.{arith}
 use Rattle.words.specs.Table.{row_count, number_at}
 use Rattle.words.specs.Laws.{by_cases, neither}
 use Rattle.words.specs.Kinds.{kinds, kind_in, kind_of, kind_row, statement_fields, sort_in, sort_of, sort_at, is_link}
 use Rattle.words.specs.Links.{link}
 use Rattle.words.specs.Search.{lowest_row}
-use Rattle.words.specs.declared.Found.TheVariants.{Nothing}
-use Rattle.words.specs.declared.Verdict.TheVariants.{Accepted}
 use Rattle.words.specs.SearchLaws.{lowest_row-all, all-lowest_row}
 use Rattle.check_structure.specs.Refusal.{at, ◌next◌}
 use Rattle.check_structure.specs.RefusalLaws.{next-accepts, accepts-next, at-accepts, accepts-at}
@@ -27,7 +25,7 @@ unfolding link sort_at sort_of sort_in kind_of kind_in kinds kind_row statement_
 block-second rows block = rw block
 
 module _ (rows : List ℤ) (t : Tree rows) (block : number_at rows 0 0 ≡ 42) where
-  accepted-declared : declaration_refusal rows ≡ Accepted → WellDeclared rows
+  accepted-declared : declaration_refusal rows ≡ (Ok tt) → WellDeclared rows
   unfolding declaration_refusal declared_twice
   accepted-declared e =
       let c18 = next-accepts (at 18 _) _ e in
@@ -42,14 +40,14 @@ module _ (rows : List ℤ) (t : Tree rows) (block : number_at rows 0 0 ≡ 42) w
         few_declarations = none-too-many rows (at-accepts 20 _ c19.1);
       }
 
-  declared-accepted : WellDeclared rows → declaration_refusal rows ≡ Accepted
+  declared-accepted : WellDeclared rows → declaration_refusal rows ≡ (Ok tt)
   unfolding declaration_refusal declared_twice
   declared-accepted w =
       accepts-next (at 18 _) _ (accepts-at 18 _ (all-lowest_row rows (names_itself rows) (λ row n. names-others rows t row n (w.not_own row n))))
       (accepts-next (at 19 _) _ (accepts-at 19 _ (all-lowest_row rows (declared_twice rows) (λ row n. rw (declared-once rows t row n (w.not_twice row n)) (as-no-parameter rows t (block-second rows block) row n (w.not_parameter row n)))))
       (accepts-at 20 _ (few-none rows w.few_declarations)))
 
-  pub accepts-declared : declaration_refusal rows ≡ Accepted ↔ WellDeclared rows
+  pub accepts-declared : declaration_refusal rows ≡ (Ok tt) ↔ WellDeclared rows
   accepts-declared = (accepted-declared, declared-accepted)
 
 -- ---- without declarations
@@ -60,17 +58,17 @@ module _ (rows : List ℤ) (none : declaration_count rows ≡ 0) where
   none-declared row n =
       by_cases (is_declaration rows row) (λ d. absurd (let more = before-later rows row (row_count rows) d n in omega arith)) (λ d. d)
 
-  pub undeclared-once : lowest_row rows (declared_before rows) ≡ Nothing
+  pub undeclared-once : lowest_row rows (declared_before rows) ≡ None
   unfolding declared_before
   undeclared-once = all-lowest_row rows (declared_before rows) (λ row n. rw (none-declared row n))
 
-  pub undeclared-accepted : declaration_refusal rows ≡ Accepted
+  pub undeclared-accepted : declaration_refusal rows ≡ (Ok tt)
   unfolding declaration_refusal names_itself one_too_many declared_twice declared_before declared_as_parameter
   undeclared-accepted =
       accepts-next (at 18 _) _ (accepts-at 18 _ (all-lowest_row rows (names_itself rows) (λ row n. rw (none-declared row n))))
       (accepts-next (at 19 _) _ (accepts-at 19 _ (all-lowest_row rows (declared_twice rows) (λ row n. rw (none-declared row n))))
       (accepts-at 20 _ (all-lowest_row rows (one_too_many rows) (λ row n. rw (none-declared row n)))))
 
-  pub undeclared-inside : lowest_row rows (outside_block rows) ≡ Nothing
+  pub undeclared-inside : lowest_row rows (outside_block rows) ≡ None
   unfolding outside_block
   undeclared-inside = all-lowest_row rows (outside_block rows) (λ row n. rw (none-declared row n))

@@ -1,5 +1,5 @@
 -- Laws of 7, 19 and 20: "an item of a block", "a number declared twice in one block", "a 65th declaration".
-use Rattle.std.specs.Prelude.{◌≡◌, refl, ◌&&◌, List, eqb, ℤ}
+use Rattle.std.specs.Prelude.{◌≡◌, refl, ◌&&◌, List, eqb, ℤ, None}
 use Rattle.std.proofs.Common.{sym, ◌∙◌}
 use Rattle.std.proofs.Math.Path.{ap}
 use Rattle.std.proofs.Math.Bool.{true, false, true≢false}
@@ -10,7 +10,6 @@ use Rattle.words.specs.Table.{row_count, number_at}
 use Rattle.words.specs.Laws.{by_cases, both}
 use Rattle.words.specs.Search.{lowest_row}
 use Rattle.words.specs.SearchLaws.{lowest_row-all, all-lowest_row}
-use Rattle.words.specs.declared.Found.TheVariants.{Nothing}
 use Rattle.check_structure.specs.Structured.{Tree}
 use Rattle.words.specs.Declarations.{is_declaration, declarations_before, declaration_count}
 use Rattle.names.proofs.ScopeLaws.{before-later}
@@ -74,11 +73,11 @@ module _ (rows : List ℤ) where
       (λ d. rw d (let other = one-too-many row d (h row (omega arith)) in omega (arith, other)))
       (λ d. rw d (omega arith))
 
-  pub none-too-many : lowest_row rows (one_too_many rows) ≡ Nothing → FewDeclarations rows
+  pub none-too-many : lowest_row rows (one_too_many rows) ≡ None → FewDeclarations rows
   unfolding declaration_count
   none-too-many e = few-before (row_count rows) (λ row n. lowest_row-all rows (one_too_many rows) e row n)
 
-  pub few-none : FewDeclarations rows → lowest_row rows (one_too_many rows) ≡ Nothing
+  pub few-none : FewDeclarations rows → lowest_row rows (one_too_many rows) ≡ None
   unfolding declaration_count one_too_many
   few-none few = all-lowest_row rows (one_too_many rows) (λ row n. within row n)
     where

@@ -1,9 +1,9 @@
 -- Causes: 18, 19 and 20, and 7 for a declaration. Each test is true at a declaration's row that breaks the cause.
-use Rattle.std.specs.Prelude.{Bool, true, false, not, ◌&&◌, ◌||◌, List, ℕ, zero, suc, eqb, ℤ}
+use Rattle.std.specs.Prelude.{Bool, true, false, not, ◌&&◌, ◌||◌, List, ℕ, zero, suc, eqb, ℤ, Result}
+use Rattle.words.specs.Refusals.{NumberedRefusal}
 use Rattle.words.specs.Word.{pick}
 use Rattle.words.specs.Table.{row_count, number_at}
 use Rattle.words.specs.Search.{lowest_row, some_field}
-use Rattle.words.specs.declared.Verdict.{Verdict}
 use Rattle.words.specs.Links.{link}
 use Rattle.check_structure.specs.Refusal.{at, ◌next◌}
 use Rattle.words.specs.Declarations.{is_declaration, declarations_before, declaration_limit}
@@ -56,7 +56,7 @@ one_too_many rows row = is_declaration rows row && eqb (declarations_before rows
 -- ---- in order
 
 -- 18, 19 and 20, "each with the declaration's row, after 9 and before 10".
-unfoldable pub declaration_refusal : List ℤ → Verdict
+unfoldable pub declaration_refusal : List ℤ → Result (Unit {0}) NumberedRefusal
 declaration_refusal rows =
     at 18 (lowest_row rows (names_itself rows))
     next at 19 (lowest_row rows (declared_twice rows))

@@ -1,9 +1,7 @@
 -- Lower: the lower of the rows that two searches found.
-use Rattle.std.specs.Prelude.{min}
-use Rattle.words.specs.declared.Found.{Found}
-use Rattle.words.specs.declared.Found.TheVariants.{At, Nothing}
+use Rattle.std.specs.Prelude.{min, None, Option, Some, ℕ}
 
-unfoldable pub lower : Found → Found → Found
-lower Nothing other = other
-lower (At row) Nothing = At row
-lower (At row) (At other) = At (min row other)
+unfoldable pub lower : Option ℕ → Option ℕ → Option ℕ
+lower None other = other
+lower (Some row) None = Some row
+lower (Some row) (Some other) = Some (min row other)

@@ -15,8 +15,8 @@ use Rattle.check_notes.specs.declared.Note.TheVariants.{Before}
 use Rattle.check_parameter_causes.specs.Parameters.{declared_as_parameter}
 use Rattle.check_declaration_causes.specs.Causes.{outside_block, names_itself, declared_before, one_too_many}
 use Rattle.check_declarations.specs.Passes.{breaks}
-use Rattle.check_declarations.specs.declared.Cause.{Cause}
-use Rattle.check_declarations.specs.declared.Cause.TheVariants.{OutsideBlock, NamesItself, DeclaredBefore, DeclaredAsParameter, OneTooMany}
+use Rattle.check_declarations.specs.declared.DeclarationFault.{DeclarationFault}
+use Rattle.check_declarations.specs.declared.DeclarationFault.TheVariants.{OutsideBlock, NamesItself, DeclaredBefore, DeclaredAsParameter, OneTooMany}
 
 lone-kind : (kind : ℕ) → between 58 58 kind ≡ eqb kind 58
 lone-kind kind =
@@ -31,7 +31,7 @@ pub declaration-notes : {rows : List ℤ} {notes : List ℕ} → Notes rows (not
 unfolding is_declaration
 declaration-notes {rows} n = same-notes (λ row. before-note 58 58 rows row ∙ ap (λ (sort : ℕ → Bool). earlier_at sort rows row) (fun_ext (λ other. lone-kind (number_at rows other 0)))) n
 
-pub none-breaks : (cause : Cause) (rows : List ℤ) (row : ℕ) → is_declaration rows row ≡ false → breaks cause rows row ≡ false
+pub none-breaks : (cause : DeclarationFault) (rows : List ℤ) (row : ℕ) → is_declaration rows row ≡ false → breaks cause rows row ≡ false
 unfolding breaks outside_block names_itself declared_before declared_as_parameter one_too_many
 none-breaks OutsideBlock rows row d = rw d
 none-breaks NamesItself rows row d = rw d

@@ -3,7 +3,6 @@ ghost use Rattle.std.specs.Prelude.{◌≡◌, true, not, ◌&&◌, ◌+◌, ◌
 ghost use Rattle.words.specs.Table.{row_count, number_at};
 ghost use Rattle.words.specs.Links.{link as link_of};
 ghost use Rattle.words.specs.Search.{lowest_row};
-ghost use Rattle.check_grammar.specs.Grammar.{grammar};
 ghost use Rattle.check_structure.specs.Structured.{Tree};
 ghost use Rattle.check_structure.specs.Passes.{Notes};
 ghost use Rattle.words.specs.Declarations.{is_declaration};
@@ -12,11 +11,11 @@ ghost use Rattle.check_parameter_causes.specs.Parameters.{some_of_list};
 ghost use Rattle.check_declaration_causes.specs.Causes.{same_number};
 ghost use Rattle.check_declarations.specs.Passes.{breaks, looked_up};
 
-use super::Cause;
+use super::DeclarationFault;
 use super::initial::named_from;
-use check_grammar::{KindTable, link};
+use check_grammar::kinds::KindTable;
+use check_grammar::search::lowest_row;
 use check_structure::row_number::wide;
-use words::Found;
 use words::declarations::is_declaration;
 use words::table::number_at;
 
@@ -44,7 +43,7 @@ fn number_before(rows: &[i32], earlier: &[u16], row: usize) -> bool
 
 // A row of the list from this one on has the number.
 fn listed(kinds: &KindTable, rows: &[i32], first: usize, row: usize) -> bool
-    requires { Tree rows.now × (first < length rows.now / 6) × (row < length rows.now / 6) × (kinds.now ≡ grammar) }
+    requires { Tree rows.now × (first < length rows.now / 6) × (row < length rows.now / 6) }
     ensures { result ≡ some_of_list (row_count rows.now) (same_number rows.now row) rows.now first }
 {
     let number = number_at(rows, row, 1);
@@ -56,20 +55,20 @@ fn listed(kinds: &KindTable, rows: &[i32], first: usize, row: usize) -> bool
         if number_at(rows, parameter, 1) == number {
             return true;
         }
-        parameter = link(kinds, rows, parameter, 5);
+        parameter = kinds.link(rows, parameter, 5);
     }
 }
 
 // A declaration of a function's block has the number of a parameter; `function` is the one whose block the row is, or in whose block's own
 // list it stands.
 fn as_parameter(kinds: &KindTable, rows: &[i32], function: usize, row: usize) -> bool
-    requires { Tree rows.now × (function < length rows.now / 6) × (row < length rows.now / 6) × (kinds.now ≡ grammar) }
+    requires { Tree rows.now × (function < length rows.now / 6) × (row < length rows.now / 6) }
     ensures { result ≡ not (eqb (link_of rows.now function 3) row) && some_of_list (row_count rows.now) (same_number rows.now row) rows.now (link_of rows.now function 2) }
 {
-    if link(kinds, rows, function, 3) == row {
+    if kinds.link(rows, function, 3) == row {
         return false;
     }
-    listed(kinds, rows, link(kinds, rows, function, 2), row)
+    listed(kinds, rows, kinds.link(rows, function, 2), row)
 }
 
 // Cause 7: no item of a block, and no parameter, which has no b.
@@ -85,32 +84,38 @@ fn outside_block(rows: &[i32], items: &[u16], row: usize) -> bool
 
 // A declaration breaks the cause.
 fn declaration_breaks(
-    cause: Cause,
+    cause: DeclarationFault,
     kinds: &KindTable,
     rows: &[i32],
     notes: &[u16],
     row: usize,
 ) -> bool
-    requires { Tree rows.now × (row < length rows.now / 6) × (is_declaration rows.now row ≡ true) × Notes rows.now (looked_up cause rows.now) notes.now × (kinds.now ≡ grammar) }
+    requires { Tree rows.now × (row < length rows.now / 6) × (is_declaration rows.now row ≡ true) × Notes rows.now (looked_up cause rows.now) notes.now }
     ensures { result ≡ breaks cause rows.now row }
 {
     match cause {
-        Cause::OutsideBlock => outside_block(rows, notes, row),
-        Cause::NamesItself => named_from(
+        DeclarationFault::OutsideBlock => outside_block(rows, notes, row),
+        DeclarationFault::NamesItself => named_from(
             kinds,
             rows,
             number_at(rows, row, 1),
-            link(kinds, rows, row, 2),
+            kinds.link(rows, row, 2),
         ),
-        Cause::DeclaredBefore => number_before(rows, notes, row),
-        Cause::DeclaredAsParameter => as_parameter(kinds, rows, wide(notes[row]), row),
-        Cause::OneTooMany => wide(notes[row]) == LIMIT,
+        DeclarationFault::DeclaredBefore => number_before(rows, notes, row),
+        DeclarationFault::DeclaredAsParameter => as_parameter(kinds, rows, wide(notes[row]), row),
+        DeclarationFault::OneTooMany => wide(notes[row]) == LIMIT,
     }
 }
 
 // A row breaks the cause.
-fn row_breaks(cause: Cause, kinds: &KindTable, rows: &[i32], notes: &[u16], row: usize) -> bool
-    requires { Tree rows.now × (row < length rows.now / 6) × Notes rows.now (looked_up cause rows.now) notes.now × (kinds.now ≡ grammar) }
+fn row_breaks(
+    cause: DeclarationFault,
+    kinds: &KindTable,
+    rows: &[i32],
+    notes: &[u16],
+    row: usize,
+) -> bool
+    requires { Tree rows.now × (row < length rows.now / 6) × Notes rows.now (looked_up cause rows.now) notes.now }
     ensures { result ≡ breaks cause rows.now row }
 {
     if is_declaration(rows, row) {
@@ -120,17 +125,14 @@ fn row_breaks(cause: Cause, kinds: &KindTable, rows: &[i32], notes: &[u16], row:
 }
 
 // The lowest row that does.
-pub fn lowest_breaking(cause: Cause, kinds: &KindTable, rows: &[i32], notes: &[u16]) -> Found
-    requires { Tree rows.now × Notes rows.now (looked_up cause rows.now) notes.now × (kinds.now ≡ grammar) }
+pub fn lowest_breaking(
+    cause: DeclarationFault,
+    kinds: &KindTable,
+    rows: &[i32],
+    notes: &[u16],
+) -> Option<usize>
+    requires { Tree rows.now × Notes rows.now (looked_up cause rows.now) notes.now }
     ensures { result ≡ lowest_row rows.now (breaks cause rows.now) }
 {
-    let count = rows.len() / 6;
-    let mut row: usize = 0;
-    while row < count {
-        if row_breaks(cause, kinds, rows, notes, row) {
-            return Found::At(row);
-        }
-        row += 1;
-    }
-    Found::Nothing
+    lowest_row(rows, |row| row_breaks(cause, kinds, rows, notes, row))
 }

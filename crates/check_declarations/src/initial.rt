@@ -1,10 +1,9 @@
 // Cause 18: an initial expression naming its own number, by a walk down its links.
 ghost use Rattle.std.specs.Prelude.{◌≡◌, ◌+◌, ◌*◌, ◌/◌, ◌<◌, length};
-ghost use Rattle.check_grammar.specs.Grammar.{grammar};
 ghost use Rattle.check_structure.specs.Structured.{Tree};
 ghost use Rattle.check_declaration_causes.specs.Causes.{names_number, named_from};
 
-use check_grammar::{KindTable, link};
+use check_grammar::kinds::KindTable;
 use words::table::number_at;
 
 // The row names the variable with this number.
@@ -21,7 +20,7 @@ fn names_number(rows: &[i32], number: usize, row: usize) -> bool
 // The row names the number, or a row below it does; row 0 is no link's row. An expression is at most as deep as the check allows, and no
 // expression holds a declaration, so all walks together meet each row once.
 pub fn named_from(kinds: &KindTable, rows: &[i32], number: usize, row: usize) -> bool
-    requires { Tree rows.now × (row < length rows.now / 6) × (kinds.now ≡ grammar) }
+    requires { Tree rows.now × (row < length rows.now / 6) }
     ensures { result ≡ named_from rows.now number row }
 {
     if row == 0 {
@@ -30,12 +29,10 @@ pub fn named_from(kinds: &KindTable, rows: &[i32], number: usize, row: usize) ->
     if names_number(rows, number, row) {
         return true;
     }
-    let mut field: usize = 0;
-    while field < 6 {
-        if named_from(kinds, rows, number, link(kinds, rows, row, field)) {
+    for field in 0..6 {
+        if named_from(kinds, rows, number, kinds.link(rows, row, field)) {
             return true;
         }
-        field += 1;
     }
     false
 }

@@ -2,13 +2,13 @@
 #![tactic(auto)]
 
 use breaks::lowest_breaking;
-use check_grammar::KindTable;
+use check_grammar::kinds::KindTable;
 use check_structure::causes::at;
 use lower::lower_of;
 use names_resolver::counts::write_counts;
 use notes::{write_block_items, write_bodies, write_earlier};
 use words::declarations::declaration_count;
-use words::{Found, Refusal, Verdict};
+use words::{Cause, Refusal};
 
 pub mod breaks; // breaks.rt: the lowest row that breaks a cause
 pub mod initial; // initial.rt: cause 18, a walk down an initial expression
@@ -17,7 +17,6 @@ pub mod notes; // notes.rt: the notes of each row that the causes look up
 
 ghost use Rattle.std.specs.Prelude.{◌≡◌, ◌/◌, ◌≤◌, length};
 ghost use Rattle.words.specs.Search.{lowest_row};
-ghost use Rattle.check_grammar.specs.Grammar.{grammar};
 ghost use Rattle.check_structure.specs.Structured.{Tree};
 ghost use Rattle.check_structure.specs.Passes.{Notes};
 ghost use Rattle.words.specs.Declarations.{is_declaration, declaration_count, declarations_before};
@@ -27,7 +26,7 @@ ghost use Rattle.check_declaration_causes.specs.Causes.{outside_block, declared_
 
 // What a declaration can break.
 #[derive(Clone, Copy)]
-pub enum Cause {
+pub enum DeclarationFault {
     // 7
     OutsideBlock,
     // 18
@@ -41,12 +40,12 @@ pub enum Cause {
 }
 
 // Cause 19, with the notes of the rows.
-fn lowest_twice(kinds: &KindTable, rows: &[i32], earlier: &[u16], bodies: &[u16]) -> Found
-    requires { Tree rows.now × Notes rows.now (earlier_at (is_declaration rows.now) rows.now) earlier.now × Notes rows.now (body_at rows.now) bodies.now × (kinds.now ≡ grammar) }
+fn lowest_twice(kinds: &KindTable, rows: &[i32], earlier: &[u16], bodies: &[u16]) -> Option<usize>
+    requires { Tree rows.now × Notes rows.now (earlier_at (is_declaration rows.now) rows.now) earlier.now × Notes rows.now (body_at rows.now) bodies.now }
     ensures { result ≡ lowest_row rows.now (declared_twice rows.now) }
 {
-    let before = lowest_breaking(Cause::DeclaredBefore, kinds, rows, earlier);
-    let parameter = lowest_breaking(Cause::DeclaredAsParameter, kinds, rows, bodies);
+    let before = lowest_breaking(DeclarationFault::DeclaredBefore, kinds, rows, earlier);
+    let parameter = lowest_breaking(DeclarationFault::DeclaredAsParameter, kinds, rows, bodies);
     lower_of(before, parameter)
 }
 
@@ -57,30 +56,25 @@ fn noted_refusal(
     earlier: &[u16],
     bodies: &[u16],
     counts: &[u16],
-) -> Verdict
-    requires { Tree rows.now × Notes rows.now (earlier_at (is_declaration rows.now) rows.now) earlier.now × Notes rows.now (body_at rows.now) bodies.now × Notes rows.now (declarations_before rows.now) counts.now × (kinds.now ≡ grammar) }
+) -> Result<(), Refusal>
+    requires { Tree rows.now × Notes rows.now (earlier_at (is_declaration rows.now) rows.now) earlier.now × Notes rows.now (body_at rows.now) bodies.now × Notes rows.now (declarations_before rows.now) counts.now }
     ensures { result ≡ declaration_refusal rows.now }
 {
-    let own = lowest_breaking(Cause::NamesItself, kinds, rows, counts);
-    if let Found::At(row) = own {
-        return Verdict::Refused(Refusal {
-            number: 18,
-            place: row,
-        });
-    }
-    let twice = lowest_twice(kinds, rows, earlier, bodies);
-    if let Found::At(row) = twice {
-        return Verdict::Refused(Refusal {
-            number: 19,
-            place: row,
-        });
-    }
-    at(20, lowest_breaking(Cause::OneTooMany, kinds, rows, counts))
+    let own = lowest_breaking(DeclarationFault::NamesItself, kinds, rows, counts);
+    at(Cause::NamesItself, own)?;
+    at(
+        Cause::DeclaredTwice,
+        lowest_twice(kinds, rows, earlier, bodies),
+    )?;
+    at(
+        Cause::TooManyDeclared,
+        lowest_breaking(DeclarationFault::OneTooMany, kinds, rows, counts),
+    )
 }
 
 // The same, with room for the notes and the counts.
-fn declared_refusal(kinds: &KindTable, rows: &[i32]) -> Verdict
-    requires { Tree rows.now × (length rows.now / 6 ≤ 2048) × (kinds.now ≡ grammar) }
+fn declared_refusal(kinds: &KindTable, rows: &[i32]) -> Result<(), Refusal>
+    requires { Tree rows.now × (length rows.now / 6 ≤ 2048) }
     ensures { result ≡ declaration_refusal rows.now }
 {
     let mut earlier = [0u16; 2048];
@@ -93,33 +87,33 @@ fn declared_refusal(kinds: &KindTable, rows: &[i32]) -> Verdict
 }
 
 // Causes 18 to 20, in a tree of rows, with the number of its declarations. Most tables have none, and cost no pass along the links.
-pub fn declaration_refusal(kinds: &KindTable, rows: &[i32], declared: usize) -> Verdict
-    requires { Tree rows.now × (length rows.now / 6 ≤ 2048) × (kinds.now ≡ grammar) × (declared ≡ declaration_count rows.now) }
+pub fn declaration_refusal(kinds: &KindTable, rows: &[i32], declared: usize) -> Result<(), Refusal>
+    requires { Tree rows.now × (length rows.now / 6 ≤ 2048) × (declared ≡ declaration_count rows.now) }
     ensures { result ≡ declaration_refusal rows.now }
 {
     if declared == 0 {
-        return Verdict::Accepted;
+        return Ok(());
     }
     declared_refusal(kinds, rows)
 }
 
 // Cause 7, with room for the notes.
-fn lowest_declared_outside(kinds: &KindTable, rows: &[i32]) -> Found
-    requires { Tree rows.now × (length rows.now / 6 ≤ 2048) × (kinds.now ≡ grammar) }
+fn lowest_declared_outside(kinds: &KindTable, rows: &[i32]) -> Option<usize>
+    requires { Tree rows.now × (length rows.now / 6 ≤ 2048) }
     ensures { result ≡ lowest_row rows.now (outside_block rows.now) }
 {
     let mut items = [0u16; 2048];
     write_block_items(kinds, rows, &mut items);
-    lowest_breaking(Cause::OutsideBlock, kinds, rows, &items)
+    lowest_breaking(DeclarationFault::OutsideBlock, kinds, rows, &items)
 }
 
 // Cause 7 for declarations: the lowest that is no item of a block, in a tree of rows, with their number.
-pub fn lowest_outside_block(kinds: &KindTable, rows: &[i32], declared: usize) -> Found
-    requires { Tree rows.now × (length rows.now / 6 ≤ 2048) × (kinds.now ≡ grammar) × (declared ≡ declaration_count rows.now) }
+pub fn lowest_outside_block(kinds: &KindTable, rows: &[i32], declared: usize) -> Option<usize>
+    requires { Tree rows.now × (length rows.now / 6 ≤ 2048) × (declared ≡ declaration_count rows.now) }
     ensures { result ≡ lowest_row rows.now (outside_block rows.now) }
 {
     if declared == 0 {
-        return Found::Nothing;
+        return None;
     }
     lowest_declared_outside(kinds, rows)
 }

@@ -3,17 +3,16 @@ ghost use Rattle.std.specs.Prelude.{◌≡◌, true, ◌+◌, ◌*◌, ◌<◌, 
 ghost use Rattle.words.specs.Word.{pick};
 ghost use Rattle.words.specs.Layout.{header_fits};
 ghost use Rattle.words.specs.Kinds.{body_block};
-ghost use Rattle.check_grammar.specs.Grammar.{grammar};
 ghost use Rattle.words.specs.Links.{is_statement, is_block, fits_part, fits as fits_of};
 ghost use Rattle.words_roles.specs.Roles.{parameter_sort, role_sort};
 ghost use Rattle.words_roles.specs.Passes.{Parameters};
 ghost use Rattle.check_fields.specs.Fields.{foreign, leads_right, mislinked, declared_range, bounds_of, variable_fits, declared_fits, number_fits, outside};
 
 use super::{Bounds, NumberRange};
+use check_grammar::kinds::KindTable;
 use check_grammar::{
-    ABSENT, ARGUMENT, ARM, ARRAY, BODY_BLOCK, DECLARED, ITEM, KindTable, LABEL, NONE, OPERAND,
-    OPTIONAL, PARAMETER, PLACE, STATEMENT, VARIABLE, in_language, is_argument, is_arm, is_block,
-    is_expression, is_link, is_place, is_required, is_statement, sort_at,
+    ABSENT, ARGUMENT, ARM, ARRAY, BODY_BLOCK, DECLARED, ITEM, LABEL, NONE, OPERAND, OPTIONAL,
+    PARAMETER, PLACE, STATEMENT, VARIABLE, is_block, is_link, is_required,
 };
 use words::Form;
 use words::declarations::is_declaration;
@@ -22,40 +21,40 @@ use words::table::{natural, number_at};
 
 // Cause 3.
 pub fn is_foreign(kinds: &KindTable, form: Form, rows: &[i32], row: usize, field: usize) -> bool
-    requires { (6 * row + 5 < length rows.now) × (field < 6) × (kinds.now ≡ grammar) }
+    requires { (6 * row + 5 < length rows.now) × (field < 6) }
     ensures { result ≡ foreign form rows.now row field }
 {
     let number = number_at(rows, row, field);
     if field == 0 {
-        return !in_language(kinds, form, number);
+        return !kinds.in_language(form, number);
     }
     if number == 0 {
         return false;
     }
-    sort_at(kinds, rows, row, field) == NONE
+    kinds.sort_at(rows, row, field) == NONE
 }
 
 // What a branch or body may be: a statement, or a block where the sort asks for one.
 fn is_body(kinds: &KindTable, rows: &[i32], sort: u8, row: usize) -> bool
-    requires { (6 * row < length rows.now) × (kinds.now ≡ grammar) }
+    requires { 6 * row < length rows.now }
     ensures { result ≡ pick (eqb sort body_block) (is_block rows.now row) (is_statement rows.now row) }
 {
     if sort == BODY_BLOCK {
         return is_block(rows, row);
     }
-    is_statement(kinds, rows, row)
+    kinds.is_statement(rows, row)
 }
 
 // The row is of the sort that a link to a member, a branch or a body asks for.
 fn fits_part(kinds: &KindTable, rows: &[i32], sort: u8, row: usize) -> bool
-    requires { (6 * row + 5 < length rows.now) × (kinds.now ≡ grammar) }
+    requires { 6 * row + 5 < length rows.now }
     ensures { result ≡ fits_part rows.now sort row }
 {
     if sort == ARM {
-        return is_arm(kinds, rows, row);
+        return kinds.is_arm(rows, row);
     }
     if sort == ARGUMENT {
-        return is_argument(kinds, rows, row);
+        return kinds.is_argument(rows, row);
     }
     if sort == PARAMETER {
         return is_declaration(rows, row);
@@ -71,26 +70,25 @@ fn fits_part(kinds: &KindTable, rows: &[i32], sort: u8, row: usize) -> bool
 
 // The row is of the sort that a link asks for.
 fn fits(kinds: &KindTable, rows: &[i32], sort: u8, row: usize) -> bool
-    requires { (6 * row + 5 < length rows.now) × (kinds.now ≡ grammar) }
+    requires { 6 * row + 5 < length rows.now }
     ensures { result ≡ fits_of rows.now sort row }
 {
     if sort == OPERAND {
-        return is_expression(kinds, rows, row);
+        return kinds.is_expression(rows, row);
     }
     if sort == OPTIONAL {
-        return is_expression(kinds, rows, row);
+        return kinds.is_expression(rows, row);
     }
     if sort == PLACE {
-        return is_place(kinds, rows, row);
+        return kinds.is_place(rows, row);
     }
     if sort == ITEM {
-        return is_statement(kinds, rows, row);
+        return kinds.is_statement(rows, row);
     }
     fits_part(kinds, rows, sort, row)
 }
 
 fn leads_right(kinds: &KindTable, rows: &[i32], row: usize, sort: u8, link: usize) -> bool
-    requires { kinds.now ≡ grammar }
     ensures { result ≡ leads_right rows.now row sort link }
 {
     if row < link {
@@ -114,13 +112,13 @@ fn parameter_sort(field: usize) -> u8
 
 // What a field of a row holds, by the row's role. `parameters` marks the parameters.
 fn role_sort(kinds: &KindTable, rows: &[i32], parameters: &[u8], row: usize, field: usize) -> u8
-    requires { (6 * row + 5 < length rows.now) × (field < 6) × Parameters rows.now parameters.now × (kinds.now ≡ grammar) }
+    requires { (6 * row + 5 < length rows.now) × (field < 6) × Parameters rows.now parameters.now }
     ensures { result ≡ role_sort rows.now row field }
 {
     if parameters[row] == 1 {
         return parameter_sort(field);
     }
-    sort_at(kinds, rows, row, field)
+    kinds.sort_at(rows, row, field)
 }
 
 // Cause 4.
@@ -131,7 +129,7 @@ pub fn is_mislinked(
     row: usize,
     field: usize,
 ) -> bool
-    requires { (6 * row + 5 < length rows.now) × (field < 6) × Parameters rows.now parameters.now × (kinds.now ≡ grammar) }
+    requires { (6 * row + 5 < length rows.now) × (field < 6) × Parameters rows.now parameters.now }
     ensures { result ≡ mislinked rows.now row field }
 {
     let sort = role_sort(kinds, rows, parameters, row, field);
@@ -227,12 +225,12 @@ pub fn number_fits(bounds: Bounds, sort: u8, number: usize) -> bool
 
 // Cause 6.
 pub fn is_outside(kinds: &KindTable, bounds: Bounds, rows: &[i32], row: usize, field: usize) -> bool
-    requires { (6 * row + 5 < length rows.now) × (field < 6) × (kinds.now ≡ grammar) }
+    requires { (6 * row + 5 < length rows.now) × (field < 6) }
     ensures { result ≡ outside bounds rows.now row field }
 {
     !number_fits(
         bounds,
-        sort_at(kinds, rows, row, field),
+        kinds.sort_at(rows, row, field),
         number_at(rows, row, field),
     )
 }

@@ -1,5 +1,5 @@
 -- The causes 23 and 24 accept exactly the tables whose functions are as the request demands; so a table without functions.
-use Rattle.std.specs.Prelude.{◌≡◌, refl, Bool, true, not, ◌&&◌, ◌||◌, List, ◌↔◌, ℕ, ◌<◌, eqb, ℤ}
+use Rattle.std.specs.Prelude.{◌≡◌, refl, Bool, true, not, ◌&&◌, ◌||◌, List, ◌↔◌, ℕ, ◌<◌, eqb, ℤ, None, Ok}
 use Rattle.std.proofs.Math.Path.{subst}
 use Rattle.std.proofs.Common.{sym, ◌∙◌, arith}
 use Rattle.std.proofs.Math.Bool.{false}
@@ -11,8 +11,6 @@ use Rattle.words.specs.Laws.{by_cases, neither}
 use Rattle.words.specs.Links.{link}
 use Rattle.words.specs.Search.{lowest_row}
 use Rattle.words.specs.SearchLaws.{some-all, lowest_row-all, all-lowest_row}
-use Rattle.words.specs.declared.Found.TheVariants.{Nothing}
-use Rattle.words.specs.declared.Verdict.TheVariants.{Accepted}
 use Rattle.check_structure.specs.LinkLaws.{part-inside}
 use Rattle.check_structure.specs.Refusal.{at, ◌next◌}
 use Rattle.check_structure.specs.RefusalLaws.{next-accepts, accepts-next, at-accepts, accepts-at}
@@ -77,7 +75,7 @@ module _ (rows : List ℤ) (t : Tree rows) (root : is_definition rows 0 ≡ fals
 
   -- ---- both
 
-  accepted-functions : function_refusal rows ≡ Accepted → WellCalled rows
+  accepted-functions : function_refusal rows ≡ (Ok tt) → WellCalled rows
   unfolding function_refusal
   accepted-functions e =
       let c23 = next-accepts (at 23 _) _ e in
@@ -86,13 +84,13 @@ module _ (rows : List ℤ) (t : Tree rows) (root : is_definition rows 0 ≡ fals
       let defined : ((row : ℕ) → row < row_count rows → DefinedInOrder rows row) = λ row n. ordered rows t root row (places row n) in
       record { in_order = defined; called = λ row n. rightly defined row n (calls row n) }
 
-  functions-accepted : WellCalled rows → function_refusal rows ≡ Accepted
+  functions-accepted : WellCalled rows → function_refusal rows ≡ (Ok tt)
   unfolding function_refusal
   functions-accepted w =
       accepts-next (at 23 _) _ (accepts-at 23 _ (all-lowest_row rows (out_of_order rows) (λ row n. in_order rows t root row (w.in_order row n))))
       (accepts-at 24 _ (all-lowest_row rows (wrong_call rows) (λ row n. called-rightly w.in_order row n (w.called row n))))
 
-  pub accepts-functions : function_refusal rows ≡ Accepted ↔ WellCalled rows
+  pub accepts-functions : function_refusal rows ≡ (Ok tt) ↔ WellCalled rows
   accepts-functions = (accepted-functions, functions-accepted)
 
 -- ---- without functions
@@ -115,12 +113,12 @@ without-functions rows e =
     }
 
 module _ (rows : List ℤ) (none : NoFunctions rows) where
-  pub functionless-accepted : function_refusal rows ≡ Accepted
+  pub functionless-accepted : function_refusal rows ≡ (Ok tt)
   unfolding function_refusal out_of_order wrong_call
   functionless-accepted =
       accepts-next (at 23 _) _ (accepts-at 23 _ (all-lowest_row rows (out_of_order rows) (λ row n. rw (none.no_definition row n))))
       (accepts-at 24 _ (all-lowest_row rows (wrong_call rows) (λ row n. rw (none.no_call row n))))
 
-  pub functionless-inside : lowest_row rows (returns_outside rows) ≡ Nothing
+  pub functionless-inside : lowest_row rows (returns_outside rows) ≡ None
   unfolding returns_outside
   functionless-inside = all-lowest_row rows (returns_outside rows) (λ row n. rw (none.no_return row n))

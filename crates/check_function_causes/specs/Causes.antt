@@ -1,9 +1,9 @@
 -- Causes: 23 and 24, and 7 for a return. Each test is true at a row that breaks the cause.
-use Rattle.std.specs.Prelude.{Bool, not, ◌&&◌, ◌||◌, List, ℕ, eqb, leb, ℤ}
+use Rattle.std.specs.Prelude.{Bool, not, ◌&&◌, ◌||◌, List, ℕ, eqb, leb, ℤ, Result}
+use Rattle.words.specs.Refusals.{NumberedRefusal}
 use Rattle.words.specs.Table.{number_at}
 use Rattle.words.specs.Links.{link}
 use Rattle.words.specs.Search.{lowest_row}
-use Rattle.words.specs.declared.Verdict.{Verdict}
 use Rattle.check_structure.specs.Refusal.{at, ◌next◌}
 use Rattle.check_function_causes.specs.Functions.{is_definition, is_call, is_return, function_at, function_around, list_length}
 
@@ -37,5 +37,5 @@ wrong_call rows row = is_call rows row && wrong_call_of rows (function_at rows (
 -- ---- in order
 
 -- 23 and 24, "both after 20, with its row".
-unfoldable pub function_refusal : List ℤ → Verdict
+unfoldable pub function_refusal : List ℤ → Result (Unit {0}) NumberedRefusal
 function_refusal rows = at 23 (lowest_row rows (out_of_order rows)) next at 24 (lowest_row rows (wrong_call rows))

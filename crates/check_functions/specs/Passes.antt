@@ -3,10 +3,10 @@ use Rattle.std.specs.Prelude.{Bool, List, ℕ, ℤ}
 use Rattle.check_structure.specs.Passes.{Notes}
 use Rattle.check_function_causes.specs.Functions.{function_at, function_around}
 use Rattle.check_function_causes.specs.Causes.{returns_outside, out_of_order, wrong_call}
-use Rattle.check_functions.specs.declared.Cause.{Cause}
-use Rattle.check_functions.specs.declared.Cause.TheVariants.{ReturnsOutside, OutOfOrder, WrongCall}
+use Rattle.check_functions.specs.declared.FunctionFault.{FunctionFault}
+use Rattle.check_functions.specs.declared.FunctionFault.TheVariants.{ReturnsOutside, OutOfOrder, WrongCall}
 
-unfoldable pub breaks : Cause → List ℤ → ℕ → Bool
+unfoldable pub breaks : FunctionFault → List ℤ → ℕ → Bool
 breaks ReturnsOutside rows row = returns_outside rows row
 breaks OutOfOrder rows row = out_of_order rows row
 breaks WrongCall rows row = wrong_call rows row

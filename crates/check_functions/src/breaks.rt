@@ -1,18 +1,17 @@
 // The lowest row that breaks a cause, with what the cause looks up of each row.
 ghost use Rattle.std.specs.Prelude.{◌≡◌, false, ◌/◌, ◌<◌, length};
 ghost use Rattle.words.specs.Search.{lowest_row};
-ghost use Rattle.check_grammar.specs.Grammar.{grammar};
 ghost use Rattle.check_structure.specs.Structured.{Tree};
 ghost use Rattle.check_function_causes.specs.Functions.{is_definition};
 ghost use Rattle.check_function_causes.specs.Causes.{returns_outside, out_of_order, wrong_call};
 ghost use Rattle.check_functions.specs.Passes.{breaks, Known};
 
-use super::Cause;
+use super::FunctionFault;
 use super::calls::is_wrong_call;
 use super::front::function_of;
-use check_grammar::KindTable;
+use check_grammar::kinds::KindTable;
+use check_grammar::search::lowest_row;
 use check_structure::row_number::wide;
-use words::Found;
 use words::table::number_at;
 use words_roles::is_definition;
 
@@ -46,7 +45,7 @@ fn calls_wrongly(
     functions: &[u16],
     row: usize,
 ) -> bool
-    requires { Tree rows.now × (is_definition rows.now 0 ≡ false) × (row < length rows.now / 6) × Known rows.now around.now functions.now × (kinds.now ≡ grammar) }
+    requires { Tree rows.now × (is_definition rows.now 0 ≡ false) × (row < length rows.now / 6) × Known rows.now around.now functions.now }
     ensures { result ≡ wrong_call rows.now row }
 {
     if number_at(rows, row, 0) == 31 {
@@ -58,41 +57,36 @@ fn calls_wrongly(
 
 // A row breaks the cause.
 fn row_breaks(
-    cause: Cause,
+    cause: FunctionFault,
     kinds: &KindTable,
     rows: &[i32],
     around: &[u16],
     functions: &[u16],
     row: usize,
 ) -> bool
-    requires { Tree rows.now × (is_definition rows.now 0 ≡ false) × (row < length rows.now / 6) × Known rows.now around.now functions.now × (kinds.now ≡ grammar) }
+    requires { Tree rows.now × (is_definition rows.now 0 ≡ false) × (row < length rows.now / 6) × Known rows.now around.now functions.now }
     ensures { result ≡ breaks cause rows.now row }
 {
     match cause {
-        Cause::ReturnsOutside => returns_outside(rows, around, functions, row),
-        Cause::OutOfOrder => is_out_of_order(rows, around, functions, row),
-        Cause::WrongCall => calls_wrongly(kinds, rows, around, functions, row),
+        FunctionFault::ReturnsOutside => returns_outside(rows, around, functions, row),
+        FunctionFault::OutOfOrder => is_out_of_order(rows, around, functions, row),
+        FunctionFault::WrongCall => calls_wrongly(kinds, rows, around, functions, row),
     }
 }
 
 // The lowest row that does.
 pub fn lowest_breaking(
-    cause: Cause,
+    cause: FunctionFault,
     kinds: &KindTable,
     rows: &[i32],
     around: &[u16],
     functions: &[u16],
-) -> Found
-    requires { Tree rows.now × (is_definition rows.now 0 ≡ false) × Known rows.now around.now functions.now × (kinds.now ≡ grammar) }
+) -> Option<usize>
+    requires { Tree rows.now × (is_definition rows.now 0 ≡ false) × Known rows.now around.now functions.now }
     ensures { result ≡ lowest_row rows.now (breaks cause rows.now) }
 {
-    let count = rows.len() / 6;
-    let mut row: usize = 0;
-    while row < count {
-        if row_breaks(cause, kinds, rows, around, functions, row) {
-            return Found::At(row);
-        }
-        row += 1;
-    }
-    Found::Nothing
+    lowest_row(
+        rows,
+        |row| row_breaks(cause, kinds, rows, around, functions, row),
+    )
 }

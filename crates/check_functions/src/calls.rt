@@ -1,16 +1,15 @@
 // Cause 24: a call to no function, to its own or a higher one, or with the wrong number of arguments.
 ghost use Rattle.std.specs.Prelude.{◌≡◌, ◌/◌, ◌<◌, eqb, length};
-ghost use Rattle.check_grammar.specs.Grammar.{grammar};
 ghost use Rattle.check_structure.specs.Structured.{Tree};
 ghost use Rattle.check_function_causes.specs.Functions.{list_length};
 ghost use Rattle.check_function_causes.specs.Causes.{not_lower, wrong_count, wrong_call_of};
 
-use check_grammar::{KindTable, link};
+use check_grammar::kinds::KindTable;
 use words::table::number_at;
 
 // Two lists have as many rows. Both are gone through together, so that no call costs more than its arguments.
 fn same_length(kinds: &KindTable, rows: &[i32], one: usize, other: usize) -> bool
-    requires { Tree rows.now × (one < length rows.now / 6) × (other < length rows.now / 6) × (kinds.now ≡ grammar) }
+    requires { Tree rows.now × (one < length rows.now / 6) × (other < length rows.now / 6) }
     ensures { result ≡ eqb (list_length rows.now one) (list_length rows.now other) }
 {
     let mut row = one;
@@ -22,8 +21,8 @@ fn same_length(kinds: &KindTable, rows: &[i32], one: usize, other: usize) -> boo
         if beside == 0 {
             return false;
         }
-        row = link(kinds, rows, row, 5);
-        beside = link(kinds, rows, beside, 5);
+        row = kinds.link(rows, row, 5);
+        beside = kinds.link(rows, beside, 5);
     }
 }
 
@@ -40,11 +39,11 @@ fn is_not_lower(rows: &[i32], around: usize, number: usize) -> bool
 
 // Not as many arguments as the definition has parameters.
 fn is_wrong_count(kinds: &KindTable, rows: &[i32], definition: usize, row: usize) -> bool
-    requires { Tree rows.now × (definition < length rows.now / 6) × (row < length rows.now / 6) × (kinds.now ≡ grammar) }
+    requires { Tree rows.now × (definition < length rows.now / 6) × (row < length rows.now / 6) }
     ensures { result ≡ wrong_count rows.now definition row }
 {
-    let arguments = link(kinds, rows, row, 2);
-    let parameters = link(kinds, rows, definition, 2);
+    let arguments = kinds.link(rows, row, 2);
+    let parameters = kinds.link(rows, definition, 2);
     !same_length(kinds, rows, arguments, parameters)
 }
 
@@ -56,7 +55,7 @@ pub fn is_wrong_call(
     around: usize,
     row: usize,
 ) -> bool
-    requires { Tree rows.now × (definition < length rows.now / 6) × (around < length rows.now / 6) × (row < length rows.now / 6) × (kinds.now ≡ grammar) }
+    requires { Tree rows.now × (definition < length rows.now / 6) × (around < length rows.now / 6) × (row < length rows.now / 6) }
     ensures { result ≡ wrong_call_of rows.now definition around row }
 {
     if definition == 0 {

@@ -1,26 +1,25 @@
 // The definitions at the front: the row of each, at its number.
 ghost use Rattle.std.specs.Prelude.{◌≡◌, false, ◌*◌, ◌<◌, length};
-ghost use Rattle.check_grammar.specs.Grammar.{grammar};
 ghost use Rattle.check_structure.specs.Structured.{Tree};
 ghost use Rattle.check_structure.specs.Passes.{Notes};
 ghost use Rattle.check_function_causes.specs.Functions.{is_definition, function_at};
 ghost use Rattle.check_functions.specs.Passes.{Blank};
 
-use check_grammar::{KindTable, link};
+use check_grammar::kinds::KindTable;
 use check_structure::row_number::{narrow, wide};
 use words_roles::is_definition;
 
 // The definition of each number: a walk along row 0's list, while it has definitions.
 pub fn write_functions(kinds: &KindTable, rows: &[i32], functions: &mut [u16])
-    requires { Tree rows.now × (is_definition rows.now 0 ≡ false) × Blank rows.now functions.old × (kinds.now ≡ grammar) }
+    requires { Tree rows.now × (is_definition rows.now 0 ≡ false) × Blank rows.now functions.old }
     ensures { Notes rows.now (function_at rows.now) functions.new }
 {
-    let mut row = link(kinds, rows, 0, 1);
+    let mut row = kinds.link(rows, 0, 1);
     let mut number: usize = 0;
     while is_definition(rows, row) {
         functions[number] = narrow(row);
         number += 1;
-        row = link(kinds, rows, row, 5);
+        row = kinds.link(rows, row, 5);
     }
 }
 

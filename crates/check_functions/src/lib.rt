@@ -2,12 +2,12 @@
 #![tactic(auto)]
 
 use breaks::lowest_breaking;
-use check_grammar::KindTable;
+use check_grammar::kinds::KindTable;
 use check_notes::{Note, write_notes};
 use check_structure::causes::at;
 use front::write_functions;
 use words::table::number_at;
-use words::{Found, Refusal, Verdict};
+use words::{Cause, Refusal};
 
 pub mod breaks; // breaks.rt: the lowest row that breaks a cause
 pub mod calls; // calls.rt: cause 24, what is wrong with a call
@@ -15,7 +15,6 @@ pub mod front; // front.rt: the definitions at the front, by their numbers
 
 ghost use Rattle.std.specs.Prelude.{◌≡◌, false, ◌*◌, ◌/◌, ◌<◌, ◌≤◌, length};
 ghost use Rattle.words.specs.Search.{lowest_row};
-ghost use Rattle.check_grammar.specs.Grammar.{grammar};
 ghost use Rattle.check_structure.specs.Structured.{Tree};
 ghost use Rattle.check_function_causes.specs.Functions.{is_definition, is_of_functions, has_functions};
 ghost use Rattle.check_function_causes.specs.Causes.{returns_outside, function_refusal};
@@ -23,7 +22,7 @@ ghost use Rattle.check_functions.specs.Passes.{Blank, Known};
 
 // What a row of a function can break.
 #[derive(Clone, Copy)]
-pub enum Cause {
+pub enum FunctionFault {
     // 7
     ReturnsOutside,
     // 23
@@ -51,20 +50,17 @@ fn is_of_functions(rows: &[i32], row: usize) -> bool
 pub fn has_functions(rows: &[i32]) -> bool
     ensures { result ≡ has_functions rows.now }
 {
-    let count = rows.len() / 6;
-    let mut row: usize = 0;
-    while row < count {
+    for row in 0..rows.len() / 6 {
         if is_of_functions(rows, row) {
             return true;
         }
-        row += 1;
     }
     false
 }
 
 // Where each row stands, and the definition of each number.
 fn write_known(kinds: &KindTable, rows: &[i32], around: &mut [u16], functions: &mut [u16])
-    requires { Tree rows.now × (is_definition rows.now 0 ≡ false) × Blank rows.now around.old × Blank rows.now functions.old × (kinds.now ≡ grammar) }
+    requires { Tree rows.now × (is_definition rows.now 0 ≡ false) × Blank rows.now around.old × Blank rows.now functions.old }
     ensures { Known rows.now around.new functions.new }
 {
     write_notes(Note::Around(59), kinds, rows, around);
@@ -77,29 +73,35 @@ pub fn lowest_outside_function(
     rows: &[i32],
     around: &mut [u16],
     functions: &mut [u16],
-) -> Found
-    requires { Tree rows.now × (is_definition rows.now 0 ≡ false) × Blank rows.now around.old × Blank rows.now functions.old × (kinds.now ≡ grammar) }
+) -> Option<usize>
+    requires { Tree rows.now × (is_definition rows.now 0 ≡ false) × Blank rows.now around.old × Blank rows.now functions.old }
     ensures { result ≡ lowest_row rows.now (returns_outside rows.now) }
 {
     write_known(kinds, rows, around, functions);
-    lowest_breaking(Cause::ReturnsOutside, kinds, rows, around, functions)
+    lowest_breaking(
+        FunctionFault::ReturnsOutside,
+        kinds,
+        rows,
+        around,
+        functions,
+    )
 }
 
 // Causes 23 and 24, with what is known of the rows.
-fn known_refusal(kinds: &KindTable, rows: &[i32], around: &[u16], functions: &[u16]) -> Verdict
-    requires { Tree rows.now × (is_definition rows.now 0 ≡ false) × Known rows.now around.now functions.now × (kinds.now ≡ grammar) }
+fn known_refusal(
+    kinds: &KindTable,
+    rows: &[i32],
+    around: &[u16],
+    functions: &[u16],
+) -> Result<(), Refusal>
+    requires { Tree rows.now × (is_definition rows.now 0 ≡ false) × Known rows.now around.now functions.now }
     ensures { result ≡ function_refusal rows.now }
 {
-    let disordered = lowest_breaking(Cause::OutOfOrder, kinds, rows, around, functions);
-    if let Found::At(row) = disordered {
-        return Verdict::Refused(Refusal {
-            number: 23,
-            place: row,
-        });
-    }
+    let disordered = lowest_breaking(FunctionFault::OutOfOrder, kinds, rows, around, functions);
+    at(Cause::FunctionOrder, disordered)?;
     at(
-        24,
-        lowest_breaking(Cause::WrongCall, kinds, rows, around, functions),
+        Cause::WrongCall,
+        lowest_breaking(FunctionFault::WrongCall, kinds, rows, around, functions),
     )
 }
 
@@ -109,8 +111,8 @@ pub fn function_refusal(
     rows: &[i32],
     around: &mut [u16],
     functions: &mut [u16],
-) -> Verdict
-    requires { Tree rows.now × (is_definition rows.now 0 ≡ false) × Blank rows.now around.old × Blank rows.now functions.old × (kinds.now ≡ grammar) }
+) -> Result<(), Refusal>
+    requires { Tree rows.now × (is_definition rows.now 0 ≡ false) × Blank rows.now around.old × Blank rows.now functions.old }
     ensures { result ≡ function_refusal rows.now }
 {
     write_known(kinds, rows, around, functions);

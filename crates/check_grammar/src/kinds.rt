@@ -1,15 +1,20 @@
-// The table of kinds as a constant array: the one place in the code that says what the fields of each kind hold.
-ghost use Rattle.std.specs.Prelude.{◌≡◌};
-ghost use Rattle.check_grammar.specs.Grammar.{grammar};
+// The table of kinds: the one place in the code that says what the fields of each kind hold.
+ghost use Rattle.std.specs.Prelude.{◌≡◌, ◌+◌, ◌*◌, ◌<◌, length};
+ghost use Rattle.words.specs.Kinds.{sort_of, sort_at, in_language};
+ghost use Rattle.words.specs.Links.{is_expression, is_place, is_statement, is_arm, is_argument, link as link_of};
+ghost use Rattle.check_grammar.specs.Grammar.{grammar, forms_of};
 
 use super::{
     ARGUMENT, ARGUMENT_ROW, ARM, ARM_ROW, ARRAY, BODY, BODY_BLOCK, BOTH, DECLARED, EXPRESSION,
-    FUNCTION, ITEM, KERNEL, KindTable, LABEL, NEITHER, NO_ROW, NONE, OPERAND, OPTIONAL,
-    OPTIONAL_BODY, PARAMETER, PLACE, PLACE_ROW, SOURCE, STATEMENT, VALUE, VARIABLE,
+    FUNCTION, ITEM, KERNEL, KIND_LIMIT, LABEL, NEITHER, NO_ROW, NONE, OPERAND, OPTIONAL,
+    OPTIONAL_BODY, PARAMETER, PLACE, PLACE_ROW, SOURCE, STATEMENT, VALUE, VARIABLE, is_link,
+    source_has,
 };
+use words::Form;
+use words::table::number_at;
 
 // The table of kinds, a row for each number: what a row of the kind is, what a, b, c, d and next hold, and the forms that have the kind.
-const KINDS: KindTable = [
+const KINDS: [[u8; 7]; KIND_LIMIT] = [
     [NO_ROW, NONE, NONE, NONE, NONE, NONE, NEITHER], // 0
     [EXPRESSION, VALUE, NONE, NONE, NONE, NONE, BOTH], // 1 constant
     [PLACE_ROW, VARIABLE, NONE, NONE, NONE, NONE, BOTH], // 2 variable
@@ -73,9 +78,108 @@ const KINDS: KindTable = [
     [STATEMENT, OPTIONAL, NONE, NONE, NONE, ITEM, BOTH], // 60 return
 ];
 
-// The table, for a pass to build once and lend on. Only here is the array held to the definition.
-pub fn kind_table() -> KindTable
-    ensures { result ≡ grammar }
-{
-    KINDS
+// The table of kinds. A pass builds it once and lends it on: borrowed where it is read, the constant would be built anew at each look.
+#[derive(Drop)]
+pub struct KindTable {
+    rows: [[u8; 7]; KIND_LIMIT],
+    ghost is_grammar: { rows ≡ grammar },
+}
+
+impl KindTable {
+    pub fn new() -> KindTable {
+        KindTable { rows: KINDS }
+    }
+
+    // What a field of a kind holds; for field 0, what a row of the kind is.
+    pub fn sort_of(&self, kind: usize, field: usize) -> u8
+        requires { field < 6 }
+        ensures { result ≡ sort_of kind field }
+    {
+        if kind < KIND_LIMIT {
+            return self.rows[kind][field];
+        }
+        NONE
+    }
+
+    // The forms that have a kind.
+    fn forms_of(&self, kind: usize) -> u8
+        ensures { result ≡ forms_of kind }
+    {
+        if kind < KIND_LIMIT {
+            return self.rows[kind][6];
+        }
+        NEITHER
+    }
+
+    pub fn sort_at(&self, rows: &[i32], row: usize, field: usize) -> u8
+        requires { (6 * row < length rows.now) × (field < 6) }
+        ensures { result ≡ sort_at rows.now row field }
+    {
+        self.sort_of(number_at(rows, row, 0), field)
+    }
+
+    // The kind is in the language of the form.
+    pub fn in_language(&self, form: Form, kind: usize) -> bool
+        ensures { result ≡ in_language form kind }
+    {
+        let forms = self.forms_of(kind);
+        match form {
+            Form::Source => source_has(forms),
+            Form::Kernel => BOTH <= forms,
+        }
+    }
+
+    pub fn is_expression(&self, rows: &[i32], row: usize) -> bool
+        requires { 6 * row < length rows.now }
+        ensures { result ≡ is_expression rows.now row }
+    {
+        let sort = self.sort_at(rows, row, 0);
+        if EXPRESSION <= sort {
+            return sort <= PLACE_ROW;
+        }
+        false
+    }
+
+    pub fn is_place(&self, rows: &[i32], row: usize) -> bool
+        requires { 6 * row < length rows.now }
+        ensures { result ≡ is_place rows.now row }
+    {
+        self.sort_at(rows, row, 0) == PLACE_ROW
+    }
+
+    pub fn is_statement(&self, rows: &[i32], row: usize) -> bool
+        requires { 6 * row < length rows.now }
+        ensures { result ≡ is_statement rows.now row }
+    {
+        self.sort_at(rows, row, 0) == STATEMENT
+    }
+
+    pub fn is_arm(&self, rows: &[i32], row: usize) -> bool
+        requires { 6 * row < length rows.now }
+        ensures { result ≡ is_arm rows.now row }
+    {
+        self.sort_at(rows, row, 0) == ARM_ROW
+    }
+
+    pub fn is_argument(&self, rows: &[i32], row: usize) -> bool
+        requires { 6 * row < length rows.now }
+        ensures { result ≡ is_argument rows.now row }
+    {
+        self.sort_at(rows, row, 0) == ARGUMENT_ROW
+    }
+
+    // The row that a field links, or 0. Most words of a table are 0, and need no look at the table of kinds.
+    pub fn link(&self, rows: &[i32], row: usize, field: usize) -> usize
+        requires { (6 * row + 5 < length rows.now) × (field < 6) }
+        ensures { result ≡ link_of rows.now row field }
+    {
+        let number = number_at(rows, row, field);
+        if number == 0 {
+            return 0;
+        }
+        if is_link(self.sort_at(rows, row, field)) {
+            return number;
+        }
+        0
+    }
 }

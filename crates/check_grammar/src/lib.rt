@@ -1,14 +1,13 @@
-// How a table of kinds is read: the names of its sorts, and what a row's number says of its fields.
+// How a table of kinds is read: the names of its sorts, and what a row's number says of its fields; and the search for a row.
 #![tactic(auto)]
 
-pub mod kinds; // kinds.rt: the table of kinds as a constant array
+pub mod kinds; // kinds.rt: the table of kinds
+pub mod search; // search.rt: the lowest row with a property
 
-ghost use Rattle.std.specs.Prelude.{◌≡◌, ◌+◌, ◌*◌, ◌<◌, length};
-ghost use Rattle.words.specs.Kinds.{sort_of, sort_at, between as between_of, in_language, is_link, is_required};
-ghost use Rattle.words.specs.Links.{is_expression, is_place, is_statement, is_block, is_arm, is_argument, link as link_of};
-ghost use Rattle.check_grammar.specs.Grammar.{grammar, forms_of};
+ghost use Rattle.std.specs.Prelude.{◌≡◌, ◌*◌, ◌<◌, length};
+ghost use Rattle.words.specs.Kinds.{between as between_of, is_link, is_required};
+ghost use Rattle.words.specs.Links.{is_block};
 
-use words::Form;
 use words::table::number_at;
 
 // Fields without a link. "Values, variable, array and label numbers may be 0."
@@ -73,38 +72,6 @@ pub const KERNEL: u8 = 3;
 // No kind has this number or a higher one.
 pub const KIND_LIMIT: usize = 61;
 
-pub type KindTable = [[u8; 7]; KIND_LIMIT];
-
-// What a field of a kind holds; for field 0, what a row of the kind is. The table is lent: borrowed where it is read, the constant would
-// be built anew at each look.
-pub fn sort_of(kinds: &KindTable, kind: usize, field: usize) -> u8
-    requires { (field < 6) × (kinds.now ≡ grammar) }
-    ensures { result ≡ sort_of kind field }
-{
-    if kind < KIND_LIMIT {
-        return kinds[kind][field];
-    }
-    NONE
-}
-
-// The forms that have a kind.
-fn forms_of(kinds: &KindTable, kind: usize) -> u8
-    requires { kinds.now ≡ grammar }
-    ensures { result ≡ forms_of kind }
-{
-    if kind < KIND_LIMIT {
-        return kinds[kind][6];
-    }
-    NEITHER
-}
-
-pub fn sort_at(kinds: &KindTable, rows: &[i32], row: usize, field: usize) -> u8
-    requires { (6 * row < length rows.now) × (field < 6) × (kinds.now ≡ grammar) }
-    ensures { result ≡ sort_at rows.now row field }
-{
-    sort_of(kinds, number_at(rows, row, 0), field)
-}
-
 pub fn between(least: usize, most: usize, number: usize) -> bool
     ensures { result ≡ between_of least most number }
 {
@@ -124,62 +91,11 @@ fn source_has(forms: u8) -> bool
     false
 }
 
-// The kind is in the language of the form.
-pub fn in_language(kinds: &KindTable, form: Form, kind: usize) -> bool
-    requires { kinds.now ≡ grammar }
-    ensures { result ≡ in_language form kind }
-{
-    let forms = forms_of(kinds, kind);
-    match form {
-        Form::Source => source_has(forms),
-        Form::Kernel => BOTH <= forms,
-    }
-}
-
-pub fn is_expression(kinds: &KindTable, rows: &[i32], row: usize) -> bool
-    requires { (6 * row < length rows.now) × (kinds.now ≡ grammar) }
-    ensures { result ≡ is_expression rows.now row }
-{
-    let sort = sort_at(kinds, rows, row, 0);
-    if EXPRESSION <= sort {
-        return sort <= PLACE_ROW;
-    }
-    false
-}
-
-pub fn is_place(kinds: &KindTable, rows: &[i32], row: usize) -> bool
-    requires { (6 * row < length rows.now) × (kinds.now ≡ grammar) }
-    ensures { result ≡ is_place rows.now row }
-{
-    sort_at(kinds, rows, row, 0) == PLACE_ROW
-}
-
-pub fn is_statement(kinds: &KindTable, rows: &[i32], row: usize) -> bool
-    requires { (6 * row < length rows.now) × (kinds.now ≡ grammar) }
-    ensures { result ≡ is_statement rows.now row }
-{
-    sort_at(kinds, rows, row, 0) == STATEMENT
-}
-
 pub fn is_block(rows: &[i32], row: usize) -> bool
     requires { 6 * row < length rows.now }
     ensures { result ≡ is_block rows.now row }
 {
     number_at(rows, row, 0) == 42
-}
-
-pub fn is_arm(kinds: &KindTable, rows: &[i32], row: usize) -> bool
-    requires { (6 * row < length rows.now) × (kinds.now ≡ grammar) }
-    ensures { result ≡ is_arm rows.now row }
-{
-    sort_at(kinds, rows, row, 0) == ARM_ROW
-}
-
-pub fn is_argument(kinds: &KindTable, rows: &[i32], row: usize) -> bool
-    requires { (6 * row < length rows.now) × (kinds.now ≡ grammar) }
-    ensures { result ≡ is_argument rows.now row }
-{
-    sort_at(kinds, rows, row, 0) == ARGUMENT_ROW
 }
 
 pub fn is_link(sort: u8) -> bool
@@ -205,19 +121,4 @@ pub fn is_required(sort: u8) -> bool
         return true;
     }
     sort == BODY_BLOCK
-}
-
-// The row that a field links, or 0. Most words of a table are 0, and need no look at the table of kinds.
-pub fn link(kinds: &KindTable, rows: &[i32], row: usize, field: usize) -> usize
-    requires { (6 * row + 5 < length rows.now) × (field < 6) × (kinds.now ≡ grammar) }
-    ensures { result ≡ link_of rows.now row field }
-{
-    let number = number_at(rows, row, field);
-    if number == 0 {
-        return 0;
-    }
-    if is_link(sort_at(kinds, rows, row, field)) {
-        return number;
-    }
-    0
 }

@@ -1,5 +1,5 @@
 -- Accepts: "The kernel check accepts the legal kernel programs and no others."
-use Rattle.std.specs.Prelude.{◌≡◌, Bool, ◌&&◌, List, ℕ, ◌≤◌, ◌<◌, eqb, ℤ}
+use Rattle.std.specs.Prelude.{◌≡◌, Bool, ◌&&◌, List, ℕ, ◌≤◌, ◌<◌, eqb, ℤ, Ok}
 use Rattle.std.proofs.Math.Path.{refl, ap}
 use Rattle.std.proofs.Common.{sym, ◌∙◌, arith}
 use Rattle.std.proofs.Math.Bool.{true, false, not, true≢false}
@@ -12,7 +12,6 @@ use Rattle.words.specs.Word.{pick}
 use Rattle.words.specs.Table.{row_count, number_at}
 use Rattle.words.specs.Laws.{neither}
 use Rattle.words.specs.declared.Form.TheVariants.{Kernel}
-use Rattle.words.specs.declared.Verdict.TheVariants.{Accepted}
 use Rattle.check_structure.specs.DepthLaws.{none-deep-shallow, shallow-none-deep}
 use Rattle.check_fields.specs.Fields.{number_fits}
 use Rattle.words.specs.Kinds.{sort_of, sort_at, is_link, sort_in, kind_of, kind_in, kinds, kind_row, expression_fields, statement_fields, mark_fields, member_fields}
@@ -132,7 +131,7 @@ module _ (rows : List ℤ) (row : ℕ) where
 -- ---- the theorem
 
 module _ (header rows : List ℤ) where
-  pub accepted-legal : refusal header rows ≡ Accepted → Legal header rows
+  pub accepted-legal : refusal header rows ≡ (Ok tt) → Legal header rows
   unfolding refusal kernel_causes form_causes
   accepted-legal e =
       let structural = next-accepts (structural_refusal Kernel header rows) _ e in
@@ -167,7 +166,7 @@ module _ (header rows : List ℤ) where
           absurd (unrepeated rows row number other (fault-repeated rows row (labels row (label_inside rows number row t l))) l k
           (lt_of_le-ne (omega (arith, d)) (λ (x : other ≡ row). q (sym x))))
 
-  pub legal_accepted : Legal header rows → refusal header rows ≡ Accepted
+  pub legal_accepted : Legal header rows → refusal header rows ≡ (Ok tt)
   unfolding refusal kernel_causes form_causes
   legal_accepted l =
       let s = l.structured in
@@ -185,5 +184,5 @@ module _ (header rows : List ℤ) where
       ((accepts-functions rows t root).1 l.well_called))))
 
   -- "The kernel check accepts the legal kernel programs and no others."
-  pub accepts-legal : (refusal header rows ≡ Accepted → Legal header rows) × (Legal header rows → refusal header rows ≡ Accepted)
+  pub accepts-legal : (refusal header rows ≡ (Ok tt) → Legal header rows) × (Legal header rows → refusal header rows ≡ (Ok tt))
   accepts-legal = (accepted-legal, legal_accepted)

@@ -1,9 +1,8 @@
 -- Function sample: a small kernel program with a function, which is legal, and what the check answers where it is damaged, by computing.
-use Rattle.std.specs.Prelude.{◌≡◌, refl, List, [], ◌∷◌, ℕ, ℤ, pos, set}
+use Rattle.std.specs.Prelude.{◌≡◌, refl, List, [], ◌∷◌, ℕ, ℤ, pos, set, Ok}
 use Rattle.words.specs.Word.{natural}
 use Rattle.words.specs.Table.{word_at, number_at}
 use Rattle.words.specs.Layout.{layout_of, sum, store_size, header_store, all_within, header_fits, count_fits}
-use Rattle.words.specs.declared.Verdict.TheVariants.{Accepted}
 use Rattle.words.specs.Links.{fits, is_expression, is_place, is_statement, is_block, is_argument, link, target, linker, received, note_by, note}
 use Rattle.words.specs.Kinds.{sort_of, sort_at, in_language, is_link, is_required, sort_in, kind_of, kind_in, kinds, kind_row, expression_fields, statement_fields, mark_fields, definition_fields, member_fields, parameter_fields}
 use Rattle.words.specs.Search.{lowest, some, lowest_row, some_field}
@@ -48,7 +47,7 @@ changed word value = set program word (pos value)
 -- What the check answers, of the program and of the changes: a parameter with an initial expression; one with the number of the variable, with S−1, and
 -- with the temporary's; a return of nothing; a definition with the number 1; a call of function 1.
 pub record Answers : Type 0 where
-  pub whole : refusal header program ≡ Accepted
+  pub whole : refusal header program ≡ (Ok tt)
   pub initial : refusal header (changed 14 5) ≡ refused 4 2
   pub variable-word : refusal header (changed 13 0) ≡ refused 6 2
   pub below_S : refusal header (changed 13 3) ≡ refused 6 2

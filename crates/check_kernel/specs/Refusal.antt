@@ -1,7 +1,7 @@
 -- Refusal: what the check of kernel programs answers.
-use Rattle.std.specs.Prelude.{List, ℤ}
+use Rattle.std.specs.Prelude.{List, ℤ, Result}
+use Rattle.words.specs.Refusals.{NumberedRefusal}
 use Rattle.words.specs.declared.Form.TheVariants.{Kernel}
-use Rattle.words.specs.declared.Verdict.{Verdict}
 use Rattle.words.specs.Search.{lowest_row}
 use Rattle.check_structure.specs.Links.{too_deep}
 use Rattle.check_structure.specs.Refusal.{at, ◌next◌, structural_refusal}
@@ -11,7 +11,7 @@ use Rattle.check_function_causes.specs.Causes.{returns_outside, function_refusal
 use Rattle.check_labels.specs.Labels.{label_fault}
 
 -- Causes 9, 12 and 13.
-unfoldable pub form_causes : List ℤ → Verdict
+unfoldable pub form_causes : List ℤ → Result (Unit {0}) NumberedRefusal
 form_causes rows =
     at 9 (lowest_row rows (too_deep Kernel rows))
     next at 12 (lowest_row rows (not_kernel_form rows))
@@ -19,7 +19,7 @@ form_causes rows =
 
 -- The causes after those that both forms share: 7 for a return; 9, 12 and 13; 19 for two parameters of one function; those of functions, 23
 -- and 24.
-unfoldable pub kernel_causes : List ℤ → Verdict
+unfoldable pub kernel_causes : List ℤ → Result (Unit {0}) NumberedRefusal
 kernel_causes rows =
     at 7 (lowest_row rows (returns_outside rows))
     next form_causes rows
@@ -28,5 +28,5 @@ kernel_causes rows =
 
 -- "The check takes causes in order of number, then the lowest row": 1 to 6, which both forms share, then 7, 9, 12, 13, 19, 23 and 24.
 -- (Cause 8, and 7 for other rows, are of kinds that are not in the kernel language.)
-unfoldable pub refusal : List ℤ → List ℤ → Verdict
+unfoldable pub refusal : List ℤ → List ℤ → Result (Unit {0}) NumberedRefusal
 refusal header rows = structural_refusal Kernel header rows next kernel_causes rows

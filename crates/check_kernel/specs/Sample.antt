@@ -1,11 +1,10 @@
 -- Sample: a small kernel program that is legal, and what the check answers where it is damaged, by computing. So the check does not
 -- turn all programs down.
-use Rattle.std.specs.Prelude.{◌≡◌, refl, List, [], ◌∷◌, ℕ, ℤ, pos, set}
+use Rattle.std.specs.Prelude.{◌≡◌, refl, List, [], ◌∷◌, ℕ, ℤ, pos, set, Err, Ok, Result}
+use Rattle.words.specs.Refusals.{NumberedRefusal}
 use Rattle.words.specs.Word.{natural}
 use Rattle.words.specs.Table.{word_at, number_at}
 use Rattle.words.specs.Layout.{layout_of, sum, store_size, header_store, all_within, header_fits, count_fits}
-use Rattle.words.specs.declared.Verdict.{Verdict}
-use Rattle.words.specs.declared.Verdict.TheVariants.{Accepted, Refused}
 use Rattle.words.specs.Links.{fits, is_expression, is_place, is_statement, link, target, linker, received, note_by, note}
 use Rattle.words_roles.specs.Roles.{links_parameter, is_parameter_by, is_parameter, role_sort}
 use Rattle.check_fields.specs.Fields.{foreign, leads_right, mislinked, bounds_of, number_fits, outside}
@@ -50,13 +49,13 @@ program =
 abbrev changed : ℕ → ℕ → List ℤ
 changed word value = set program word (pos value)
 
-abbrev pub refused : ℕ → ℕ → Verdict
-refused cause place = Refused (record { number = cause; place = place })
+abbrev pub refused : ℕ → ℕ → Result (Unit {0}) NumberedRefusal
+refused cause place = Err (record { number = cause; place = place })
 
 -- What the check answers, of the program and of four changes: variable number V; an else that is no block; a goto without its label; a
 -- label repeated.
 pub record Answers : Type 0 where
-  pub whole : refusal header program ≡ Accepted
+  pub whole : refusal header program ≡ (Ok tt)
   pub variable_V : refusal header (changed 19 1) ≡ refused 6 3
   pub no_block : refusal header (changed 54 40) ≡ refused 12 5
   pub no_label : refusal header (changed 49 1) ≡ refused 13 8

@@ -1,19 +1,17 @@
 // The causes of functions in a kernel program, with the table of kinds and room for what is known of its rows.
 ghost use Rattle.std.specs.Prelude.{◌≡◌, false};
 ghost use Rattle.words.specs.Search.{lowest_row};
-ghost use Rattle.check_grammar.specs.Grammar.{grammar};
 ghost use Rattle.check_structure.specs.Structured.{Tree};
 ghost use Rattle.check_function_causes.specs.Functions.{is_definition};
 ghost use Rattle.check_function_causes.specs.Causes.{returns_outside, function_refusal};
 
 use check_functions::{function_refusal, has_functions, lowest_outside_function};
-use check_grammar::KindTable;
-use check_grammar::kinds::kind_table;
-use words::{Found, Verdict};
+use check_grammar::kinds::KindTable;
+use words::Refusal;
 
 // Cause 7: returns outside functions.
-fn lowest_returned_outside(kinds: &KindTable, rows: &[i32]) -> Found
-    requires { Tree rows.now × (is_definition rows.now 0 ≡ false) × (kinds.now ≡ grammar) }
+fn lowest_returned_outside(kinds: &KindTable, rows: &[i32]) -> Option<usize>
+    requires { Tree rows.now × (is_definition rows.now 0 ≡ false) }
     ensures { result ≡ lowest_row rows.now (returns_outside rows.now) }
 {
     let mut around = [0u16; 40980];
@@ -22,20 +20,20 @@ fn lowest_returned_outside(kinds: &KindTable, rows: &[i32]) -> Found
 }
 
 // The same; a table without functions costs no pass along the links.
-pub fn lowest_return_outside(rows: &[i32]) -> Found
+pub fn lowest_return_outside(rows: &[i32]) -> Option<usize>
     requires { Tree rows.now × (is_definition rows.now 0 ≡ false) }
     ensures { result ≡ lowest_row rows.now (returns_outside rows.now) }
 {
     if has_functions(rows) {
-        let kinds = kind_table();
+        let kinds = KindTable::new();
         return lowest_returned_outside(&kinds, rows);
     }
-    Found::Nothing
+    None
 }
 
 // Causes 23 and 24.
-fn called_refusal(kinds: &KindTable, rows: &[i32]) -> Verdict
-    requires { Tree rows.now × (is_definition rows.now 0 ≡ false) × (kinds.now ≡ grammar) }
+fn called_refusal(kinds: &KindTable, rows: &[i32]) -> Result<(), Refusal>
+    requires { Tree rows.now × (is_definition rows.now 0 ≡ false) }
     ensures { result ≡ function_refusal rows.now }
 {
     let mut around = [0u16; 40980];
@@ -44,13 +42,13 @@ fn called_refusal(kinds: &KindTable, rows: &[i32]) -> Verdict
 }
 
 // The same; a table without functions costs no pass along the links.
-pub fn functions_refusal(rows: &[i32]) -> Verdict
+pub fn functions_refusal(rows: &[i32]) -> Result<(), Refusal>
     requires { Tree rows.now × (is_definition rows.now 0 ≡ false) }
     ensures { result ≡ function_refusal rows.now }
 {
     if has_functions(rows) {
-        let kinds = kind_table();
+        let kinds = KindTable::new();
         return called_refusal(&kinds, rows);
     }
-    Verdict::Accepted
+    Ok(())
 }

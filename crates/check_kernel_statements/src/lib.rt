@@ -4,12 +4,11 @@
 ghost use Rattle.std.specs.Prelude.{◌≡◌, ◌+◌, ◌*◌, ◌/◌, ◌<◌, length};
 ghost use Rattle.words.specs.Table.{row_count, number_at};
 ghost use Rattle.words.specs.Search.{lowest_row};
-ghost use Rattle.check_grammar.specs.Grammar.{grammar};
 ghost use Rattle.check_kernel_statements.specs.Statements.{is_atom, is_atom_minus, is_atom_operation, is_atom_element, atom_arguments, is_atom_call, fits_variable, is_assignment, is_block, is_kernel_if, is_kernel_while, is_kernel_expression, is_kernel_return, is_kernel_parameter, is_of_function, is_kernel_statement, not_kernel_form};
 
-use check_grammar::kinds::kind_table;
-use check_grammar::{KindTable, between, is_statement};
-use words::Found;
+use check_grammar::between;
+use check_grammar::kinds::KindTable;
+use check_grammar::search::lowest_row;
 use words::table::number_at;
 
 // A field of any row. Beyond the table every word is 0.
@@ -263,36 +262,28 @@ fn is_kernel_statement(rows: &[i32], row: usize) -> bool
 
 // Cause 12 at a row.
 fn is_not_kernel_form(kinds: &KindTable, rows: &[i32], row: usize) -> bool
-    requires { (6 * (length rows.now / 6) ≡ length rows.now) × (6 * row < length rows.now) × (kinds.now ≡ grammar) }
+    requires { (6 * (length rows.now / 6) ≡ length rows.now) × (6 * row < length rows.now) }
     ensures { result ≡ not_kernel_form rows.now row }
 {
-    if is_statement(kinds, rows, row) {
+    if kinds.is_statement(rows, row) {
         return !is_kernel_statement(rows, row);
     }
     false
 }
 
 // The lowest row that is a statement not of kernel form.
-fn lowest_not_kernel_form_by(kinds: &KindTable, rows: &[i32]) -> Found
-    requires { (6 * (length rows.now / 6) ≡ length rows.now) × (kinds.now ≡ grammar) }
-    ensures { result ≡ lowest_row rows.now (not_kernel_form rows.now) }
-{
-    let count = rows.len() / 6;
-    let mut row: usize = 0;
-    while row < count {
-        if is_not_kernel_form(kinds, rows, row) {
-            return Found::At(row);
-        }
-        row += 1;
-    }
-    Found::Nothing
-}
-
-// The same, with the table of kinds: it is built here, once, and lent on.
-pub fn lowest_not_kernel_form(rows: &[i32]) -> Found
+fn lowest_not_kernel_form_by(kinds: &KindTable, rows: &[i32]) -> Option<usize>
     requires { 6 * (length rows.now / 6) ≡ length rows.now }
     ensures { result ≡ lowest_row rows.now (not_kernel_form rows.now) }
 {
-    let kinds = kind_table();
+    lowest_row(rows, |row| is_not_kernel_form(kinds, rows, row))
+}
+
+// The same, with the table of kinds: it is built here, once, and lent on.
+pub fn lowest_not_kernel_form(rows: &[i32]) -> Option<usize>
+    requires { 6 * (length rows.now / 6) ≡ length rows.now }
+    ensures { result ≡ lowest_row rows.now (not_kernel_form rows.now) }
+{
+    let kinds = KindTable::new();
     lowest_not_kernel_form_by(&kinds, rows)
 }

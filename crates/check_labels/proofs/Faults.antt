@@ -1,4 +1,5 @@
 -- The rows that break cause 13: what a goto or a label comes to, and the lowest of them so far.
+use Rattle.std.specs.Prelude.{None, Some}
 use mathlib.Core.Path.{◌≡◌, subst, refl, sym, ap, ◌∙◌}
 use mathlib.Core.Bool.{Bool, true, false, not, ◌&&◌, ◌||◌, or-false, true≢false, false≢true}
 use mathlib.Core.List.{List}
@@ -16,7 +17,6 @@ use Rattle.words.specs.Table.{row_count, number_at}
 use Rattle.words.specs.Kinds.{between}
 use Rattle.words.specs.Search.{some, lowest_row}
 use Rattle.words.specs.SearchLaws.{lowest-at, all-lowest_row}
-use Rattle.words.specs.declared.Found.TheVariants.{At, Nothing}
 use Rattle.check_labels.specs.Labels.{is_label, repeated_label, label_ahead, goto_without_label, label_fault}
 use Rattle.check_labels.proofs.LabelLaws.{test-label}
 use Rattle.check_labels.specs.Passes.{Jump, NextJump, LabelNumbers, LowestAmong, NumberBelow, Passed, smaller, earlier, lower}
@@ -155,11 +155,11 @@ module _ (rows : List ℤ) (found : ℕ) (numbers : LabelNumbers rows) (l : Lowe
   low : (row : ℕ) → row < row_count rows → label_fault rows row ≡ true → found ≤ row
   low row n e = let j = fault-jump rows row n e in l.least row n (numbers row n j.jump) e
 
-  pub lowest-found : found < row_count rows → At found ≡ lowest_row rows (label_fault rows)
+  pub lowest-found : found < row_count rows → Some found ≡ lowest_row rows (label_fault rows)
   unfolding lowest_row
   lowest-found n =
       sym (lowest-at (label_fault rows) found (row_count rows) 0 (omega arith) (omega arith) (l.is n)
       (λ row a b. refuted _ (λ e. let h = low row (omega arith) e in omega arith)))
 
-  pub lowest-nothing : row_count rows ≤ found → Nothing ≡ lowest_row rows (label_fault rows)
+  pub lowest-nothing : row_count rows ≤ found → None ≡ lowest_row rows (label_fault rows)
   lowest-nothing h = sym (all-lowest_row rows (label_fault rows) (λ row n. refuted _ (λ e. let k = low row n e in omega arith)))

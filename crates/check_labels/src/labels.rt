@@ -13,7 +13,6 @@ use super::chains::chain_rows;
 use super::notes::write_notes;
 use check_kernel_statements::number_or_zero;
 use check_structure::row_number::{narrow, wide};
-use words::Found;
 use words::table::number_at;
 use words_roles::is_definition;
 
@@ -198,7 +197,7 @@ fn lowest_of_all(
 }
 
 // The lowest row that is a goto without its label ahead, or a repeated label.
-pub fn lowest_label_fault(rows: &[i32]) -> Found
+pub fn lowest_label_fault(rows: &[i32]) -> Option<usize>
     requires { Tree rows.now × (link rows.now 0 5 ≡ 0) × LabelNumbers rows.now }
     ensures { result ≡ lowest_row rows.now (label_fault rows.now) }
 {
@@ -212,7 +211,7 @@ pub fn lowest_label_fault(rows: &[i32]) -> Found
     let mut marks = [0u16; 40980];
     let found = lowest_of_all(rows, &firsts, &owners, &heads, &chain, &mut marks);
     if found < rows.len() / 6 {
-        return Found::At(found);
+        return Some(found);
     }
-    Found::Nothing
+    None
 }

@@ -1,12 +1,10 @@
 -- MarkTree: a search tree of marks for each list, by which the first repeated mark is found.
 -- The nodes are rows. `roots` has for each row the root of its list's tree; `children` has two places for each node, 0 where a child is
 -- absent.
-use Rattle.std.specs.Prelude.{◌≡◌, Bool, true, false, List, ℕ, ◌+◌, ◌*◌, ◌/◌, ◌%◌, ◌<◌, ◌≤◌, eqb, ℤ, length, get_or, set}
+use Rattle.std.specs.Prelude.{◌≡◌, Bool, true, false, List, ℕ, ◌+◌, ◌*◌, ◌/◌, ◌%◌, ◌<◌, ◌≤◌, eqb, ℤ, length, get_or, set, None, Option, Some}
 use Rattle.std.specs.Int.Signed.{mag}
 use Rattle.words.specs.Word.{pick}
 use Rattle.words.specs.Table.{row_count, word_at, number_at}
-use Rattle.words.specs.declared.Found.{Found}
-use Rattle.words.specs.declared.Found.TheVariants.{At, Nothing}
 use Rattle.check_structure.specs.Lists.{Before}
 use Rattle.check_places.specs.Places.{is_mark}
 use Rattle.check_marks.specs.Marks.{same_mark, mark_before, repeated}
@@ -77,9 +75,9 @@ pub record Free (rows : List ℤ) (children : List ℕ) (root row place : ℕ) :
   pub differ : (mark : ℕ) → Reached children root (key_at rows row) mark → same_mark rows mark row ≡ false
 
 -- A mark has a free place, or is a repeated one.
-abbrev pub Placing : List ℤ → List ℕ → ℕ → ℕ → Found → Type 0
-Placing rows children root row (At place) = Free rows children root row place
-Placing rows children root row Nothing = repeated rows row ≡ true
+abbrev pub Placing : List ℤ → List ℕ → ℕ → ℕ → Option ℕ → Type 0
+Placing rows children root row (Some place) = Free rows children root row place
+Placing rows children root row None = repeated rows row ≡ true
 
 -- The row is taken in, and is no repeated mark.
 pub record Taken (rows : List ℤ) (roots : List ℕ) (row : ℕ) (children : List ℕ) : Type 0 where

@@ -12,7 +12,6 @@ ghost use Rattle.check_marks.specs.MarkTree.{root_by, NodeBefore, Roots, Childre
 
 use check_grammar::between;
 use check_structure::row_number::{narrow, wide};
-use words::Found;
 use words::table::{natural, number_at, word_at};
 
 fn same_mark(rows: &[i32], mark: usize, row: usize) -> bool
@@ -60,7 +59,7 @@ pub fn write_roots(rows: &[i32], before: &[u16], roots: &mut [u16])
 
 // Looks from the root down for the row's mark. Answers the absent child where its key leads, or nothing where an equal mark stands on
 // the way.
-fn free_place(rows: &[i32], children: &[u16], root: usize, row: usize) -> Found
+fn free_place(rows: &[i32], children: &[u16], root: usize, row: usize) -> Option<usize>
     requires { Tree rows.now × Children rows.now row children.now × NodeBefore rows.now root row × (is_mark (number_at rows.now row 0) ≡ true) × (row < length rows.now / 6) }
     ensures { Placing rows.now children.now root row result }
 {
@@ -68,12 +67,12 @@ fn free_place(rows: &[i32], children: &[u16], root: usize, row: usize) -> Found
     let mut key = key_of(word_at(rows, row, 1));
     loop {
         if same_mark(rows, node, row) {
-            return Found::Nothing;
+            return None;
         }
         let place = 2 * node + key % 2;
         let child = wide(children[place]);
         if child == 0 {
-            return Found::At(place);
+            return Some(place);
         }
         node = child;
         key = key / 2;
@@ -94,10 +93,10 @@ pub fn take_in(rows: &[i32], roots: &[u16], children: &mut [u16], row: usize) ->
     }
     let place = free_place(rows, children, root, row);
     match place {
-        Found::At(at) => {
+        Some(at) => {
             children[at] = narrow(row);
             true
         }
-        Found::Nothing => false,
+        None => false,
     }
 }

@@ -9,26 +9,22 @@ ghost use Rattle.check_marks.specs.Marks.{repeated};
 ghost use Rattle.check_marks.specs.MarkTree.{Roots, HoldsMarks};
 
 use super::mark_tree::{take_in, write_roots};
-use words::Found;
 
 // The lowest repeated mark: the first row that is not taken in. The trees hold no mark yet.
-fn lowest_repeated_row(rows: &[i32], roots: &[u16], children: &mut [u16]) -> Found
+fn lowest_repeated_row(rows: &[i32], roots: &[u16], children: &mut [u16]) -> Option<usize>
     requires { Tree rows.now × Roots rows.now (length rows.now / 6) roots.now × HoldsMarks rows.now roots.now 0 children.old }
     ensures { result ≡ lowest_row rows.now (repeated rows.now) }
 {
-    let count = rows.len() / 6;
-    let mut row: usize = 0;
-    while row < count {
+    for row in 0..rows.len() / 6 {
         if !take_in(rows, roots, children, row) {
-            return Found::At(row);
+            return Some(row);
         }
-        row += 1;
     }
-    Found::Nothing
+    None
 }
 
 // The lowest repeated mark, with the mark before each row.
-pub fn lowest_repeated(rows: &[i32], before: &[u16]) -> Found
+pub fn lowest_repeated(rows: &[i32], before: &[u16]) -> Option<usize>
     requires { Tree rows.now × (length rows.now / 6 ≤ 2048) × Notes rows.now (note_at mark_before rows.now) before.now }
     ensures { result ≡ lowest_row rows.now (repeated rows.now) }
 {

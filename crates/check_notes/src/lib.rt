@@ -5,13 +5,13 @@ ghost use Rattle.std.specs.Prelude.{◌≡◌, ◌&&◌, ◌+◌, ◌*◌, ◌/�
 ghost use Rattle.words.specs.Word.{pick};
 ghost use Rattle.words.specs.Table.{number_at};
 ghost use Rattle.words.specs.Links.{target};
-ghost use Rattle.check_grammar.specs.Grammar.{grammar};
 ghost use Rattle.check_structure.specs.Structured.{Tree};
 ghost use Rattle.check_structure.specs.Passes.{written, Notes};
 ghost use Rattle.check_notes.specs.RowNotes.{handed, note_at};
 ghost use Rattle.check_notes.specs.declared.Note.TheVariants.{Inside, Before};
 
-use check_grammar::{KindTable, between, link};
+use check_grammar::between;
+use check_grammar::kinds::KindTable;
 use check_items::{hand_earlier, hand_item};
 use check_structure::row_number::{narrow, wide};
 use words::table::number_at;
@@ -171,11 +171,11 @@ pub fn write_note(which: Note, rows: &[i32], notes: &mut [u16], word: usize, lin
 
 // The notes of all rows, in one pass: a row's own note is written before those of the rows that it links.
 pub fn write_notes(which: Note, kinds: &KindTable, rows: &[i32], notes: &mut [u16])
-    requires { Tree rows.now × (length rows.now / 6 ≤ length notes.old) × (get_or notes.old 0 0 ≡ 0) × (kinds.now ≡ grammar) }
+    requires { Tree rows.now × (length rows.now / 6 ≤ length notes.old) × (get_or notes.old 0 0 ≡ 0) }
     ensures { Notes rows.now (note_at which rows.now) notes.new }
 {
     for word in 0..rows.len() {
-        let linked = link(kinds, rows, word / 6, word % 6);
+        let linked = kinds.link(rows, word / 6, word % 6);
         write_note(which, rows, notes, word, linked);
     }
 }

@@ -1,14 +1,13 @@
 // The notes of each row that a pass along the links writes for causes 7 and 8.
 ghost use Rattle.std.specs.Prelude.{◌≡◌, ◌<◌, length};
 ghost use Rattle.words.specs.Links.{target};
-ghost use Rattle.check_grammar.specs.Grammar.{grammar};
 ghost use Rattle.check_structure.specs.Structured.{Tree};
 ghost use Rattle.check_structure.specs.Passes.{written};
 ghost use Rattle.check_notes.specs.RowNotes.{handed};
 ghost use Rattle.check_places.specs.Passes.{NoteRoom, NoNotes, AllNotes};
 ghost use Rattle.check_places.specs.Places.{in_loop, in_loop_or_switch, switch_item, mark_before};
 
-use check_grammar::{KindTable, link};
+use check_grammar::kinds::KindTable;
 use check_items::hand_item;
 use check_notes::{hand_before, hand_inside};
 
@@ -52,11 +51,11 @@ pub fn write_notes(
     items: &mut [u16],
     before: &mut [u16],
 )
-    requires { Tree rows.now × NoNotes rows.now loops.old × NoNotes rows.now breakable.old × NoNotes rows.now items.old × NoNotes rows.now before.old × (kinds.now ≡ grammar) }
+    requires { Tree rows.now × NoNotes rows.now loops.old × NoNotes rows.now breakable.old × NoNotes rows.now items.old × NoNotes rows.now before.old }
     ensures { AllNotes rows.now loops.new breakable.new items.new before.new }
 {
     for word in 0..rows.len() {
-        let linked = link(kinds, rows, word / 6, word % 6);
+        let linked = kinds.link(rows, word / 6, word % 6);
         write_linked(rows, loops, breakable, items, before, word, linked);
     }
 }

@@ -6,32 +6,22 @@ ghost use Rattle.words.specs.Search.{lowest_row};
 ghost use Rattle.check_function_causes.specs.Functions.{is_definition};
 ghost use Rattle.check_plain.specs.Refusal.{plain_refusal};
 
+use check_grammar::search::lowest_row;
 use check_structure::causes::at;
-use words::{Found, Verdict};
+use words::{Cause, Refusal};
 use words_roles::is_definition;
 
 // The row of the first function.
-fn lowest_definition(rows: &[i32]) -> Found
+fn lowest_definition(rows: &[i32]) -> Option<usize>
     ensures { result ≡ lowest_row rows.now (is_definition rows.now) }
 {
-    let count = rows.len() / 6;
-    let mut row: usize = 0;
-    while row < count {
-        if is_definition(rows, row) {
-            return Found::At(row);
-        }
-        row += 1;
-    }
-    Found::Nothing
+    lowest_row(rows, |row| is_definition(rows, row))
 }
 
 // The check of a plain kernel program.
-pub fn check(header: &[i32], rows: &[i32]) -> Verdict
+pub fn check(header: &[i32], rows: &[i32]) -> Result<(), Refusal>
     ensures { result ≡ plain_refusal header.now rows.now }
 {
-    let verdict = check_kernel::check(header, rows);
-    if let Verdict::Refused(refusal) = verdict {
-        return Verdict::Refused(refusal);
-    }
-    at(25, lowest_definition(rows))
+    check_kernel::check(header, rows)?;
+    at(Cause::DefinesFunctions, lowest_definition(rows))
 }

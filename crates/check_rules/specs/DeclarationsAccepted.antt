@@ -1,13 +1,13 @@
 -- Declarations accepted: the check accepts every declaration program, by computing a brief test; so each is legal. Its resolved table is its
 -- rule's; so its run comes to what the rule says.
-use Rattle.std.specs.Prelude.{◌≡◌, refl, List, [], ◌∷◌, map, ℤ}
+use Rattle.std.specs.Prelude.{◌≡◌, refl, List, [], ◌∷◌, map, ℤ, Result}
+use Rattle.words.specs.Refusals.{NumberedRefusal}
 use Rattle.std.proofs.Common.{ap, ap₂, ◌∙◌}
 use Rattle.words.specs.Word.{same_word, natural}
 use Rattle.words.specs.Table.{word_at, number_at}
 use Rattle.words.specs.Layout.{layout_of, sum, store_size, all_within, header_fits, count_fits, header_store}
 use Rattle.words.specs.Declarations.{is_declaration, declarations_before}
 use Rattle.words.specs.declared.Form.TheVariants.{Source}
-use Rattle.words.specs.declared.Verdict.{Verdict}
 use Rattle.words.specs.Links.{fits, is_expression, is_place, is_statement, is_block, is_arm, link, target, linker, received, note_by, note}
 use Rattle.words.specs.Kinds.{sort_of, sort_at, in_language, is_link, is_required, kinds, kind_in, kind_of, sort_in, kind_row, expression_fields, statement_fields, mark_fields, member_fields}
 use Rattle.words.specs.Search.{lowest, some, lowest_row, some_field}
@@ -41,7 +41,7 @@ abbrev pub programs : List Rule
 programs = map as_rule declaration_programs
 
 -- A brief test of the check.
-abbrev tested : Rule → Verdict
+abbrev tested : Rule → Result (Unit {0}) NumberedRefusal
 tested rule = brief_source rule.header rule.rows
 
 programs-tested : map tested programs ≡ map accepted programs

@@ -1,11 +1,10 @@
 -- Kernel rules accepted: the kernel check accepts every rule in kernel form, by computing a brief test; so each is legal.
-use Rattle.std.specs.Prelude.{◌≡◌, refl, List, [], ◌∷◌, map}
+use Rattle.std.specs.Prelude.{◌≡◌, refl, List, [], ◌∷◌, map, Ok, Result}
+use Rattle.words.specs.Refusals.{NumberedRefusal}
 use Rattle.std.proofs.Common.{◌∙◌}
 use Rattle.words.specs.Word.{natural}
 use Rattle.words.specs.Table.{word_at, number_at}
 use Rattle.words.specs.Layout.{layout_of, sum, store_size, all_within, header_fits, count_fits, header_store}
-use Rattle.words.specs.declared.Verdict.{Verdict}
-use Rattle.words.specs.declared.Verdict.TheVariants.{Accepted}
 use Rattle.language.specs.Rule.{Rule}
 use Rattle.language.specs.KernelRules.{kernel_table}
 use Rattle.words.specs.Links.{fits, is_expression, is_place, is_statement, link, target, linker, received, note_by, note}
@@ -29,14 +28,14 @@ use Rattle.check_brief.specs.Brief.{targets, times, brief_causes, brief_structur
 use Rattle.check_brief.specs.BriefLaws.{same-kernel, map_same}
 
 -- What the kernel check answers of a rule's program.
-abbrev pub checked : Rule → Verdict
+abbrev pub checked : Rule → Result (Unit {0}) NumberedRefusal
 checked rule = refusal rule.header rule.rows
 
-abbrev pub accepted : Rule → Verdict
-accepted rule = Accepted
+abbrev pub accepted : Rule → Result (Unit {0}) NumberedRefusal
+accepted rule = Ok tt
 
 -- A brief test of it.
-abbrev tested : Rule → Verdict
+abbrev tested : Rule → Result (Unit {0}) NumberedRefusal
 tested rule = brief_kernel rule.header rule.rows
 
 table-tested : map tested kernel_table ≡ map accepted kernel_table
@@ -54,7 +53,7 @@ AllLegal (rule ∷ rest) = Legal rule.header rule.rows × AllLegal rest
 accepted-all-legal : (rules : List Rule) → map checked rules ≡ map accepted rules → AllLegal rules
 accepted-all-legal [] e = tt
 accepted-all-legal (rule ∷ rest) e =
-    let first : checked rule ≡ Accepted = cc in
+    let first : checked rule ≡ Ok tt = cc in
     let others : map checked rest ≡ map accepted rest = cc in
     (accepted-legal rule.header rule.rows first, accepted-all-legal rest others)
 

@@ -1,11 +1,10 @@
 -- The check accepts the legal source programs and no others.
-use Rattle.std.specs.Prelude.{◌≡◌, true, false, List, ◌↔◌, ℕ, ◌<◌, leb, ℤ, pos}
+use Rattle.std.specs.Prelude.{◌≡◌, true, false, List, ◌↔◌, ℕ, ◌<◌, leb, ℤ, pos, Ok}
 use Rattle.std.proofs.Common.{sym, ap, ◌∙◌, true≢false, arith, leb-true}
 use Rattle.std.proofs.Math.Decide.{ℕ_discrete}
 use Rattle.words.specs.Table.{row_count, word_at, number_at}
 use Rattle.words.specs.Laws.{by_cases, both, natural-pos}
 use Rattle.words.specs.declared.Form.TheVariants.{Source}
-use Rattle.words.specs.declared.Verdict.TheVariants.{Accepted}
 use Rattle.words.specs.Kinds.{sort_of, sort_at, sort_in, kind_of, kind_in, kinds, kind_row, expression_fields, statement_fields, mark_fields, member_fields}
 use Rattle.words.specs.SearchLaws.{lowest_row-all, all-lowest_row}
 use Rattle.check_structure.specs.DepthLaws.{none-deep-shallow, shallow-none-deep}
@@ -72,7 +71,7 @@ module _ (bounds : Bounds) (rows : List ℤ) (s : Structured Source bounds rows)
               omega (arith, p, q)
 
 module _ (header rows : List ℤ) where
-  accepted-legal : refusal header rows ≡ Accepted → Legal header rows
+  accepted-legal : refusal header rows ≡ (Ok tt) → Legal header rows
   unfolding refusal later_refusal
   accepted-legal e =
       let parts = next-accepts (structural_refusal Source header rows) _ e in
@@ -95,7 +94,7 @@ module _ (header rows : List ℤ) where
         well_called = (accepts-functions rows t (block-undefined rows 0 s.block)).0 c20.1;
       }
 
-  legal_accepted : Legal header rows → refusal header rows ≡ Accepted
+  legal_accepted : Legal header rows → refusal header rows ≡ (Ok tt)
   unfolding refusal later_refusal
   legal_accepted l =
       let t = structured-tree Source _ rows l.structured in
@@ -106,5 +105,5 @@ module _ (header rows : List ℤ) where
       (accepts-next (declaration_refusal rows) _ ((accepts-declared rows t l.structured.block).1 l.well_declared)
       ((accepts-functions rows t (block-undefined rows 0 l.structured.block)).1 l.well_called)))))
 
-  pub accepts-legal : refusal header rows ≡ Accepted ↔ Legal header rows
+  pub accepts-legal : refusal header rows ≡ (Ok tt) ↔ Legal header rows
   accepts-legal = (accepted-legal, legal_accepted)

@@ -1,18 +1,17 @@
 // The causes of functions in a source program, with room for what is known of its rows.
 ghost use Rattle.std.specs.Prelude.{◌≡◌, false, ◌/◌, ◌≤◌, length};
 ghost use Rattle.words.specs.Search.{lowest_row};
-ghost use Rattle.check_grammar.specs.Grammar.{grammar};
 ghost use Rattle.check_structure.specs.Structured.{Tree};
 ghost use Rattle.check_function_causes.specs.Functions.{is_definition};
 ghost use Rattle.check_function_causes.specs.Causes.{returns_outside, function_refusal};
 
 use check_functions::{function_refusal, has_functions, lowest_outside_function};
-use check_grammar::KindTable;
-use words::{Found, Verdict};
+use check_grammar::kinds::KindTable;
+use words::Refusal;
 
 // Cause 7 for returns.
-fn lowest_returned_outside(kinds: &KindTable, rows: &[i32]) -> Found
-    requires { Tree rows.now × (is_definition rows.now 0 ≡ false) × (length rows.now / 6 ≤ 2048) × (kinds.now ≡ grammar) }
+fn lowest_returned_outside(kinds: &KindTable, rows: &[i32]) -> Option<usize>
+    requires { Tree rows.now × (is_definition rows.now 0 ≡ false) × (length rows.now / 6 ≤ 2048) }
     ensures { result ≡ lowest_row rows.now (returns_outside rows.now) }
 {
     let mut around = [0u16; 2048];
@@ -21,19 +20,19 @@ fn lowest_returned_outside(kinds: &KindTable, rows: &[i32]) -> Found
 }
 
 // The same; a table without functions costs no pass along the links.
-pub fn lowest_return_outside(kinds: &KindTable, rows: &[i32]) -> Found
-    requires { Tree rows.now × (is_definition rows.now 0 ≡ false) × (length rows.now / 6 ≤ 2048) × (kinds.now ≡ grammar) }
+pub fn lowest_return_outside(kinds: &KindTable, rows: &[i32]) -> Option<usize>
+    requires { Tree rows.now × (is_definition rows.now 0 ≡ false) × (length rows.now / 6 ≤ 2048) }
     ensures { result ≡ lowest_row rows.now (returns_outside rows.now) }
 {
     if has_functions(rows) {
         return lowest_returned_outside(kinds, rows);
     }
-    Found::Nothing
+    None
 }
 
 // Causes 23 and 24.
-fn called_refusal(kinds: &KindTable, rows: &[i32]) -> Verdict
-    requires { Tree rows.now × (is_definition rows.now 0 ≡ false) × (length rows.now / 6 ≤ 2048) × (kinds.now ≡ grammar) }
+fn called_refusal(kinds: &KindTable, rows: &[i32]) -> Result<(), Refusal>
+    requires { Tree rows.now × (is_definition rows.now 0 ≡ false) × (length rows.now / 6 ≤ 2048) }
     ensures { result ≡ function_refusal rows.now }
 {
     let mut around = [0u16; 2048];
@@ -42,12 +41,12 @@ fn called_refusal(kinds: &KindTable, rows: &[i32]) -> Verdict
 }
 
 // The same; a table without functions costs no pass along the links.
-pub fn functions_refusal(kinds: &KindTable, rows: &[i32]) -> Verdict
-    requires { Tree rows.now × (is_definition rows.now 0 ≡ false) × (length rows.now / 6 ≤ 2048) × (kinds.now ≡ grammar) }
+pub fn functions_refusal(kinds: &KindTable, rows: &[i32]) -> Result<(), Refusal>
+    requires { Tree rows.now × (is_definition rows.now 0 ≡ false) × (length rows.now / 6 ≤ 2048) }
     ensures { result ≡ function_refusal rows.now }
 {
     if has_functions(rows) {
         return called_refusal(kinds, rows);
     }
-    Verdict::Accepted
+    Ok(())
 }

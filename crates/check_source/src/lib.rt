@@ -3,22 +3,20 @@
 
 use check_declarations::lower::lower_of;
 use check_declarations::{declaration_refusal, lowest_outside_block};
-use check_grammar::KindTable;
-use check_grammar::kinds::kind_table;
+use check_grammar::kinds::KindTable;
 use check_marks::marks::lowest_repeated;
 use check_places::notes::write_notes;
 use check_places::places::lowest_misplaced;
-use check_structure::causes::structural_refusal;
+use check_structure::causes::{at, structural_refusal};
 use check_structure::depth::lowest_deep_by;
 use functions::{functions_refusal, lowest_return_outside};
 use words::declarations::declaration_count;
-use words::{Form, Found, Refusal, Verdict};
+use words::{Cause, Form, Refusal};
 
 pub mod functions; // functions.rt: the causes of functions, with room for what is known of the rows
 
 ghost use Rattle.std.specs.Prelude.{◌≡◌, false, ◌/◌, ◌≤◌, length};
 ghost use Rattle.check_structure.specs.Structured.{Tree};
-ghost use Rattle.check_grammar.specs.Grammar.{grammar};
 ghost use Rattle.check_structure.specs.Refusal.{◌next◌, structural_refusal};
 ghost use Rattle.words.specs.declared.Form.TheVariants.{Source};
 ghost use Rattle.check_declaration_causes.specs.Causes.{declaration_refusal};
@@ -40,8 +38,8 @@ fn lowest_wrongly_placed(
     breakable: &[u16],
     items: &[u16],
     declared: usize,
-) -> Found
-    requires { Tree rows.now × (is_definition rows.now 0 ≡ false) × (length rows.now / 6 ≤ 2048) × Notes rows.now (note_at in_loop rows.now) loops.now × Notes rows.now (note_at in_loop_or_switch rows.now) breakable.now × Notes rows.now (note_at switch_item rows.now) items.now × (kinds.now ≡ grammar) × (declared ≡ declaration_count rows.now) }
+) -> Option<usize>
+    requires { Tree rows.now × (is_definition rows.now 0 ≡ false) × (length rows.now / 6 ≤ 2048) × Notes rows.now (note_at in_loop rows.now) loops.now × Notes rows.now (note_at in_loop_or_switch rows.now) breakable.now × Notes rows.now (note_at switch_item rows.now) items.now × (declared ≡ declaration_count rows.now) }
     ensures { result ≡ lowest_row rows.now (wrongly_placed rows.now) }
 {
     let misplaced = lowest_misplaced(rows, loops, breakable, items);
@@ -51,15 +49,12 @@ fn lowest_wrongly_placed(
 }
 
 // Causes 18 to 20, then 23 and 24, in a tree of rows, with the number of its declarations.
-fn last_refusal(kinds: &KindTable, rows: &[i32], declared: usize) -> Verdict
-    requires { Tree rows.now × (is_definition rows.now 0 ≡ false) × (length rows.now / 6 ≤ 2048) × (kinds.now ≡ grammar) × (declared ≡ declaration_count rows.now) }
+fn last_refusal(kinds: &KindTable, rows: &[i32], declared: usize) -> Result<(), Refusal>
+    requires { Tree rows.now × (is_definition rows.now 0 ≡ false) × (length rows.now / 6 ≤ 2048) × (declared ≡ declaration_count rows.now) }
     ensures { result ≡ declaration_refusal rows.now next function_refusal rows.now }
 {
-    let verdict = declaration_refusal(kinds, rows, declared);
-    match verdict {
-        Verdict::Refused(found) => Verdict::Refused(found),
-        Verdict::Accepted => functions_refusal(kinds, rows),
-    }
+    declaration_refusal(kinds, rows, declared)?;
+    functions_refusal(kinds, rows)
 }
 
 // Causes 7 to 9 and those after 18, in a tree of rows, with the notes of its rows.
@@ -70,38 +65,21 @@ fn noted_refusal(
     breakable: &[u16],
     items: &[u16],
     before: &[u16],
-) -> Verdict
-    requires { Tree rows.now × (is_definition rows.now 0 ≡ false) × (length rows.now / 6 ≤ 2048) × AllNotes rows.now loops.now breakable.now items.now before.now × (kinds.now ≡ grammar) }
+) -> Result<(), Refusal>
+    requires { Tree rows.now × (is_definition rows.now 0 ≡ false) × (length rows.now / 6 ≤ 2048) × AllNotes rows.now loops.now breakable.now items.now before.now }
     ensures { result ≡ later_refusal rows.now }
 {
     let declared = declaration_count(rows);
     let misplaced = lowest_wrongly_placed(kinds, rows, loops, breakable, items, declared);
-    if let Found::At(row) = misplaced {
-        return Verdict::Refused(Refusal {
-            number: 7,
-            place: row,
-        });
-    }
-    let repeated = lowest_repeated(rows, before);
-    if let Found::At(row) = repeated {
-        return Verdict::Refused(Refusal {
-            number: 8,
-            place: row,
-        });
-    }
-    let deep = lowest_deep_by(kinds, Form::Source, rows);
-    if let Found::At(row) = deep {
-        return Verdict::Refused(Refusal {
-            number: 9,
-            place: row,
-        });
-    }
+    at(Cause::Misplaced, misplaced)?;
+    at(Cause::RepeatedMark, lowest_repeated(rows, before))?;
+    at(Cause::TooDeep, lowest_deep_by(kinds, Form::Source, rows))?;
     last_refusal(kinds, rows, declared)
 }
 
 // Causes 7 to 9 and those after 18, in a tree of rows.
-fn later_refusal_by(kinds: &KindTable, rows: &[i32]) -> Verdict
-    requires { Tree rows.now × (is_definition rows.now 0 ≡ false) × (length rows.now / 6 ≤ 2048) × (kinds.now ≡ grammar) }
+fn later_refusal_by(kinds: &KindTable, rows: &[i32]) -> Result<(), Refusal>
+    requires { Tree rows.now × (is_definition rows.now 0 ≡ false) × (length rows.now / 6 ≤ 2048) }
     ensures { result ≡ later_refusal rows.now }
 {
     let mut loops = [0u16; 2048];
@@ -120,16 +98,16 @@ fn later_refusal_by(kinds: &KindTable, rows: &[i32]) -> Verdict
 }
 
 // The same, with the table of kinds: it is built here, once, and lent on.
-fn later_refusal(rows: &[i32]) -> Verdict
+fn later_refusal(rows: &[i32]) -> Result<(), Refusal>
     requires { Tree rows.now × (is_definition rows.now 0 ≡ false) × (length rows.now / 6 ≤ 2048) }
     ensures { result ≡ later_refusal rows.now }
 {
-    let kinds = kind_table();
+    let kinds = KindTable::new();
     later_refusal_by(&kinds, rows)
 }
 
 // Causes 1 to 6, with room for the marks of a source program.
-fn shared_refusal(header: &[i32], rows: &[i32]) -> Verdict
+fn shared_refusal(header: &[i32], rows: &[i32]) -> Result<(), Refusal>
     ensures { result ≡ structural_refusal Source header.now rows.now }
 {
     let mut marks = [0u8; 2048];
@@ -137,12 +115,9 @@ fn shared_refusal(header: &[i32], rows: &[i32]) -> Verdict
 }
 
 // The check: accepted, or the number of the first cause and its place.
-pub fn check(header: &[i32], rows: &[i32]) -> Verdict
+pub fn check(header: &[i32], rows: &[i32]) -> Result<(), Refusal>
     ensures { result ≡ refusal header.now rows.now }
 {
-    let verdict = shared_refusal(header, rows);
-    match verdict {
-        Verdict::Refused(found) => Verdict::Refused(found),
-        Verdict::Accepted => later_refusal(rows),
-    }
+    shared_refusal(header, rows)?;
+    later_refusal(rows)
 }

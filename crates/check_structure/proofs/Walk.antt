@@ -1,5 +1,6 @@
 -- The walk for depth: what a part gives goes into what the whole gives. A row is below another by links; in a tree of rows every row is
 -- below row 0, and rows below a row have higher numbers.
+use Rattle.std.specs.Prelude.{None, Some}
 use mathlib.Core.Path.{◌≡◌, subst, sym}
 use mathlib.Core.Bool.{false}
 use mathlib.Core.List.{List}
@@ -21,7 +22,6 @@ use Rattle.check_structure.specs.LinkLaws.{by-owner}
 use Rattle.check_structure.specs.NoteLaws.{above_zero}
 use Rattle.check_structure.specs.Structured.{Leads, Tree}
 use Rattle.check_structure.specs.Passes.{Under, here, down, Through, LowestDeep}
-use Rattle.words.specs.declared.Found.TheVariants.{At, Nothing}
 
 module _ (rows : List ℤ) where
   -- ---- rows below a row
@@ -162,10 +162,10 @@ module _ (rows : List ℤ) (t : Tree rows) where
         go (yes d) = absurd (let l = w.least row (reached row n) d in omega arith)
         go (no d) = let l : depth_at rows row ≤ depth_limit form = omega (arith, d) in le-ltb _ _ l
 
-    pub deep-found : found < row_count rows → At found ≡ lowest_row rows (too_deep form rows)
+    pub deep-found : found < row_count rows → Some found ≡ lowest_row rows (too_deep form rows)
     unfolding lowest_row too_deep
     deep-found h =
         sym (lowest-at (too_deep form rows) found (row_count rows) 0 (omega arith) (omega arith) (lt-ltb _ _ (w.deep h)) (λ row a b. shallow-before row (omega arith) b))
 
-    pub deep_none : row_count rows ≤ found → Nothing ≡ lowest_row rows (too_deep form rows)
+    pub deep_none : row_count rows ≤ found → None ≡ lowest_row rows (too_deep form rows)
     deep_none h = sym (all-lowest_row rows (too_deep form rows) (λ row n. shallow-before row n (omega arith)))

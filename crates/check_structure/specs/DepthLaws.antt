@@ -1,5 +1,5 @@
 -- Laws of depth: in a tree of rows the depth that is computed is the depth of document 01.
-use Rattle.std.specs.Prelude.{◌≡◌, List, ℕ, ◌+◌, ◌≤◌, ◌<◌, ℤ}
+use Rattle.std.specs.Prelude.{◌≡◌, List, ℕ, ◌+◌, ◌≤◌, ◌<◌, ℤ, None}
 use Rattle.std.proofs.Common.{subst, sym, ap, ◌∙◌}
 use native.Mathlib.Omega.{arith}
 use Rattle.std.proofs.Math.Decide.{ℕ_discrete}
@@ -15,7 +15,6 @@ use Rattle.check_structure.specs.Links.{deeper, depth_at, too_deep}
 use Rattle.check_structure.specs.LinkLaws.{by-owner}
 use Rattle.check_structure.specs.NoteLaws.{note-root, note-link}
 use Rattle.check_structure.specs.Structured.{Leads, Tree, Depth, root, owned, beside, Shallow}
-use Rattle.words.specs.declared.Found.TheVariants.{Nothing}
 
 pub depth-root : (rows : List ℤ) → depth_at rows 0 ≡ 1
 unfolding depth_at
@@ -58,13 +57,13 @@ module _ (rows : List ℤ) (t : Tree rows) where
   depth-inside (beside leads d) = leads.inside
 
   -- cause 9: no row is too deep exactly where the rows are shallow
-  pub none-deep-shallow : (form : Form) → lowest_row rows (too_deep form rows) ≡ Nothing → Shallow form rows
+  pub none-deep-shallow : (form : Form) → lowest_row rows (too_deep form rows) ≡ None → Shallow form rows
   unfolding too_deep
   none-deep-shallow form e row depth d =
       let within : depth_at rows row ≤ depth_limit form = ltb-false _ _ (lowest_row-all rows (too_deep form rows) e row (depth-inside d)) in
       let same = depth_is d in
       omega arith
 
-  pub shallow-none-deep : (form : Form) → Shallow form rows → lowest_row rows (too_deep form rows) ≡ Nothing
+  pub shallow-none-deep : (form : Form) → Shallow form rows → lowest_row rows (too_deep form rows) ≡ None
   unfolding too_deep
   shallow-none-deep form s = all-lowest_row rows (too_deep form rows) (λ row n. le-ltb _ _ (s row (depth_at rows row) (depth-of row n)))

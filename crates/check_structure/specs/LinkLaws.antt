@@ -1,5 +1,5 @@
 -- Laws of links: in a tree of rows each row but row 0 has one owner, the row that links it, and `linker` finds it; marks before the first link.
-use Rattle.std.specs.Prelude.{◌≡◌, List, ℤ, replicate}
+use Rattle.std.specs.Prelude.{◌≡◌, List, ℤ, replicate, Some}
 use Rattle.std.proofs.Common.{subst, sym}
 use Prim.Native.Nat.{ℕ, zero, suc, ◌+◌, ◌*◌, ◌-◌, ◌/◌, ◌%◌, ◌≤◌, ◌<◌}
 use Rattle.std.proofs.Math.Nat.{add-zero, add-suc}
@@ -18,7 +18,6 @@ use Rattle.words.specs.SearchLaws.{lowest-at}
 use Rattle.check_structure.specs.Links.{links_among, link_count}
 use Rattle.check_structure.specs.Structured.{Leads, Tree}
 use Rattle.check_structure.specs.Passes.{Unmarked}
-use Rattle.words.specs.declared.Found.TheVariants.{At}
 
 -- the word that is a field of a row
 pub word-of : (row field : ℕ) → field < 6 → ((6 * row + field) / 6 ≡ row) × ((6 * row + field) % 6 ≡ field)
@@ -79,7 +78,7 @@ module _ (rows : List ℤ) where
 -- ---- a tree of rows
 
 module _ (rows : List ℤ) (t : Tree rows) where
-  pub linker-is : (word row : ℕ) → word < 6 * row_count rows → target rows word ≡ row → word / 6 < row → row < row_count rows → linker rows row ≡ At word
+  pub linker-is : (word row : ℕ) → word < 6 * row_count rows → target rows word ≡ row → word / 6 < row → row < row_count rows → linker rows row ≡ Some word
   unfolding linker link_count
   linker-is word row b e l n =
       lowest-at (λ (w : ℕ). eqb (target rows w) row) word (6 * row) 0 (omega arith) (omega arith) (eq-eqb _ _ e)
@@ -140,7 +139,7 @@ module _ (rows : List ℤ) (t : Tree rows) where
       go (yes z) = omega arith
       go (no z) = rw e (t.forward row field n h (rw (← e) (lt_of_le-ne (omega arith) (λ (q : 0 ≡ part). z (sym q))))).inside
 
-  pub linker-of : (row field : ℕ) → field < 6 → Leads rows row field → row < row_count rows → linker rows (link rows row field) ≡ At (6 * row + field)
+  pub linker-of : (row field : ℕ) → field < 6 → Leads rows row field → row < row_count rows → linker rows (link rows row field) ≡ Some (6 * row + field)
   unfolding target
   linker-of row field h leads n =
       let w = word-of row field h in

@@ -1,5 +1,5 @@
 -- Laws of notes: in a tree of rows a row's note is what the row that links it hands on; and what a pass over the words has written.
-use Rattle.std.specs.Prelude.{◌≡◌, List, eqb, ℤ, length, set}
+use Rattle.std.specs.Prelude.{◌≡◌, List, eqb, ℤ, length, set, None, Option, Some}
 use Rattle.std.proofs.Math.Path.{refl, sym, ap}
 use Rattle.std.proofs.Common.{◌∙◌, get_or-set_same}
 use Prim.Native.Nat.{ℕ, zero, suc, ◌+◌, ◌*◌, ◌-◌, ◌/◌, ◌%◌, ◌≤◌, ◌<◌}
@@ -16,25 +16,23 @@ use Rattle.words.specs.SearchLaws.{lowest-below}
 use Rattle.check_structure.specs.Links.{links_among}
 use Rattle.check_structure.specs.LinkLaws.{links-since, links-miss, word-of, linker-of, owner_of}
 use Rattle.check_structure.specs.Structured.{Leads, Tree}
-use Rattle.words.specs.declared.Found.{Found}
-use Rattle.words.specs.declared.Found.TheVariants.{At, Nothing}
 
 pub above_zero : (n : ℕ) → (n ≡ 0 → ⊥) → 0 < n
 above_zero n h = lt_of_le-ne (omega arith) (λ (q : 0 ≡ n). h (sym q))
 
-linker-none : (rows : List ℤ) → linker rows 0 ≡ Nothing
+linker-none : (rows : List ℤ) → linker rows 0 ≡ None
 unfolding linker lowest
 linker-none rows = refl
 
-linker-before : (rows : List ℤ) (row word : ℕ) → linker rows row ≡ At word → word / 6 < row
+linker-before : (rows : List ℤ) (row word : ℕ) → linker rows row ≡ Some word → word / 6 < row
 unfolding linker
 linker-before rows row word e = let b = lowest-below (λ (w : ℕ). eqb (target rows w) row) word (6 * row) 0 e in omega arith
 
 module _ (hand : ℕ → ℕ → ℕ → ℕ) (first : ℕ) (rows : List ℤ) where
-  same_received : (f g : ℕ → ℕ) (found : Found) → ((word : ℕ) → found ≡ At word → f (word / 6) ≡ g (word / 6)) → received hand first f found ≡ received hand first g found
+  same_received : (f g : ℕ → ℕ) (found : Option ℕ) → ((word : ℕ) → found ≡ Some word → f (word / 6) ≡ g (word / 6)) → received hand first f found ≡ received hand first g found
   unfolding received
-  same_received f g (At word) h = rw (h word refl)
-  same_received f g Nothing h = refl
+  same_received f g (Some word) h = rw (h word refl)
+  same_received f g None h = refl
 
   -- row 0 has the first note, with any number of links
   note_by-zero : (links : ℕ) → note_by links hand first rows 0 ≡ first
@@ -55,7 +53,7 @@ module _ (hand : ℕ → ℕ → ℕ → ℕ) (first : ℕ) (rows : List ℤ) wh
   unfolding note
   note-root = note_by-zero 0
 
-  linked-note : (word row : ℕ) → linker rows row ≡ At word → note hand first rows row ≡ hand (word / 6) (word % 6) (note hand first rows (word / 6))
+  linked-note : (word row : ℕ) → linker rows row ≡ Some word → note hand first rows row ≡ hand (word / 6) (word % 6) (note hand first rows (word / 6))
   unfolding note note_by received
   linked-note word zero e = absurd (let b = linker-before rows 0 word e in omega arith)
   linked-note word (suc row) e =

@@ -1,12 +1,12 @@
 -- Passes: what the code's loops compute: one pass for the causes 3, 4 and 6, marks for cause 5, a walk down the links for cause 9.
-use Rattle.std.specs.Prelude.{◌≡◌, Bool, List, ℕ, zero, suc, ◌+◌, ◌/◌, ◌%◌, ◌<◌, ◌≤◌, min, ltb, eqb, ℤ, length, get_or, set}
+use Rattle.std.specs.Prelude.{◌≡◌, Bool, List, ℕ, zero, suc, ◌+◌, ◌/◌, ◌%◌, ◌<◌, ◌≤◌, min, ltb, eqb, ℤ, length, get_or, set, false, Err, None, Ok, Option, Result, Some}
 use Rattle.words.specs.Word.{pick}
 use Rattle.words.specs.Table.{row_count}
 use Rattle.words.specs.Layout.{row_limit}
 use Rattle.words.specs.declared.Form.{Form}
-use Rattle.words.specs.declared.Refusal.{Refusal}
-use Rattle.words.specs.declared.Verdict.{Verdict}
-use Rattle.words.specs.declared.Verdict.TheVariants.{Accepted, Refused}
+use Rattle.words.specs.Causes.{cause_number}
+use Rattle.words.specs.Refusals.{NumberedRefusal}
+use Rattle.words.specs.declared.Cause.{Cause}
 use Rattle.words.specs.Links.{link, target}
 use Rattle.check_fields.specs.Fields.{foreign, mislinked, outside}
 use Rattle.check_structure.specs.Links.{links_among, link_count, not_once, depth_at}
@@ -33,18 +33,46 @@ unfoldable pub row_cause : Form → Bounds → List ℤ → ℕ → ℕ
 row_cause form bounds rows row = least_cause (field_cause form bounds rows row) 6
 
 -- One row more: a lower cause counts, at this row.
-unfoldable pub lowered : Refusal → ℕ → ℕ → Refusal
+unfoldable pub lowered : NumberedRefusal → ℕ → ℕ → NumberedRefusal
 lowered found cause row = pick (ltb cause found.number) (record { number = cause; place = row }) found
 
 -- The least cause of the first `count` rows, at the lowest row that has it.
-unfoldable pub lowest_cause : (ℕ → ℕ) → ℕ → Refusal
+unfoldable pub lowest_cause : (ℕ → ℕ) → ℕ → NumberedRefusal
 lowest_cause cause_of zero = record { number = 7; place = 0 }
 lowest_cause cause_of (suc count) = lowered (lowest_cause cause_of count) (cause_of count) count
 
--- Causes 5 and 6, with what the pass found: 6, or 7 for none.
-unfoldable pub later_causes : List ℤ → Refusal → Verdict
+-- The same as the code keeps it, with nothing where none of the three is broken.
+abbrev pub number_of : Option Cause → Option ℕ
+number_of None = None
+number_of (Some cause) = Some (cause_number cause)
+
+abbrev pub cause_named : ℕ → Option ℕ
+cause_named cause = pick (ltb cause 7) (Some cause) None
+
+-- The first of two causes.
+abbrev pub first_of : Option ℕ → Option ℕ → Option ℕ
+first_of None other = other
+first_of (Some one) None = Some one
+first_of (Some one) (Some other) = Some (min one other)
+
+abbrev pub verdict_of : NumberedRefusal → Result (Unit {0}) NumberedRefusal
+verdict_of found = pick (ltb found.number 7) (Err found) (Ok tt)
+
+-- One row more.
+abbrev pub lowered_by : Result (Unit {0}) NumberedRefusal → Option ℕ → ℕ → Result (Unit {0}) NumberedRefusal
+lowered_by found None row = found
+lowered_by (Ok tt) (Some cause) row = Err (record { number = cause; place = row })
+lowered_by (Err refusal) (Some cause) row = pick (ltb cause refusal.number) (Err (record { number = cause; place = row })) (Err refusal)
+
+-- It comes before cause 5.
+abbrev pub comes_first : Result (Unit {0}) NumberedRefusal → Bool
+comes_first (Ok tt) = false
+comes_first (Err refusal) = ltb refusal.number 5
+
+-- Causes 5 and 6, with what the pass found: 6, or none.
+unfoldable pub later_causes : List ℤ → Result (Unit {0}) NumberedRefusal → Result (Unit {0}) NumberedRefusal
 later_causes rows found =
-    at 5 (lowest_row rows (λ row. not_once rows (link_count rows row) row)) next pick (ltb found.number 7) (Refused found) Accepted
+    at 5 (lowest_row rows (λ row. not_once rows (link_count rows row) row)) next found
 
 -- ---- marks of how often a row is linked: 0, 1, or 2 for more
 

@@ -1,6 +1,6 @@
 -- Laws of roles: in a structured table a definition's b leads to a parameter, so does a parameter's next, and no other field; a parameter has no
 -- initial expression, every other declaration has one.
-use Rattle.std.specs.Prelude.{◌≡◌, refl, Bool, true, false, List, ℕ, ◌+◌, ◌*◌, ◌<◌, ℤ}
+use Rattle.std.specs.Prelude.{◌≡◌, refl, Bool, true, false, List, ℕ, ◌+◌, ◌*◌, ◌<◌, ℤ, Some}
 use Rattle.std.proofs.Common.{sym, subst, ◌∙◌, true≢false, arith}
 use Rattle.std.proofs.lemmas.Bool.{false≢true}
 use Rattle.std.proofs.Math.Decide.{ℕ_discrete}
@@ -11,7 +11,6 @@ use Rattle.words.specs.Kinds.{expression, absent_link, optional_parameter, kinds
 use Rattle.words.specs.Links.{link, linker, fits}
 use Rattle.words.specs.Declarations.{is_declaration}
 use Rattle.words.specs.declared.Form.{Form}
-use Rattle.words.specs.declared.Found.TheVariants.{At}
 use Rattle.words_roles.specs.Roles.{is_definition, is_parameter, parameter_sort, role_sort}
 use Rattle.words_roles.specs.Demands.{AsParameter, by_definition, by_parameter}
 use Rattle.words_roles.proofs.RoleLaws.{is-parameter, parameter-is, parameter-declaration, sort-parameter, sort-other}
@@ -73,7 +72,7 @@ module _ (rows : List ℤ) where
         let by : Leads rows owner other = record { later = rw e l; inside = rw e i } in
         let one = linker-of rows t row field h leads (omega arith) in
         let two = linker-of rows t owner other k by (omega arith) in
-        let same : At (6 * owner + other) ≡ At (6 * row + field) = sym two ∙ (rw e one) in
+        let same : Some (6 * owner + other) ≡ Some (6 * row + field) = sym two ∙ (rw e one) in
         let words : 6 * owner + other ≡ 6 * row + field = cc in
         (omega arith, omega arith)
 

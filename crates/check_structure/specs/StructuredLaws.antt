@@ -1,5 +1,5 @@
 -- Laws of structure: the causes 1 to 6 accept exactly the structured tables, whose rows make a tree. Each cause by itself, then the chain.
-use Rattle.std.specs.Prelude.{◌≡◌, Bool, ◌&&◌, List, ℕ, zero, suc, ◌≤◌, ◌<◌, ltb, ℤ, length}
+use Rattle.std.specs.Prelude.{◌≡◌, Bool, ◌&&◌, List, ℕ, zero, suc, ◌≤◌, ◌<◌, ltb, ℤ, length, None, Ok}
 use Rattle.std.proofs.Math.Path.{refl, ap}
 use Rattle.std.proofs.Common.{sym, ◌∙◌, arith}
 use Rattle.std.proofs.Math.Bool.{true, false, not, true≢false}
@@ -11,7 +11,6 @@ use Rattle.words.specs.Table.{row_count, number_at}
 use Rattle.words.specs.Layout.{header_fits, count_fits}
 use Rattle.words.specs.Laws.{both, row_limit-most, count_fits-facts}
 use Rattle.words.specs.declared.Form.{Form}
-use Rattle.words.specs.declared.Verdict.TheVariants.{Accepted}
 use Rattle.words.specs.Kinds.{unused, variable, array, label, declared_number, sort_of, sort_at, between, in_language, is_link, is_required}
 use Rattle.words.specs.KindLaws.{required-link}
 use Rattle.words.specs.Links.{link, fits}
@@ -27,7 +26,6 @@ use Rattle.check_structure.specs.Refusal.{at, unless, ◌next◌, row_causes, st
 use Rattle.check_structure.specs.RefusalLaws.{next-accepts, accepts-next, at-accepts, accepts-at, unless-accepts, accepts-unless}
 use Rattle.check_structure.specs.Structured.{Leads, Structured, Tree}
 use Rattle.check_fields.specs.declared.Bounds.{Bounds}
-use Rattle.words.specs.declared.Found.TheVariants.{Nothing}
 
 -- ---- each field of each row
 
@@ -35,10 +33,10 @@ use Rattle.words.specs.declared.Found.TheVariants.{Nothing}
 abbrev NoField : List ℤ → (ℕ → ℕ → Bool) → Type 0
 NoField rows p = (row : ℕ) → row < row_count rows → (field : ℕ) → field < 6 → p row field ≡ false
 
-fields-all : (rows : List ℤ) (p : ℕ → ℕ → Bool) → lowest_row rows (λ row. some_field (p row)) ≡ Nothing → NoField rows p
+fields-all : (rows : List ℤ) (p : ℕ → ℕ → Bool) → lowest_row rows (λ row. some_field (p row)) ≡ None → NoField rows p
 fields-all rows p e row n field h = some_field-all (p row) (lowest_row-all rows (λ row. some_field (p row)) e row n) field h
 
-all-fields : (rows : List ℤ) (p : ℕ → ℕ → Bool) → NoField rows p → lowest_row rows (λ row. some_field (p row)) ≡ Nothing
+all-fields : (rows : List ℤ) (p : ℕ → ℕ → Bool) → NoField rows p → lowest_row rows (λ row. some_field (p row)) ≡ None
 all-fields rows p h = all-lowest_row rows (λ row. some_field (p row)) (λ row n. all-some_field (p row) (λ field f. h row n field f))
 
 -- a property of each field, from one of the kind and one of the others
@@ -167,7 +165,7 @@ module _ (rows : List ℤ) where
 -- ---- all causes
 
 module _ (form : Form) (header rows : List ℤ) where
-  pub accepted-structured : structural_refusal form header rows ≡ Accepted → (header_fits form header ≡ true) × Structured form (bounds_of form header) rows
+  pub accepted-structured : structural_refusal form header rows ≡ (Ok tt) → (header_fits form header ≡ true) × Structured form (bounds_of form header) rows
   unfolding structural_refusal row_causes outside
   accepted-structured e =
       let c1 = next-accepts (unless (header_fits form header) 1) _ e in
@@ -197,7 +195,7 @@ module _ (form : Form) (header rows : List ℤ) where
         },
       )
 
-  pub structured-accepted : header_fits form header ≡ true → Structured form (bounds_of form header) rows → structural_refusal form header rows ≡ Accepted
+  pub structured-accepted : header_fits form header ≡ true → Structured form (bounds_of form header) rows → structural_refusal form header rows ≡ (Ok tt)
   unfolding structural_refusal row_causes outside
   structured-accepted fit s =
       accepts-next (unless (header_fits form header) 1) _ (accepts-unless _ 1 fit)

@@ -1,14 +1,13 @@
 // Cause 9: a walk down the links, which stops one level below the limit. It runs on a tree of rows, so each row is met once.
 ghost use Rattle.std.specs.Prelude.{◌≡◌, ◌+◌, ◌/◌, ◌<◌, ◌≤◌, min, length};
 ghost use Rattle.words.specs.Layout.{depth_limit};
-ghost use Rattle.check_grammar.specs.Grammar.{grammar};
 ghost use Rattle.words.specs.Search.{lowest_row};
 ghost use Rattle.check_structure.specs.Links.{depth_at, too_deep};
 ghost use Rattle.check_structure.specs.Structured.{Tree};
 ghost use Rattle.check_structure.specs.Passes.{Under, Through, LowestDeep};
 
-use check_grammar::{KindTable, link};
-use words::{Form, Found};
+use check_grammar::kinds::KindTable;
+use words::Form;
 
 pub fn depth_limit(form: Form) -> usize
     ensures { result ≡ depth_limit form }
@@ -31,7 +30,7 @@ fn lower(one: usize, other: usize) -> usize
 // The lowest row over the limit in the list that begins at `first`, and below it; the number of rows where there is none.
 #[cycle(lowest_depth)]
 fn lowest_deep(kinds: &KindTable, limit: usize, rows: &[i32], first: usize, depth: usize) -> usize
-    requires { Tree rows.now × (limit ≤ 512) × (first < length rows.now / 6) × (depth ≤ limit + 1) × (depth_at rows.now first ≡ depth) × (kinds.now ≡ grammar) }
+    requires { Tree rows.now × (limit ≤ 512) × (first < length rows.now / 6) × (depth ≤ limit + 1) × (depth_at rows.now first ≡ depth) }
     ensures { LowestDeep limit rows.now (Under rows.now first) result }
 {
     if limit < depth {
@@ -41,7 +40,7 @@ fn lowest_deep(kinds: &KindTable, limit: usize, rows: &[i32], first: usize, dept
     let mut row = first;
     loop {
         found = lower(found, lowest_deep_parts(kinds, limit, rows, row, depth));
-        let next = link(kinds, rows, row, 5);
+        let next = kinds.link(rows, row, 5);
         if next == 0 {
             return found;
         }
@@ -58,29 +57,27 @@ fn lowest_deep_parts(
     row: usize,
     depth: usize,
 ) -> usize
-    requires { Tree rows.now × (limit ≤ 512) × (row < length rows.now / 6) × (depth ≤ limit) × (depth_at rows.now row ≡ depth) × (kinds.now ≡ grammar) }
+    requires { Tree rows.now × (limit ≤ 512) × (row < length rows.now / 6) × (depth ≤ limit) × (depth_at rows.now row ≡ depth) }
     ensures { LowestDeep limit rows.now (Through rows.now row 5) result }
 {
     let mut found = rows.len() / 6;
-    let mut field: usize = 0;
-    while field < 5 {
-        let part = link(kinds, rows, row, field);
+    for field in 0..5 {
+        let part = kinds.link(rows, row, field);
         if part != 0 {
             found = lower(found, lowest_deep(kinds, limit, rows, part, depth + 1));
         }
-        field += 1;
     }
     found
 }
 
 // The lowest row over the form's limit. The table of kinds is lent by the checks: built there, it shares the room of arrays that come later.
-pub fn lowest_deep_by(kinds: &KindTable, form: Form, rows: &[i32]) -> Found
-    requires { (Tree rows.now) × (kinds.now ≡ grammar) }
+pub fn lowest_deep_by(kinds: &KindTable, form: Form, rows: &[i32]) -> Option<usize>
+    requires { Tree rows.now }
     ensures { result ≡ lowest_row rows.now (too_deep form rows.now) }
 {
     let found = lowest_deep(kinds, depth_limit(form), rows, 0, 1);
     if found < rows.len() / 6 {
-        return Found::At(found);
+        return Some(found);
     }
-    Found::Nothing
+    None
 }

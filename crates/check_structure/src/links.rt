@@ -1,10 +1,9 @@
 // How often each row is linked, and cause 5.
 ghost use Rattle.std.specs.Prelude.{◌≡◌, ◌+◌, ◌*◌, ◌/◌, ◌<◌, ◌≤◌, length};
-ghost use Rattle.check_grammar.specs.Grammar.{grammar};
 ghost use Rattle.check_structure.specs.Links.{not_once, lone_block};
 ghost use Rattle.check_structure.specs.Passes.{marked, marked_link, Marked, Cleared};
 
-use check_grammar::{KindTable, link};
+use check_grammar::kinds::KindTable;
 use words::table::number_at;
 
 // Marks one more link to a row: 0, 1, or 2 for more.
@@ -30,19 +29,17 @@ fn mark_link(marks: &mut [u8], linked: usize)
 
 // Marks the links of one row.
 fn mark_row(kinds: &KindTable, rows: &[i32], marks: &mut [u8], row: usize)
-    requires { (6 * row + 5 < length rows.now) × Marked rows.now (6 * row) marks.old × (kinds.now ≡ grammar) }
+    requires { (6 * row + 5 < length rows.now) × Marked rows.now (6 * row) marks.old }
     ensures { (length marks.new ≡ length marks.old) × Marked rows.now (6 * row + 6) marks.new }
 {
-    let mut field: usize = 0;
-    while field < 6 {
-        mark_link(marks, link(kinds, rows, row, field));
-        field += 1;
+    for field in 0..6 {
+        mark_link(marks, kinds.link(rows, row, field));
     }
 }
 
 // Marks every link of the table, in one pass.
 pub fn mark_links(kinds: &KindTable, rows: &[i32], marks: &mut [u8])
-    requires { (6 * (length rows.now / 6) ≡ length rows.now) × Marked rows.now 0 marks.old × (kinds.now ≡ grammar) }
+    requires { (6 * (length rows.now / 6) ≡ length rows.now) × Marked rows.now 0 marks.old }
     ensures { Marked rows.now (length rows.now) marks.new }
 {
     let count = rows.len() / 6;

@@ -7,16 +7,13 @@ use words::Form;
 
 // A number as a word; 0 for one that is none.
 fn word(number: usize) -> i32 {
-    if number < 2147483648 {
-        return number as i32;
-    }
-    0
+    i32::try_from(number).unwrap_or(0)
 }
 
 // Changes a word of a table.
 fn set(rows: &mut [i32], word: usize, value: i32) {
-    if word < rows.len() {
-        rows[word] = value;
+    if let Some(old) = rows.get_mut(word) {
+        *old = value;
     }
 }
 
@@ -29,39 +26,32 @@ fn put(rows: &mut [i32], row: usize, kind: i32, a: usize, next: usize) {
     }
 }
 
-fn before(row: usize) -> usize {
-    if row == 0 {
-        return 0;
-    }
-    row - 1
-}
-
 // So many blocks, each but the last in the one before.
 fn put_blocks(rows: &mut [i32], count: usize) {
     for row in 0..count {
         put(rows, row, 42, row + 1, 0);
     }
-    put(rows, before(count), 42, 0, 0);
-}
-
-// A position, by the distance of the numbers there.
-fn spread(position: usize, distance: usize) -> usize {
-    if position < 65536 {
-        if distance < 2097152 {
-            return position * distance;
-        }
-    }
-    0
+    put(rows, count.saturating_sub(1), 42, 0, 0);
 }
 
 // The rows from `first` to `last` are one list, with numbers that are `distance` apart.
 fn put_list(rows: &mut [i32], kind: i32, first: usize, last: usize, distance: usize) {
-    if first < last {
-        for row in first..last {
-            put(rows, row, kind, spread(row - first, distance), row + 1);
-        }
-        put(rows, last, kind, spread(last - first, distance), 0);
+    for row in first..last {
+        put(
+            rows,
+            row,
+            kind,
+            (row - first).saturating_mul(distance),
+            row + 1,
+        );
     }
+    put(
+        rows,
+        last,
+        kind,
+        last.saturating_sub(first).saturating_mul(distance),
+        0,
+    );
 }
 
 // How many words a header without arrays has.
@@ -96,7 +86,7 @@ pub fn check_nested(rt: &impl Print, form: Form, count: usize) -> io::Result<()>
 pub fn check_list(rt: &impl Print, count: usize) -> io::Result<()> {
     let mut rows = [0i32; 12294];
     put(&mut rows, 0, 42, 1, 0);
-    put_list(&mut rows, 40, 1, before(count), 0);
+    put_list(&mut rows, 40, 1, count.saturating_sub(1), 0);
     check_rows(rt, Form::Source, &rows, count)
 }
 
@@ -109,7 +99,7 @@ pub fn check_switch(rt: &impl Print, distance: usize, last: usize) -> io::Result
     set(&mut rows, 8, 3);
     put(&mut rows, 2, 1, 0, 0);
     put_list(&mut rows, 48, 3, 2047, distance);
-    put(&mut rows, 2047, 48, spread(last, distance), 0);
+    put(&mut rows, 2047, 48, last.saturating_mul(distance), 0);
     check_rows(rt, Form::Source, &rows, 2048)
 }
 
@@ -118,7 +108,7 @@ pub fn check_gotos(rt: &impl Print, depth: usize) -> io::Result<()> {
     let mut rows = [0i32; 245880];
     put_blocks(&mut rows, depth);
     put(&mut rows, 1, 42, 2, 20700);
-    put_list(&mut rows, 52, before(depth), 20699, 1);
+    put_list(&mut rows, 52, depth.saturating_sub(1), 20699, 1);
     put_list(&mut rows, 53, 20700, 40979, 1);
     check_rows(rt, Form::Kernel, &rows, 40980)
 }

@@ -1,18 +1,11 @@
 // Checks a table, and writes what the check answers: accepted, or refused with its number and place.
-use console::{print_decimal, write_all};
 use std::io;
-use words::{Form, Verdict};
+use words::{Form, Refusal};
 
-fn write(rt: &impl Print, verdict: Verdict) -> io::Result<()> {
+fn write(rt: &impl Print, verdict: Result<(), Refusal>) -> io::Result<()> {
     match verdict {
-        Verdict::Accepted => write_all(rt, b"accepted\n"),
-        Verdict::Refused(refusal) => {
-            write_all(rt, b"refused ")?;
-            print_decimal(rt, refusal.number as u64)?;
-            write_all(rt, b" ")?;
-            print_decimal(rt, refusal.place as u64)?;
-            write_all(rt, b"\n")
-        }
+        Ok(()) => println!(rt; "accepted"),
+        Err(refusal) => println!(rt; "refused {} {}", refusal.cause.number(), refusal.place),
     }
 }
 

@@ -2,7 +2,8 @@
 ghost use Rattle.std.specs.Prelude.{◌≡◌};
 ghost use Rattle.program_previews.specs.Previews.{answer_and_words, preview_result};
 
-use program_previews::PreviewVerdict;
+use program_previews::PreviewAnswer;
+use words::Refusal;
 
 // Tells what a run of a source program on the store would do: the answer of that run, and in the first S words of the scratch the store
 // that it would leave.
@@ -12,7 +13,7 @@ pub fn preview(
     store: &[i32],
     budget: u32,
     scratch: &mut [i32],
-) -> PreviewVerdict
+) -> Result<PreviewAnswer, Refusal>
     ensures { answer_and_words result store.now scratch.new ≡ preview_result header.now rows.now budget store.now scratch.old }
 {
     program_previews::preview(header, rows, store, budget, scratch)

@@ -108,6 +108,7 @@ fn answer_cases(
     requires output_room_in_bounds { output_room ≤ length out.old }
 {
     let mut at: usize = 0;
+    // Kept as a while: the step is the length of what was read.
     while at < input.len() {
         at = answer_case(rt, input, at, header, rows, out)?;
     }

@@ -1,4 +1,5 @@
 -- A program that was flattened into a table of so much room: the text of its list has room, and a refusal is the check's, or 10.
+use Rattle.std.specs.Prelude.{Err, Ok, Result}
 use mathlib.Core.Path.{◌≡◌, refl, sym, ap, ◌∙◌}
 use mathlib.Core.Bool.{Bool, true, false}
 use mathlib.Core.List.{List}
@@ -13,17 +14,13 @@ use Rattle.words.specs.Over.{over}
 use Rattle.words.specs.OverLaws.{length_over, written-part}
 use Rattle.words.specs.Laws.{header_fits-facts, leading-limits}
 use Rattle.words.specs.declared.Form.TheVariants.{Kernel}
-use Rattle.words.specs.declared.Refusal.{Refusal}
-use Rattle.words.specs.declared.Verdict.{Verdict}
-use Rattle.words.specs.declared.Verdict.TheVariants.{Accepted, Refused}
+use Rattle.words.specs.Refusals.{NumberedRefusal}
 use Rattle.text_form.specs.Text.{table_bytes}
 use Rattle.text_report.specs.Lines.{refused_line}
 use Rattle.check_plain.specs.Refusal.{plain_refusal}
 use Rattle.check_plain.specs.Accepts.{accepted-plain}
 use Rattle.flat_fate.specs.FlatWords.{flattened}
 use Rattle.flat_text.specs.Text.{flat_bytes}
-use Rattle.flattener.specs.declared.FlattenAnswer.{FlattenAnswer}
-use Rattle.flattener.specs.declared.FlattenAnswer.TheVariants.{Flattened, Refused as FlattenRefused}
 use Rattle.flattener.specs.Flattening.{FlattenResult, answer_and_list, flatten_after, flatten_result}
 use Rattle.flattener.proofs.FlatteningLaws.{list-size}
 use Rattle.command_text.specs.Texts.{Tabled}
@@ -36,19 +33,19 @@ pub record ListTable (header rows left : List ℤ) (words : ℕ) : Type 0 where
   pub is : table_bytes 5 (words / 5) header (take (words - 0) left) ≡ list_text header rows
 
 -- an answer is of one sort
-other-answer : {Claim : Type 0} {words : ℕ} {refusal : Refusal} → Flattened words ≡ FlattenRefused refusal → Claim
+other-answer : {Claim : Type 0} {words : ℕ} {refusal : NumberedRefusal} → ◌≡◌ {A = Result ℕ NumberedRefusal} (Ok words) (Err refusal) → Claim
 other-answer e = absurd (let z : ◌≡◌ {A = ℕ} 0 1 = cc in omega arith)
 
-same-refusal : {refusal other : Refusal} → FlattenRefused refusal ≡ FlattenRefused other → refusal ≡ other
+same-refusal : {refusal other : NumberedRefusal} → ◌≡◌ {A = Result ℕ NumberedRefusal} (Err refusal) (Err other) → refusal ≡ other
 same-refusal e = cc
 
 -- the list, or 10, by whether there is room
 abbrev written_if : Bool → (rows out : List ℤ) → FlattenResult
 written_if test rows out =
-    pick test (answer_and_list (Flattened (length (flattened rows))) (over (flattened rows) out)) (answer_and_list (FlattenRefused (record { number = 10; place = 0 })) out)
+    pick test (answer_and_list (Ok (length (flattened rows))) (over (flattened rows) out)) (answer_and_list (Err (record { number = 10; place = 0 })) out)
 
 module _ (header rows out : List ℤ) (room : length out ≡ flatten_room) where
-  module _ (a : plain_refusal header rows ≡ Accepted) where
+  module _ (a : plain_refusal header rows ≡ (Ok tt)) where
     five : length (flattened rows) ≡ 5 * (length (flattened rows) / 5)
     five = omega (arith, list-size (record { header = header; plain = accepted-plain header rows a }))
 
@@ -70,32 +67,32 @@ module _ (header rows out : List ℤ) (room : length out ≡ flatten_room) where
           is = rw (list, w) (rw (a, t));
         }
 
-    flattened-if : (test : Bool) → leb (length (flattened rows)) flatten_room ≡ test → (words : ℕ) (left : List ℤ) → answer_and_list (Flattened words) left ≡ written_if test rows out → ListTable header rows left words
+    flattened-if : (test : Bool) → leb (length (flattened rows)) flatten_room ≡ test → (words : ℕ) (left : List ℤ) → answer_and_list (Ok words) left ≡ written_if test rows out → ListTable header rows left words
     flattened-if true t words left e =
-        let told : Flattened words ≡ Flattened (length (flattened rows)) = ap (λ (r : FlattenResult). r.answer) e in
+        let told : ◌≡◌ {A = Result ℕ NumberedRefusal} (Ok words) (Ok (length (flattened rows))) = ap (λ (r : FlattenResult). r.answer) e in
         let same : words ≡ length (flattened rows) = cc in
         list-table t words left same (ap (λ (r : FlattenResult). r.list) e)
     flattened-if false t words left e = other-answer (ap (λ (r : FlattenResult). r.answer) e)
 
-    refused-if : (test : Bool) → leb (length (flattened rows)) flatten_room ≡ test → (refusal : Refusal) (left : List ℤ) → answer_and_list (FlattenRefused refusal) left ≡ written_if test rows out
+    refused-if : (test : Bool) → leb (length (flattened rows)) flatten_room ≡ test → (refusal : NumberedRefusal) (left : List ℤ) → answer_and_list (Err refusal) left ≡ written_if test rows out
         → refused_line refusal.number refusal.place ≡ accepted_list header rows
     refused-if true t refusal left e = other-answer (sym (ap (λ (r : FlattenResult). r.answer) e))
     refused-if false t refusal left e = rw (same-refusal (ap (λ (r : FlattenResult). r.answer) e), t)
 
-  flattened-by : (verdict : Verdict) → plain_refusal header rows ≡ verdict → (words : ℕ) (left : List ℤ) → answer_and_list (Flattened words) left ≡ flatten_after verdict rows out → ListTable header rows left words
-  flattened-by (Refused refusal) a words left e = other-answer (ap (λ (r : FlattenResult). r.answer) e)
-  flattened-by Accepted a words left e = flattened-if a (leb (length (flattened rows)) flatten_room) refl words left (rw room at e)
+  flattened-by : (verdict : Result (Unit {0}) NumberedRefusal) → plain_refusal header rows ≡ verdict → (words : ℕ) (left : List ℤ) → answer_and_list (Ok words) left ≡ flatten_after verdict rows out → ListTable header rows left words
+  flattened-by (Err refusal) a words left e = other-answer (ap (λ (r : FlattenResult). r.answer) e)
+  flattened-by (Ok tt) a words left e = flattened-if a (leb (length (flattened rows)) flatten_room) refl words left (rw room at e)
 
-  refused-by : (verdict : Verdict) → plain_refusal header rows ≡ verdict → (refusal : Refusal) (left : List ℤ) → answer_and_list (FlattenRefused refusal) left ≡ flatten_after verdict rows out
+  refused-by : (verdict : Result (Unit {0}) NumberedRefusal) → plain_refusal header rows ≡ verdict → (refusal : NumberedRefusal) (left : List ℤ) → answer_and_list (Err refusal) left ≡ flatten_after verdict rows out
       → refused_line refusal.number refusal.place ≡ verdict_list verdict header rows
-  refused-by (Refused other) a refusal left e = rw (same-refusal (ap (λ (r : FlattenResult). r.answer) e))
-  refused-by Accepted a refusal left e = refused-if a (leb (length (flattened rows)) flatten_room) refl refusal left (rw room at e)
+  refused-by (Err other) a refusal left e = rw (same-refusal (ap (λ (r : FlattenResult). r.answer) e))
+  refused-by (Ok tt) a refusal left e = refused-if a (leb (length (flattened rows)) flatten_room) refl refusal left (rw room at e)
 
-  pub list-made : {words : ℕ} {left : List ℤ} → answer_and_list (Flattened words) left ≡ flatten_result header rows out → ListTable header rows left words
+  pub list-made : {words : ℕ} {left : List ℤ} → answer_and_list (Ok words) left ≡ flatten_result header rows out → ListTable header rows left words
   unfolding flatten_result
   list-made {words} {left} e = flattened-by (plain_refusal header rows) refl words left e
 
   -- the line of a refusal
-  pub list-refused : (refusal : Refusal) (left : List ℤ) → answer_and_list (FlattenRefused refusal) left ≡ flatten_result header rows out → refused_line refusal.number refusal.place ≡ list_text header rows
+  pub list-refused : (refusal : NumberedRefusal) (left : List ℤ) → answer_and_list (Err refusal) left ≡ flatten_result header rows out → refused_line refusal.number refusal.place ≡ list_text header rows
   unfolding flatten_result
   list-refused refusal left e = refused-by (plain_refusal header rows) refl refusal left e

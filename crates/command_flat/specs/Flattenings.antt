@@ -1,8 +1,7 @@
 -- Flattenings: what `flatten` prints. Change 10.
-use Rattle.std.specs.Prelude.{List, ℕ, leb, ℤ, length}
+use Rattle.std.specs.Prelude.{List, ℕ, leb, ℤ, length, Err, Ok, Result}
+use Rattle.words.specs.Refusals.{NumberedRefusal}
 use Rattle.words.specs.Word.{pick}
-use Rattle.words.specs.declared.Verdict.{Verdict}
-use Rattle.words.specs.declared.Verdict.TheVariants.{Accepted, Refused}
 use Rattle.text_report.specs.Lines.{refused_line}
 use Rattle.check_plain.specs.Refusal.{plain_refusal}
 use Rattle.flat_fate.specs.FlatWords.{flattened}
@@ -17,9 +16,9 @@ abbrev pub accepted_list : (header rows : List ℤ) → List ℕ
 accepted_list header rows = pick (leb (length (flattened rows)) flatten_room) (flat_bytes header (flattened rows)) (refused_line 10 0)
 
 -- The list of a kernel program, or its refusal.
-abbrev pub verdict_list : Verdict → (header rows : List ℤ) → List ℕ
-verdict_list (Refused refusal) header rows = refused_line refusal.number refusal.place
-verdict_list Accepted header rows = accepted_list header rows
+abbrev pub verdict_list : Result (Unit {0}) NumberedRefusal → (header rows : List ℤ) → List ℕ
+verdict_list (Err refusal) header rows = refused_line refusal.number refusal.place
+verdict_list (Ok tt) header rows = accepted_list header rows
 
 abbrev pub list_text : (header rows : List ℤ) → List ℕ
 list_text header rows = verdict_list (plain_refusal header rows) header rows

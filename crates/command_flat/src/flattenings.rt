@@ -6,7 +6,6 @@ ghost use Rattle.command_flat.specs.Flattenings.{flatten_room, list_text};
 
 use clight::flat_lists::flatten;
 use command_text::put_table;
-use flattener::FlattenAnswer;
 use text_report::line::refused_line;
 
 // Flattens a program into the lent table, and writes the text of its list: a word takes at most twelve bytes, so that it has room.
@@ -17,8 +16,8 @@ fn put_list(header: &[i32], rows: &[i32], list: &mut [i32], out: &mut [u8]) -> u
 {
     let answer = flatten(header, rows, list);
     match answer {
-        FlattenAnswer::Refused(refusal) => refused_line(refusal, out),
-        FlattenAnswer::Flattened(words) => put_table(5, words / 5, header, &list[0..words], out),
+        Err(refusal) => refused_line(refusal, out),
+        Ok(words) => put_table(5, words / 5, header, &list[0..words], out),
     }
 }
 

@@ -13,7 +13,7 @@ ghost use Rattle.command_flat.specs.Lists.{list_room, list_output, list_check_li
 
 use clight::flat_lists::{flat_check, flat_run};
 use command_lines::{run_line, verdict_line};
-use text_form::ReadAnswer;
+use words::Refusal;
 
 fn list_room() -> usize
     ensures { result ≡ list_room }
@@ -22,7 +22,11 @@ fn list_room() -> usize
 }
 
 // Reads a list into the first words of the table.
-pub fn read_list(text: &[u8], header: &mut [i32], list: &mut [i32]) -> ReadAnswer
+pub fn read_list(
+    text: &[u8],
+    header: &mut [i32],
+    list: &mut [i32],
+) -> Result<(usize, usize), Refusal>
     requires { Roomy Kernel header.old list.old }
     ensures { ReadFor (list_output text.now) Kernel result header.new list.new }
 {

@@ -1,34 +1,30 @@
 -- Lines: the lines that the command prints beside those of `text_report`.
-use Rattle.std.specs.Prelude.{List, [], ◌∷◌, map, ℕ, ℤ}
+use Rattle.std.specs.Prelude.{List, [], ◌∷◌, map, ℕ, ℤ, Err, Ok, Result}
+use Rattle.words.specs.declared.RunAnswer.{RunAnswer}
+use Rattle.words.specs.Refusals.{NumberedRefusal}
 use Rattle.words.specs.Answers.{ending_name}
 use Rattle.words.specs.declared.Ending.{Ending}
-use Rattle.words.specs.declared.Verdict.{Verdict}
-use Rattle.words.specs.declared.Verdict.TheVariants.{Accepted, Refused}
-use Rattle.words.specs.declared.RunVerdict.{RunVerdict}
-use Rattle.words.specs.declared.RunVerdict.TheVariants as run-cases
 use Rattle.text_numbers.specs.Number.{digits, number_bytes}
 use Rattle.text_report.specs.Lines.{line_of, refused_line, kernel_line}
-use Rattle.program_dispatcher.specs.declared.DispatcherVerdict.{DispatcherVerdict}
-use Rattle.program_dispatcher.specs.declared.DispatcherVerdict.TheVariants as dispatcher-cases
 use Rattle.command_request.specs.Ascii.{ascii}
 
 -- A check prints `ok`, or its refusal in the trial's manner.
-unfoldable pub verdict_line : Verdict → List ℕ
-verdict_line Accepted = ascii "ok\n"
-verdict_line (Refused refusal) = refused_line refusal.number refusal.place
+unfoldable pub verdict_line : Result (Unit {0}) NumberedRefusal → List ℕ
+verdict_line (Ok tt) = ascii "ok\n"
+verdict_line (Err refusal) = refused_line refusal.number refusal.place
 
 -- A run prints "ending, count and the store's words", parted by single blanks.
 unfoldable pub ended_line : Ending → ℕ → List ℤ → List ℕ
 ended_line ending count words = line_of (ending_name ending) (digits count ∷ map number_bytes words)
 
-unfoldable pub run_line : RunVerdict → List ℤ → List ℕ
-run_line (run-cases.Ran answer) store = ended_line answer.ending answer.count store
-run_line (run-cases.Refused refusal) store = refused_line refusal.number refusal.place
+unfoldable pub run_line : Result RunAnswer NumberedRefusal → List ℤ → List ℕ
+run_line (Ok answer) store = ended_line answer.ending answer.count store
+run_line (Err refusal) store = refused_line refusal.number refusal.place
 
 -- A dispatcher's run prints the trial's kernel line: the ending and the S words.
-unfoldable pub dispatcher_line : DispatcherVerdict → List ℤ → List ℕ
-dispatcher_line (dispatcher-cases.Shown ending) words = kernel_line ending words
-dispatcher_line (dispatcher-cases.Refused refusal) words = refused_line refusal.number refusal.place
+unfoldable pub dispatcher_line : Result Ending NumberedRefusal → List ℤ → List ℕ
+dispatcher_line (Ok ending) words = kernel_line ending words
+dispatcher_line (Err refusal) words = refused_line refusal.number refusal.place
 
 -- "A wrong argument, an unreadable file, too long an input give one clear line."
 abbrev pub usage_line : List ℕ

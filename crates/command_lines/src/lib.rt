@@ -8,10 +8,9 @@ ghost use Rattle.text_numbers.specs.Writer.{Put};
 ghost use Rattle.text_report.specs.Lines.{spaced, line_room};
 ghost use Rattle.command_lines.specs.Lines.{verdict_line, ended_line, run_line, dispatcher_line, usage_line, wrong_budget_line, long_text_line, long_store_line, unreadable_text_line, unreadable_store_line, malformed_line};
 
-use program_dispatcher::DispatcherVerdict;
 use text_report::field::{put_bytes, put_count, put_ending_name, put_words};
 use text_report::line::{kernel_line, refused_line};
-use words::{Ending, RunVerdict, Verdict};
+use words::{Ending, Refusal, RunAnswer};
 
 // The count, the words and the newline at the end of a line.
 fn put_counted(count: u32, words: &[i32], text: &mut [u8]) -> usize
@@ -33,38 +32,35 @@ fn ended_line(ending: Ending, count: u32, words: &[i32], text: &mut [u8]) -> usi
 }
 
 // The line of a check.
-pub fn verdict_line(verdict: Verdict, text: &mut [u8]) -> usize
+pub fn verdict_line(verdict: Result<(), Refusal>, text: &mut [u8]) -> usize
     requires { line_room 0 ≤ length text.old }
     ensures { Put (verdict_line verdict) text.old result text.new }
 {
     match verdict {
-        Verdict::Accepted => put_bytes(b"ok\n", text),
-        Verdict::Refused(refusal) => refused_line(refusal, text),
+        Ok(()) => put_bytes(b"ok\n", text),
+        Err(refusal) => refused_line(refusal, text),
     }
 }
 
 // The line of a run, which left this store.
-pub fn run_line(verdict: RunVerdict, store: &[i32], text: &mut [u8]) -> usize
+pub fn run_line(verdict: Result<RunAnswer, Refusal>, store: &[i32], text: &mut [u8]) -> usize
     requires { line_room (length store.now) ≤ length text.old }
     ensures { Put (run_line verdict store.now) text.old result text.new }
 {
     match verdict {
-        RunVerdict::Ran(answer) => {
-            let ending = answer.ending;
-            ended_line(ending, answer.count, store, text)
-        }
-        RunVerdict::Refused(refusal) => refused_line(refusal, text),
+        Ok(answer) => ended_line(answer.ending, answer.count, store, text),
+        Err(refusal) => refused_line(refusal, text),
     }
 }
 
 // The line of a dispatcher's run, which left these words.
-pub fn dispatcher_line(verdict: DispatcherVerdict, words: &[i32], text: &mut [u8]) -> usize
+pub fn dispatcher_line(verdict: Result<Ending, Refusal>, words: &[i32], text: &mut [u8]) -> usize
     requires { line_room (length words.now) ≤ length text.old }
     ensures { Put (dispatcher_line verdict words.now) text.old result text.new }
 {
     match verdict {
-        DispatcherVerdict::Shown(ending) => kernel_line(ending, words, text),
-        DispatcherVerdict::Refused(refusal) => refused_line(refusal, text),
+        Ok(ending) => kernel_line(ending, words, text),
+        Err(refusal) => refused_line(refusal, text),
     }
 }
 

@@ -1,12 +1,12 @@
 -- Changes: the lines that a preview prints.
-use Rattle.std.specs.Prelude.{List, [], ◌∷◌, ◌++◌, ℕ, zero, suc, ◌+◌, ◌*◌, ◌≤◌, ℤ, pos, length, get_or}
+use Rattle.std.specs.Prelude.{List, [], ◌∷◌, ◌++◌, ℕ, zero, suc, ◌+◌, ◌*◌, ◌≤◌, ℤ, pos, length, get_or, Err, Ok, Result}
+use Rattle.words.specs.Refusals.{NumberedRefusal}
+use Rattle.program_previews.specs.declared.PreviewAnswer.{PreviewAnswer}
 use Rattle.words.specs.Word.{same_word, pick}
 use Rattle.words.specs.Answers.{ending_name}
 use Rattle.words.specs.declared.Ending.{Ending}
 use Rattle.text_numbers.specs.Number.{digits, number_bytes}
 use Rattle.text_report.specs.Lines.{line_of, refused_line}
-use Rattle.program_previews.specs.declared.PreviewVerdict.{PreviewVerdict}
-use Rattle.program_previews.specs.declared.PreviewVerdict.TheVariants.{Previewed, Refused}
 
 -- Ending, count, and how many words would differ.
 unfoldable pub told_line : Ending → ℕ → ℕ → List ℕ
@@ -29,11 +29,11 @@ change_lines zero store left = []
 change_lines (suc n) store left = change_lines n store left ++ change_at n (get_or store n (pos 0)) (get_or left n (pos 0))
 
 -- A preview prints its first line, then those of the first words, as many as it compares, that would differ, one a line; or its refusal.
-unfoldable pub preview_lines : PreviewVerdict → (size : ℕ) (store left : List ℤ) → List ℕ
-preview_lines (Previewed preview) size store left = told_line preview.ending preview.count preview.differing ++ change_lines size store left
-preview_lines (Refused refusal) size store left = refused_line refusal.number refusal.place
+unfoldable pub preview_lines : Result PreviewAnswer NumberedRefusal → (size : ℕ) (store left : List ℤ) → List ℕ
+preview_lines (Ok preview) size store left = told_line preview.ending preview.count preview.differing ++ change_lines size store left
+preview_lines (Err refusal) size store left = refused_line refusal.number refusal.place
 
 -- There is room for the lines, and words to compare.
-abbrev pub Showable : PreviewVerdict → (size : ℕ) (store left : List ℤ) → (room : ℕ) → Type 0
-Showable (Previewed preview) size store left room = (size ≤ length store) × (size ≤ length left) × (41 + 46 * size ≤ room)
-Showable (Refused refusal) size store left room = 48 ≤ room
+abbrev pub Showable : Result PreviewAnswer NumberedRefusal → (size : ℕ) (store left : List ℤ) → (room : ℕ) → Type 0
+Showable (Ok preview) size store left room = (size ≤ length store) × (size ≤ length left) × (41 + 46 * size ≤ room)
+Showable (Err refusal) size store left room = 48 ≤ room

@@ -3,14 +3,13 @@
 
 ghost use Rattle.std.specs.Prelude.{◌≤◌, ◌*◌, length};
 ghost use Rattle.text_numbers.specs.Writer.{Put};
-ghost use Rattle.program_previews.specs.declared.PreviewVerdict.TheVariants.{Previewed};
 ghost use Rattle.command_preview_lines.specs.Changes.{told_line, change_line, change_at, change_lines, preview_lines, Showable};
 
-use program_previews::{PreviewAnswer, PreviewVerdict};
+use program_previews::PreviewAnswer;
 use text_numbers::digits::put_digits;
 use text_report::field::{put_count, put_ending_name, put_word};
 use text_report::line::refused_line;
-use words::Ending;
+use words::{Ending, Refusal};
 
 // The first line.
 fn told_line(ending: Ending, count: u32, differing: usize, text: &mut [u8]) -> usize
@@ -60,10 +59,8 @@ fn change_lines(size: usize, store: &[i32], left: &[i32], text: &mut [u8]) -> us
     ensures upper_bound { result ≤ 46 * size }
 {
     let mut at: usize = 0;
-    let mut i: usize = 0;
-    while i < size {
+    for i in 0..size {
         at += change_at(i, store[i], left[i], &mut text[at..]);
-        i += 1;
     }
     at
 }
@@ -75,17 +72,16 @@ fn told_lines(
     left: &[i32],
     text: &mut [u8],
 ) -> usize
-    requires { Showable (Previewed preview) size store.now left.now (length text.old) }
-    ensures { Put (preview_lines (Previewed preview) size store.now left.now) text.old result text.new }
+    requires { Showable (Ok preview) size store.now left.now (length text.old) }
+    ensures { Put (preview_lines (Ok preview) size store.now left.now) text.old result text.new }
 {
-    let ending = preview.ending;
-    let told = told_line(ending, preview.count, preview.differing, text);
+    let told = told_line(preview.ending, preview.count, preview.differing, text);
     told + change_lines(size, store, left, &mut text[told..])
 }
 
 // The lines of a preview, of which this store would become the words at the start of `left`; the first `size` words are compared.
 pub fn preview_lines(
-    verdict: PreviewVerdict,
+    verdict: Result<PreviewAnswer, Refusal>,
     size: usize,
     store: &[i32],
     left: &[i32],
@@ -95,7 +91,7 @@ pub fn preview_lines(
     ensures { Put (preview_lines verdict size store.now left.now) text.old result text.new }
 {
     match verdict {
-        PreviewVerdict::Previewed(preview) => told_lines(preview, size, store, left, text),
-        PreviewVerdict::Refused(refusal) => refused_line(refusal, text),
+        Ok(preview) => told_lines(preview, size, store, left, text),
+        Err(refusal) => refused_line(refusal, text),
     }
 }

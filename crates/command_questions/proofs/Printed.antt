@@ -1,8 +1,8 @@
 -- What the printer wrote into a page of so much room, or refused, is what is printed.
+use Rattle.std.specs.Prelude.{Err, Ok, Result, None}
 use mathlib.Core.Path.{◌≡◌, refl, sym, ap, subst, ◌∙◌}
 use mathlib.Core.Bool.{Bool, true, false}
 use mathlib.Core.List.{List, [], ◌∷◌}
-use mathlib.Core.Option.{none}
 use Prim.Native.Nat.{ℕ, ◌-◌, ◌≤◌}
 use native.Mathlib.Omega.{arith}
 use lib.Dec.{leb}
@@ -14,13 +14,10 @@ use Rattle.words.specs.Word.{pick}
 use Rattle.words.specs.Over.{over}
 use Rattle.words.specs.Laws.{by_cases}
 use Rattle.words.specs.declared.Form.TheVariants.{Kernel}
-use Rattle.words.specs.declared.Refusal.{Refusal}
-use Rattle.words.specs.declared.Verdict.{Verdict}
-use Rattle.words.specs.declared.Verdict.TheVariants.{Accepted, Refused as Turned}
+use Rattle.words.specs.Refusals.{NumberedRefusal}
 use Rattle.text_form.specs.Answers.{finished, refused, cause_unless, WriteResult, write_bytes, Writes}
 use Rattle.text_form.proofs.AnswerLaws.{refused-finished}
 use Rattle.text_numbers.specs.Writer.{Put}
-use Rattle.text_form.specs.declared.WriteAnswer.TheVariants.{Written, Refused}
 use Rattle.text_report.specs.Lines.{refused_line}
 use Rattle.page.specs.Tables.{table_page}
 use Rattle.page_printer.specs.Pages.{print_accepted}
@@ -45,50 +42,50 @@ module _ (header rows : List ℤ) (page : List ℕ) (whole : length page ≡ out
       let same : size ≡ length bytes = cc in
       record { put = record { size = same; written = w }; room = omega (arith, leb-true (length bytes) output_room e, whole) }
 
-  written-if : (fits : Bool) → leb (length bytes) output_room ≡ fits → {size : ℕ} {left : List ℕ} → Writes (write_bytes (cause_unless fits 10 none) bytes page) (Written size) left
+  written-if : (fits : Bool) → leb (length bytes) output_room ≡ fits → {size : ℕ} {left : List ℕ} → Writes (write_bytes (cause_unless fits 10 None) bytes page) (Ok size) left
       → Filled (pick fits bytes (refused_line 10 0)) page size left
   unfolding write_bytes cause_unless
   written-if true e w = whole-page e w.outcome w.text_left
   written-if false e w = refused-finished (sym w.outcome)
 
-  refused-if : (fits : Bool) {refusal : Refusal} {left : List ℕ} → Writes (write_bytes (cause_unless fits 10 none) bytes page) (Refused refusal) left
+  refused-if : (fits : Bool) {refusal : NumberedRefusal} {left : List ℕ} → Writes (write_bytes (cause_unless fits 10 None) bytes page) (Err refusal) left
       → refused_line refusal.number refusal.place ≡ pick fits bytes (refused_line 10 0)
   unfolding write_bytes cause_unless
   refused-if true w = refused-finished w.outcome
   refused-if false w = refused-line w.outcome
 
-  printed-by : (verdict : Verdict) {size : ℕ} {left : List ℕ} → Writes (print_after verdict header rows page) (Written size) left → Filled (verdict_page verdict header rows) page size left
+  printed-by : (verdict : Result (Unit {0}) NumberedRefusal) {size : ℕ} {left : List ℕ} → Writes (print_after verdict header rows page) (Ok size) left → Filled (verdict_page verdict header rows) page size left
   unfolding print_accepted
-  printed-by Accepted w = written-if (leb (length bytes) output_room) refl (rw whole at w)
-  printed-by (Turned refusal) w = refused-finished (sym w.outcome)
+  printed-by (Ok tt) w = written-if (leb (length bytes) output_room) refl (rw whole at w)
+  printed-by (Err refusal) w = refused-finished (sym w.outcome)
 
-  refused-by : (verdict : Verdict) {refusal : Refusal} {left : List ℕ} → Writes (print_after verdict header rows page) (Refused refusal) left
+  refused-by : (verdict : Result (Unit {0}) NumberedRefusal) {refusal : NumberedRefusal} {left : List ℕ} → Writes (print_after verdict header rows page) (Err refusal) left
       → refused_line refusal.number refusal.place ≡ verdict_page verdict header rows
   unfolding print_accepted
-  refused-by Accepted w = refused-if (leb (length bytes) output_room) (rw whole at w)
-  refused-by (Turned other) w = refused-line w.outcome
+  refused-by (Ok tt) w = refused-if (leb (length bytes) output_room) (rw whole at w)
+  refused-by (Err other) w = refused-line w.outcome
 
-  left-if : (fits : Bool) {refusal : Refusal} {left : List ℕ} → Writes (write_bytes (cause_unless fits 10 none) bytes page) (Refused refusal) left → left ≡ page
+  left-if : (fits : Bool) {refusal : NumberedRefusal} {left : List ℕ} → Writes (write_bytes (cause_unless fits 10 None) bytes page) (Err refusal) left → left ≡ page
   unfolding write_bytes cause_unless
   left-if true w = refused-finished w.outcome
   left-if false w = w.text_left
 
-  left-by : (verdict : Verdict) {refusal : Refusal} {left : List ℕ} → Writes (print_after verdict header rows page) (Refused refusal) left → left ≡ page
+  left-by : (verdict : Result (Unit {0}) NumberedRefusal) {refusal : NumberedRefusal} {left : List ℕ} → Writes (print_after verdict header rows page) (Err refusal) left → left ≡ page
   unfolding print_accepted
-  left-by Accepted w = left-if (leb (length bytes) (length page)) w
-  left-by (Turned other) w = w.text_left
+  left-by (Ok tt) w = left-if (leb (length bytes) (length page)) w
+  left-by (Err other) w = w.text_left
 
-  pub printed : {size : ℕ} {left : List ℕ} → Writes (print_result header rows page) (Written size) left → Filled (kernel_page header rows) page size left
+  pub printed : {size : ℕ} {left : List ℕ} → Writes (print_result header rows page) (Ok size) left → Filled (kernel_page header rows) page size left
   unfolding print_result
   printed w = printed-by (refusal_of Kernel header rows) w
 
-  pub refused-page : {refusal : Refusal} {left : List ℕ} → Writes (print_result header rows page) (Refused refusal) left
+  pub refused-page : {refusal : NumberedRefusal} {left : List ℕ} → Writes (print_result header rows page) (Err refusal) left
       → refused_line refusal.number refusal.place ≡ kernel_page header rows
   unfolding print_result
   refused-page w = refused-by (refusal_of Kernel header rows) w
 
   -- a refusal changes no byte
-  pub refused-leaves : {refusal : Refusal} {left : List ℕ} → Writes (print_result header rows page) (Refused refusal) left → left ≡ page
+  pub refused-leaves : {refusal : NumberedRefusal} {left : List ℕ} → Writes (print_result header rows page) (Err refusal) left → left ≡ page
   unfolding print_result
   refused-leaves w = left-by (refusal_of Kernel header rows) w
 

@@ -1,8 +1,7 @@
 -- Joins: what `join` prints.
-use Rattle.std.specs.Prelude.{List, ℕ, ℤ}
+use Rattle.std.specs.Prelude.{List, ℕ, ℤ, Err, Ok, Result}
+use Rattle.words.specs.Refusals.{NumberedRefusal}
 use Rattle.words.specs.declared.Form.TheVariants.{Source}
-use Rattle.words.specs.declared.Verdict.{Verdict}
-use Rattle.words.specs.declared.Verdict.TheVariants.{Accepted, Refused}
 use Rattle.text_form.specs.Text.{text_bytes}
 use Rattle.text_report.specs.Lines.{refused_line}
 use Rattle.join.specs.Join.{joined_rows, join_refusal}
@@ -10,9 +9,9 @@ use Rattle.program_runs.specs.Runs.{refusal_of}
 use Rattle.command_text.specs.Texts.{text_output}
 
 -- The first's own causes come before all that follows.
-abbrev pub after_check : Verdict → List ℕ → List ℕ
-after_check (Refused refusal) rest = refused_line refusal.number refusal.place
-after_check Accepted rest = rest
+abbrev pub after_check : Result (Unit {0}) NumberedRefusal → List ℕ → List ℕ
+after_check (Err refusal) rest = refused_line refusal.number refusal.place
+after_check (Ok tt) rest = rest
 
 -- The joined rows under the header of both programs, or the refusal. The table has 2,048 rows, so that 10 does not arise.
 abbrev pub join_text : (header rows secondHeader secondRows : List ℤ) → List ℕ

@@ -1,8 +1,7 @@
 -- Writes: what `writes` prints.
-use Rattle.std.specs.Prelude.{Bool, List, ℕ, ℤ}
+use Rattle.std.specs.Prelude.{Bool, List, ℕ, ℤ, Err, Ok, Result}
+use Rattle.words.specs.Refusals.{NumberedRefusal}
 use Rattle.words.specs.declared.Form.TheVariants.{Source}
-use Rattle.words.specs.declared.Verdict.{Verdict}
-use Rattle.words.specs.declared.Verdict.TheVariants.{Accepted, Refused}
 use Rattle.text_report.specs.Lines.{refused_line}
 use Rattle.language_programs.specs.Program.{source_size, resolved_rows}
 use Rattle.write_sets_programs.specs.ProgramWrites.{variables_written, declared_written, program_writes_array}
@@ -18,9 +17,9 @@ can_write S rows Variables = variables_written S rows
 can_write S rows Arrays = program_writes_array rows
 can_write S rows Declared = declared_written S rows
 
-abbrev pub verdict_writes : Verdict → (header rows : List ℤ) → List ℕ
-verdict_writes (Refused refusal) header rows = refused_line refusal.number refusal.place
-verdict_writes Accepted header rows = written_lines (can_write (source_size header) (resolved_rows Source header rows))
+abbrev pub verdict_writes : Result (Unit {0}) NumberedRefusal → (header rows : List ℤ) → List ℕ
+verdict_writes (Err refusal) header rows = refused_line refusal.number refusal.place
+verdict_writes (Ok tt) header rows = written_lines (can_write (source_size header) (resolved_rows Source header rows))
 
 abbrev pub writes_lines : (header rows : List ℤ) → List ℕ
 writes_lines header rows = verdict_writes (refusal_of Source header rows) header rows

@@ -11,10 +11,8 @@ ghost use Rattle.command_questions.specs.Joins.{after_check, join_text, second_o
 use clight::joins::join;
 use clight::runs::check;
 use command_text::put_program;
-use joiner::JoinAnswer;
-use text_form::ReadAnswer;
 use text_report::line::refused_line;
-use words::{Form, Refusal, Verdict};
+use words::{Form, Refusal};
 
 // Joins two programs in the lent table, and writes the text of the joined rows, under their header.
 fn put_join(
@@ -31,8 +29,8 @@ fn put_join(
 {
     let answer = join(header, rows, second_header, second_rows, table);
     match answer {
-        JoinAnswer::Refused(refusal) => refused_line(refusal, out),
-        JoinAnswer::Joined(words) => put_program(header, &table[0..words], out),
+        Err(refusal) => refused_line(refusal, out),
+        Ok(words) => put_program(header, &table[0..words], out),
     }
 }
 
@@ -58,8 +56,8 @@ fn put_refused(header: &[i32], rows: &[i32], refusal: Refusal, out: &mut [u8]) -
 {
     let verdict = check(header, rows);
     match verdict {
-        Verdict::Accepted => refused_line(refusal, out),
-        Verdict::Refused(found) => refused_line(found, out),
+        Ok(()) => refused_line(refusal, out),
+        Err(found) => refused_line(found, out),
     }
 }
 
@@ -72,8 +70,8 @@ fn join_second(header: &[i32], rows: &[i32], text: &[u8], out: &mut [u8]) -> usi
     let mut second_rows = [0i32; 12288];
     let answer = text_form::read(Form::Source, text, &mut second_header, &mut second_rows);
     match answer {
-        ReadAnswer::Refused(refusal) => put_refused(header, rows, refusal, out),
-        ReadAnswer::Read(numbers, words) => put_join_text(
+        Err(refusal) => put_refused(header, rows, refusal, out),
+        Ok((numbers, words)) => put_join_text(
             header,
             rows,
             &second_header[0..numbers],
@@ -92,9 +90,7 @@ pub fn join_answer(text: &[u8], second: &[u8], out: &mut [u8]) -> usize
     let mut rows = [0i32; 12288];
     let answer = text_form::read(Form::Source, text, &mut header, &mut rows);
     match answer {
-        ReadAnswer::Refused(refusal) => refused_line(refusal, out),
-        ReadAnswer::Read(numbers, words) => {
-            join_second(&header[0..numbers], &rows[0..words], second, out)
-        }
+        Err(refusal) => refused_line(refusal, out),
+        Ok((numbers, words)) => { join_second(&header[0..numbers], &rows[0..words], second, out) }
     }
 }

@@ -18,13 +18,12 @@ use command_lines::verdict_line;
 use command_request::request::Question;
 use command_text::read_program;
 use command_written_lines::put_lines;
-use text_form::ReadAnswer;
 use text_report::line::refused_line;
-use words::{Form, Verdict};
-use write_sets_entry::{WritesVerdict, writes_of};
+use words::{Form, Refusal};
+use write_sets_entry::writes_of;
 use write_sets_programs::Writes;
 
-fn check_form(form: Form, header: &[i32], rows: &[i32]) -> Verdict
+fn check_form(form: Form, header: &[i32], rows: &[i32]) -> Result<(), Refusal>
     ensures { result ≡ refusal_of form header.now rows.now }
 {
     match form {
@@ -55,8 +54,8 @@ fn put_writes(header: &[i32], rows: &[i32], out: &mut [u8]) -> usize
 {
     let verdict = writes_of(header, rows);
     match verdict {
-        WritesVerdict::Written(writes) => put_sets(writes, out),
-        WritesVerdict::Refused(refusal) => refused_line(refusal, out),
+        Ok(writes) => put_sets(writes, out),
+        Err(refusal) => refused_line(refusal, out),
     }
 }
 
@@ -66,7 +65,7 @@ fn read_question(
     text: &[u8],
     header: &mut [i32],
     rows: &mut [i32],
-) -> ReadAnswer
+) -> Result<(usize, usize), Refusal>
     requires { Roomy (question_form question) header.old rows.old }
     ensures { ReadFor (question_text question text.now) (question_form question) result header.new rows.new }
 {
@@ -107,8 +106,8 @@ pub fn question_answer(
 {
     let answer = read_question(question, text, header, rows);
     match answer {
-        ReadAnswer::Refused(refusal) => refused_line(refusal, out),
-        ReadAnswer::Read(numbers, words) => {
+        Err(refusal) => refused_line(refusal, out),
+        Ok((numbers, words)) => {
             put_question(question, &header[0..numbers], &rows[0..words], out)
         }
     }

@@ -11,9 +11,7 @@ use clight::pages::print_kernel;
 use clight::translate::translate;
 use command_request::request::Sheet;
 use command_text::{output_room, put_program, read_program};
-use text_form::{ReadAnswer, WriteAnswer};
 use text_report::line::refused_line;
-use translator::TranslateAnswer;
 use words::Form;
 
 // Prints a kernel program. The page has the room that every output has.
@@ -24,8 +22,8 @@ pub fn put_page(header: &[i32], rows: &[i32], out: &mut [u8]) -> usize
     let room = output_room();
     let answer = print_kernel(header, rows, &mut out[0..room]);
     match answer {
-        WriteAnswer::Written(size) => size,
-        WriteAnswer::Refused(refusal) => refused_line(refusal, out),
+        Ok(size) => size,
+        Err(refusal) => refused_line(refusal, out),
     }
 }
 
@@ -56,8 +54,8 @@ fn put_translation(
 {
     let answer = translate(header, rows, kernel_header, kernel_rows);
     match answer {
-        TranslateAnswer::Refused(refusal) => refused_line(refusal, out),
-        TranslateAnswer::Translated(numbers, words) => put_sheet(
+        Err(refusal) => refused_line(refusal, out),
+        Ok((numbers, words)) => put_sheet(
             sheet,
             &kernel_header[0..numbers],
             &kernel_rows[0..words],
@@ -82,8 +80,8 @@ pub fn translation_answer(
     let mut rows = [0i32; 12288];
     let answer = read_program(Form::Source, text, &mut header, &mut rows);
     match answer {
-        ReadAnswer::Refused(refusal) => refused_line(refusal, out),
-        ReadAnswer::Read(numbers, words) => put_translation(
+        Err(refusal) => refused_line(refusal, out),
+        Ok((numbers, words)) => put_translation(
             sheet,
             &header[0..numbers],
             &rows[0..words],

@@ -1,8 +1,6 @@
 -- Requests: what the arguments ask for.
-use Rattle.std.specs.Prelude.{◌≡◌, Bool, true, false, ◌&&◌, List, [], ◌∷◌, ℕ, leb, eqb}
-use Rattle.std.proofs.Math.Option.{Option, none, some}
+use Rattle.std.specs.Prelude.{Bool, true, false, ◌&&◌, List, ℕ, leb, eqb, bytes_eq, None, Option, Some}
 use Rattle.words.specs.Word.{pick}
-use Rattle.words.specs.declared.Form.{Form}
 use Rattle.words.specs.declared.Form.TheVariants.{Source, Kernel}
 use Rattle.text_numbers.specs.Number.{natural_of}
 use Rattle.text_numbers.specs.Reader.{at_most}
@@ -16,42 +14,32 @@ use Rattle.command_request.specs.declared.request.Verb.TheVariants as verb-cases
 use Rattle.command_request.specs.declared.request.Request.{Request}
 use Rattle.command_request.specs.declared.request.Request.TheVariants.{Ask, Translate, Start, Join, WrongArguments, WrongBudget}
 
-unfoldable pub same_bytes : List ℕ → List ℕ → Bool
-same_bytes [] [] = true
-same_bytes [] (second ∷ seconds) = false
-same_bytes (first ∷ firsts) [] = false
-same_bytes (first ∷ firsts) (second ∷ seconds) = eqb first second && same_bytes firsts seconds
-
 -- The first argument says what to do with a source text, with a kernel text, or with the text of a flat list.
 unfoldable pub verb_of : List ℕ → Verb
 verb_of name =
-    pick (same_bytes name (ascii "check")) (verb-cases.Ask (question-cases.Check Source))
-    (pick (same_bytes name (ascii "run")) (verb-cases.Start (Run Source))
-    (pick (same_bytes name (ascii "preview")) (verb-cases.Start Preview)
-    (pick (same_bytes name (ascii "translate")) (verb-cases.Translate sheet-cases.Text)
-    (pick (same_bytes name (ascii "translate-page")) (verb-cases.Translate sheet-cases.Page)
-    (pick (same_bytes name (ascii "writes")) (verb-cases.Ask question-cases.Writes)
-    (pick (same_bytes name (ascii "join")) verb-cases.Join
-    (pick (same_bytes name (ascii "kernel-check")) (verb-cases.Ask (question-cases.Check Kernel))
-    (pick (same_bytes name (ascii "kernel-run")) (verb-cases.Start (Run Kernel))
-    (pick (same_bytes name (ascii "dispatcher-run")) (verb-cases.Start DispatcherRun)
-    (pick (same_bytes name (ascii "page")) (verb-cases.Ask question-cases.Page)
-    (pick (same_bytes name (ascii "flatten")) (verb-cases.Ask question-cases.Flatten)
-    (pick (same_bytes name (ascii "flat-check")) (verb-cases.Ask question-cases.FlatCheck)
-    (pick (same_bytes name (ascii "flat-run")) (verb-cases.Start FlatRun)
+    pick (bytes_eq name (ascii "check")) (verb-cases.Ask (question-cases.Check Source))
+    (pick (bytes_eq name (ascii "run")) (verb-cases.Start (Run Source))
+    (pick (bytes_eq name (ascii "preview")) (verb-cases.Start Preview)
+    (pick (bytes_eq name (ascii "translate")) (verb-cases.Translate sheet-cases.Text)
+    (pick (bytes_eq name (ascii "translate-page")) (verb-cases.Translate sheet-cases.Page)
+    (pick (bytes_eq name (ascii "writes")) (verb-cases.Ask question-cases.Writes)
+    (pick (bytes_eq name (ascii "join")) verb-cases.Join
+    (pick (bytes_eq name (ascii "kernel-check")) (verb-cases.Ask (question-cases.Check Kernel))
+    (pick (bytes_eq name (ascii "kernel-run")) (verb-cases.Start (Run Kernel))
+    (pick (bytes_eq name (ascii "dispatcher-run")) (verb-cases.Start DispatcherRun)
+    (pick (bytes_eq name (ascii "page")) (verb-cases.Ask question-cases.Page)
+    (pick (bytes_eq name (ascii "flatten")) (verb-cases.Ask question-cases.Flatten)
+    (pick (bytes_eq name (ascii "flat-check")) (verb-cases.Ask question-cases.FlatCheck)
+    (pick (bytes_eq name (ascii "flat-run")) (verb-cases.Start FlatRun)
     verb-cases.Unknown)))))))))))))
-
--- One name tried: its verb, or that of the others.
-pub record Tried (name known : List ℕ) (verb others found : Verb) : Type 0 where
-  pub is : found ≡ pick (same_bytes name known) verb others
 
 -- "The budget is any unsigned 32-bit number": decimal digits, no sign, no leading zero.
 unfoldable pub budget_of : List ℕ → Option ℕ
 budget_of bytes = at_most 4294967295 (natural_of bytes)
 
 unfoldable pub start_request : Task → Option ℕ → (stored : Bool) → Request
-start_request task none stored = WrongBudget
-start_request task (some budget) stored = Start task budget stored
+start_request task None stored = WrongBudget
+start_request task (Some budget) stored = Start task budget stored
 
 -- What starts from a store has a budget and, where it is not to start from zeros, a store file; a join has a file with the second text; the
 -- others have no further argument. `count` is the number of arguments.

@@ -5,7 +5,7 @@ pub mod request; // request.rt: what the arguments ask for
 pub mod store_file; // store_file.rt: the words of a store file
 
 // What came of reading standard input, or the file that is named: nothing was to be read, or so many bytes were, or none could be.
-#[derive(Clone, Copy)]
+#[derive(Clone, Copy, PartialEq, Eq)]
 pub enum Input {
     Absent,
     Bytes(usize),

@@ -17,14 +17,19 @@ use clight::runs;
 use command_flat::{put_list_run, read_list};
 use command_lines::{dispatcher_line, malformed_line, run_line};
 use command_request::request::Task;
-use command_request::store_file::{StoreRead, read_words};
+use command_request::store_file::read_words;
 use command_text::read_program;
-use text_form::ReadAnswer;
 use text_report::line::refused_line;
 use words::layout::{header_store, store_size, store_words};
-use words::{Form, RunVerdict};
+use words::{Form, Refusal, RunAnswer};
 
-fn run_form(form: Form, header: &[i32], rows: &[i32], store: &mut [i32], budget: u32) -> RunVerdict
+fn run_form(
+    form: Form,
+    header: &[i32],
+    rows: &[i32],
+    store: &mut [i32],
+    budget: u32,
+) -> Result<RunAnswer, Refusal>
     ensures { answer_and_store result store.new ≡ run_result form header.now rows.now budget store.old }
 {
     match form {
@@ -65,7 +70,12 @@ fn put_dispatcher_run(
 }
 
 // Reads the text that a task is about.
-fn read_task(task: Task, text: &[u8], header: &mut [i32], rows: &mut [i32]) -> ReadAnswer
+fn read_task(
+    task: Task,
+    text: &[u8],
+    header: &mut [i32],
+    rows: &mut [i32],
+) -> Result<(usize, usize), Refusal>
     requires { Roomy (form_of task) header.old rows.old }
     ensures { ReadFor (task_text task text.now) (form_of task) result header.new rows.new }
 {
@@ -130,8 +140,8 @@ fn start_text(
 {
     let answer = read_task(task, text, header, rows);
     match answer {
-        ReadAnswer::Refused(refusal) => refused_line(refusal, out),
-        ReadAnswer::Read(numbers, words) => put_task(
+        Err(refusal) => refused_line(refusal, out),
+        Ok((numbers, words)) => put_task(
             task,
             &header[0..numbers],
             &rows[0..words],
@@ -169,8 +179,8 @@ fn start_zeros(
 {
     let answer = read_task(task, text, header, rows);
     match answer {
-        ReadAnswer::Refused(refusal) => refused_line(refusal, out),
-        ReadAnswer::Read(numbers, words) => {
+        Err(refusal) => refused_line(refusal, out),
+        Ok((numbers, words)) => {
             put_zeros_task(task, &header[0..numbers], &rows[0..words], budget, out)
         }
     }
@@ -194,16 +204,8 @@ fn start_stored(
     let mut store = [0i32; 98688];
     let read = read_words(stored, &mut store);
     match read {
-        StoreRead::Malformed(number) => malformed_line(number, out),
-        StoreRead::Words(count) => start_text(
-            task,
-            budget,
-            text,
-            &mut store[0..count],
-            header,
-            rows,
-            out,
-        ),
+        Err(number) => malformed_line(number, out),
+        Ok(count) => start_text(task, budget, text, &mut store[0..count], header, rows, out),
     }
 }
 

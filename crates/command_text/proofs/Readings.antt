@@ -1,12 +1,12 @@
 -- What is printed for a text that the reader refused or read, into tables as long as a legal program needs.
+use Rattle.std.specs.Prelude.{Err, Ok, Result, None, Option, Some}
 use mathlib.Core.Path.{◌≡◌, refl, sym}
 use mathlib.Core.Bool.{true}
 use mathlib.Core.List.{List, [], ◌∷◌}
-use mathlib.Core.Option.{Option, none, some}
-use Prim.Native.Nat.{ℕ, ◌-◌, ◌≤◌}
+use Prim.Native.Nat.{ℕ, ◌≤◌}
 use native.Mathlib.Omega.{arith}
 use lib.IntN.{ℤ}
-use lib.ListN.{length, take}
+use lib.ListN.{length}
 use borrow.Author.Tests.{le-leb}
 use Rattle.words.specs.Layout.{header_fits, count_fits, store_words}
 use Rattle.words.specs.Over.{over}
@@ -15,11 +15,9 @@ use Rattle.words.specs.OverLaws.{length_over, written-part}
 use Rattle.words.specs.StoreLaws.{declarations-few, kernel-store, source-small, kernel-small}
 use Rattle.words.specs.declared.Form.{Form}
 use Rattle.words.specs.declared.Form.TheVariants.{Source, Kernel}
-use Rattle.words.specs.declared.Refusal.{Refusal}
-use Rattle.text_form.specs.declared.ReadAnswer.{ReadAnswer}
-use Rattle.text_form.specs.declared.ReadAnswer.TheVariants.{Read, Refused}
+use Rattle.words.specs.Refusals.{NumberedRefusal}
 use Rattle.text_form.specs.Text.{Parsed, parsed, malformed, Program, parse}
-use Rattle.text_form.specs.Answers.{TextOutcome, finished, refused, cause_of, tables_hold, ReadResult, read_outcome, read_refused, read_program, read_parsed, read_result, Reads}
+use Rattle.text_form.specs.Answers.{finished, refused, cause_of, tables_hold, read_refused, read_program, read_parsed, read_result, Reads}
 use Rattle.text_form.proofs.AnswerLaws.{cause-none, refused-finished}
 use Rattle.text_form.proofs.Shapes.{cause-some}
 use Rattle.text_report.specs.Lines.{refused_line}
@@ -40,7 +38,7 @@ refused-line {number} {place} {cause} {line} e = let n : number ≡ cause = cc i
 
 module _ {form : Form} {program : Program} {header rows : List ℤ} (t : Taken form program header rows) where
   words-read : (numbers words : ℕ) (headerLeft rows_left : List ℤ) → finished (numbers ∷ words ∷ []) ≡ finished (length program.header ∷ length program.rows ∷ [])
-      → headerLeft ≡ over program.header header → rows_left ≡ over program.rows rows → ReadText (program_output none program) form headerLeft rows_left numbers words
+      → headerLeft ≡ over program.header header → rows_left ≡ over program.rows rows → ReadText (program_output None program) form headerLeft rows_left numbers words
   unfolding program_output
   words-read numbers words headerLeft rows_left e h g =
       let n : numbers ≡ length program.header = cc in
@@ -56,20 +54,20 @@ module _ {form : Form} {program : Program} {header rows : List ℤ} (t : Taken f
       }
 
 module _ {form : Form} {program : Program} {header rows : List ℤ} where
-  pub read-by : (cause : Option ℕ) → (cause ≡ none → Taken form program header rows) → (answer : ReadAnswer) {headerLeft rows_left : List ℤ}
+  pub read-by : (cause : Option ℕ) → (cause ≡ None → Taken form program header rows) → (answer : Result (ℕ × ℕ) NumberedRefusal) {headerLeft rows_left : List ℤ}
       → Reads (read_program cause program header rows) answer headerLeft rows_left → ReadFor (program_output cause program) form answer headerLeft rows_left
   unfolding read_program read_refused program_output
-  read-by (some number) t (Refused refusal) s = λ output. refused-line s.outcome
-  read-by (some number) t (Read numbers words) s = refused-finished (sym s.outcome)
-  read-by none t (Refused refusal) s = λ output. refused-finished s.outcome
-  read-by none t (Read numbers words) s = words-read (t refl) numbers words _ _ s.outcome s.header_left s.rows-left
+  read-by (Some number) t (Err refusal) s = λ output. refused-line s.outcome
+  read-by (Some number) t (Ok (numbers, words)) s = refused-finished (sym s.outcome)
+  read-by None t (Err refusal) s = λ output. refused-finished s.outcome
+  read-by None t (Ok (numbers, words)) s = words-read (t refl) numbers words _ _ s.outcome s.header_left s.rows-left
 
 -- a malformed text
-pub malformed-by : (form : Form) (line : ℕ) (header rows : List ℤ) (answer : ReadAnswer) {headerLeft rows_left : List ℤ} → Reads (read_refused 14 line header rows) answer headerLeft rows_left
+pub malformed-by : (form : Form) (line : ℕ) (header rows : List ℤ) (answer : Result (ℕ × ℕ) NumberedRefusal) {headerLeft rows_left : List ℤ} → Reads (read_refused 14 line header rows) answer headerLeft rows_left
     → ReadFor (λ output. refused_line 14 line) form answer headerLeft rows_left
 unfolding read_refused
-malformed-by form line header rows (Refused refusal) s = λ output. refused-line s.outcome
-malformed-by form line header rows (Read numbers words) s = refused-finished (sym s.outcome)
+malformed-by form line header rows (Err refusal) s = λ output. refused-line s.outcome
+malformed-by form line header rows (Ok (numbers, words)) s = refused-finished (sym s.outcome)
 
 -- ---- a program of a form
 
@@ -82,7 +80,7 @@ small_store Source program h c =
 small_store Kernel program h c = omega (arith, kernel-store program.header program.rows, kernel-small program.header h)
 
 module _ (form : Form) (program : Program) {header rows : List ℤ} (r : Roomy form header rows) where
-  takes : cause_of form program.header (length program.rows) true ≡ none → Taken form program header rows
+  takes : cause_of form program.header (length program.rows) true ≡ None → Taken form program header rows
   takes e =
       let p = cause-none form program.header (length program.rows) true e in
       record {
@@ -95,28 +93,28 @@ module _ (form : Form) (program : Program) {header rows : List ℤ} (r : Roomy f
   -- cause 10 does not arise
   room-enough : (cause : Option ℕ) → cause_of form program.header (length program.rows) true ≡ cause
       → cause_of form program.header (length program.rows) (tables_hold program header rows) ≡ cause
-  room-enough (some number) e = cause-some form program.header (length program.rows) number _ e
-  room-enough none e =
+  room-enough (Some number) e = cause-some form program.header (length program.rows) number _ e
+  room-enough None e =
       let t = takes e in
       rw (le-leb (length program.header) (length header) t.header_room, le-leb (length program.rows) (length rows) t.rows_room) e
 
 module _ (form : Form) (text : List ℕ) {header rows : List ℤ} (r : Roomy form header rows) where
-  read-parsed : (read : Parsed Program) (answer : ReadAnswer) {headerLeft rows_left : List ℤ} → Reads (read_parsed form read header rows) answer headerLeft rows_left
+  read-parsed : (read : Parsed Program) (answer : Result (ℕ × ℕ) NumberedRefusal) {headerLeft rows_left : List ℤ} → Reads (read_parsed form read header rows) answer headerLeft rows_left
       → ReadFor (parsed_output form read) form answer headerLeft rows_left
   unfolding read_parsed parsed_output
   read-parsed (malformed line) answer s = malformed-by form line header rows answer s
   read-parsed (parsed program) answer s = read-by _ (takes form program r) answer (rw (room-enough form program r _ refl) at s)
 
-  pub read-for : (answer : ReadAnswer) (headerLeft rows_left : List ℤ) → Reads (read_result form text header rows) answer headerLeft rows_left
+  pub read-for : (answer : Result (ℕ × ℕ) NumberedRefusal) (headerLeft rows_left : List ℤ) → Reads (read_result form text header rows) answer headerLeft rows_left
       → ReadFor (text_output form text) form answer headerLeft rows_left
   unfolding read_result text_output
   read-for answer headerLeft rows_left s = read-parsed (parse form text) answer s
 
   -- the line of a refusal
-  pub refused-text : (refusal : Refusal) (headerLeft rows_left : List ℤ) → Reads (read_result form text header rows) (Refused refusal) headerLeft rows_left
+  pub refused-text : (refusal : NumberedRefusal) (headerLeft rows_left : List ℤ) → Reads (read_result form text header rows) (Err refusal) headerLeft rows_left
       → (output : List ℤ → List ℤ → List ℕ) → refused_line refusal.number refusal.place ≡ text_output form text output
-  refused-text refusal headerLeft rows_left s = read-for (Refused refusal) headerLeft rows_left s
+  refused-text refusal headerLeft rows_left s = read-for (Err refusal) headerLeft rows_left s
 
-  pub read-text : {numbers words : ℕ} {headerLeft rows_left : List ℤ} → Reads (read_result form text header rows) (Read numbers words) headerLeft rows_left
+  pub read-text : {numbers words : ℕ} {headerLeft rows_left : List ℤ} → Reads (read_result form text header rows) (Ok (numbers, words)) headerLeft rows_left
       → ReadText (text_output form text) form headerLeft rows_left numbers words
-  read-text {numbers} {words} {headerLeft} {rows_left} s = read-for (Read numbers words) headerLeft rows_left s
+  read-text {numbers} {words} {headerLeft} {rows_left} s = read-for (Ok (numbers, words)) headerLeft rows_left s

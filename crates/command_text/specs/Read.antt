@@ -1,9 +1,8 @@
 -- Read: what came of reading a text into the lent tables, by what is then printed for it.
-use Rattle.std.specs.Prelude.{◌≡◌, true, List, ℕ, ◌-◌, ◌≤◌, ℤ, length, take}
+use Rattle.std.specs.Prelude.{◌≡◌, true, List, ℕ, ◌-◌, ◌≤◌, ℤ, length, take, Err, Ok, Result}
+use Rattle.words.specs.Refusals.{NumberedRefusal}
 use Rattle.words.specs.Layout.{header_fits, store_words}
 use Rattle.words.specs.declared.Form.{Form}
-use Rattle.text_form.specs.declared.ReadAnswer.{ReadAnswer}
-use Rattle.text_form.specs.declared.ReadAnswer.TheVariants.{Read, Refused}
 use Rattle.text_report.specs.Lines.{refused_line}
 use Rattle.command_text.specs.Texts.{most_store}
 
@@ -17,6 +16,6 @@ pub record ReadText (printed : (List ℤ → List ℤ → List ℕ) → List ℕ
   pub is : (output : List ℤ → List ℤ → List ℕ) → output (take (numbers - 0) headerLeft) (take (words - 0) rows_left) ≡ printed output
 
 -- Or its refusal is what is printed.
-abbrev pub ReadFor : (printed : (List ℤ → List ℤ → List ℕ) → List ℕ) → Form → ReadAnswer → (headerLeft rows_left : List ℤ) → Type 0
-ReadFor printed form (Read numbers words) headerLeft rows_left = ReadText printed form headerLeft rows_left numbers words
-ReadFor printed form (Refused refusal) headerLeft rows_left = (output : List ℤ → List ℤ → List ℕ) → refused_line refusal.number refusal.place ≡ printed output
+abbrev pub ReadFor : (printed : (List ℤ → List ℤ → List ℕ) → List ℕ) → Form → Result (ℕ × ℕ) NumberedRefusal → (headerLeft rows_left : List ℤ) → Type 0
+ReadFor printed form (Ok (numbers, words)) headerLeft rows_left = ReadText printed form headerLeft rows_left numbers words
+ReadFor printed form (Err refusal) headerLeft rows_left = (output : List ℤ → List ℤ → List ℕ) → refused_line refusal.number refusal.place ≡ printed output

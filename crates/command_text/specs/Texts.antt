@@ -1,6 +1,5 @@
 -- Texts: what is printed for a text, in tables and a buffer of these sizes.
-use Rattle.std.specs.Prelude.{◌≡◌, true, List, ℕ, ◌+◌, ◌*◌, ◌≤◌, ◌<◌, ℤ, length}
-use Rattle.std.proofs.Math.Option.{Option, none, some}
+use Rattle.std.specs.Prelude.{◌≡◌, true, List, ℕ, ◌+◌, ◌*◌, ◌≤◌, ◌<◌, ℤ, length, None, Option, Some}
 use Rattle.words.specs.Layout.{leading, row_limit}
 use Rattle.words.specs.declared.Form.{Form}
 use Rattle.text_form.specs.Text.{Parsed, parsed, malformed, Program, parse}
@@ -48,8 +47,8 @@ pub record Printable (header rows : List ℤ) : Type 0 where
 -- ---- a text
 
 unfoldable pub program_output : Option ℕ → Program → (List ℤ → List ℤ → List ℕ) → List ℕ
-program_output (some number) program output = refused_line number 0
-program_output none program output = output program.header program.rows
+program_output (Some number) program output = refused_line number 0
+program_output None program output = output program.header program.rows
 
 unfoldable pub parsed_output : Form → Parsed Program → (List ℤ → List ℤ → List ℕ) → List ℕ
 parsed_output form (malformed line) output = refused_line 14 line

@@ -7,10 +7,9 @@ ghost use Rattle.text_numbers.specs.Writer.{Put};
 ghost use Rattle.command_text.specs.Texts.{Roomy, output_room, Tabled, Printable, text_output};
 ghost use Rattle.command_text.specs.Read.{ReadFor};
 
-use text_form::ReadAnswer;
 use text_form::writer::put_text;
 use text_lines::writer::size_of;
-use words::Form;
+use words::{Form, Refusal};
 
 // Bytes that every output has room in.
 pub fn output_room() -> usize
@@ -20,7 +19,12 @@ pub fn output_room() -> usize
 }
 
 // Reads a program into tables as long as a legal one needs.
-pub fn read_program(form: Form, text: &[u8], header: &mut [i32], rows: &mut [i32]) -> ReadAnswer
+pub fn read_program(
+    form: Form,
+    text: &[u8],
+    header: &mut [i32],
+    rows: &mut [i32],
+) -> Result<(usize, usize), Refusal>
     requires { Roomy form header.old rows.old }
     ensures { ReadFor (text_output form text.now) form result header.new rows.new }
 {

@@ -10,11 +10,11 @@ ghost use Rattle.text_report.specs.Lines.{blank};
 ghost use Rattle.command_written_lines.specs.Lines.{numbers, name_of, bits_of, is_in, written_line, written_lines, writes_room};
 
 use text_report::field::{put_bytes, put_count};
+use write_sets::WriteSet;
 use write_sets::arrays::has_array;
-use write_sets::{WriteSet, has_declared, has_variable};
 
 // What a line is about.
-#[derive(Clone, Copy)]
+#[derive(Clone, Copy, PartialEq, Eq)]
 pub enum PlaceSort {
     Variables,
     Arrays,
@@ -50,9 +50,9 @@ fn is_in(set: WriteSet, arrays: u32, sort: PlaceSort, i: usize) -> bool
     ensures { result ≡ is_in set arrays sort i }
 {
     match sort {
-        PlaceSort::Variables => has_variable(set, i),
+        PlaceSort::Variables => set.has_variable(i),
         PlaceSort::Arrays => has_array(arrays, i),
-        PlaceSort::Declared => has_declared(set, i),
+        PlaceSort::Declared => set.has_declared(i),
     }
 }
 
@@ -61,12 +61,9 @@ fn put_numbers(set: WriteSet, arrays: u32, sort: PlaceSort, text: &mut [u8]) -> 
     ensures put { Put (numbers (bits_of sort) (is_in set arrays sort)) text.old result text.new }
     ensures upper_bound { result ≤ 21 * bits_of sort }
 {
-    let bits = bits_of(sort);
     let mut at: usize = 0;
-    let mut i: usize = 0;
-    while i < bits {
+    for i in 0..bits_of(sort) {
         at += put_if(is_in(set, arrays, sort, i), i, &mut text[at..]);
-        i += 1;
     }
     at
 }

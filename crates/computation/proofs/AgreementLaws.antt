@@ -1,6 +1,6 @@
 -- Laws of agreement: computations that do not tell apart two states that agree. A rule for each constructor; for every limit, so that runs that
 -- are cut off are covered too.
-use Rattle.std.specs.Prelude.{◌≡◌, refl, Bool, true, false, List, [], ◌∷◌, ℕ, zero, suc, ℤ, pos, length, set}
+use Rattle.std.specs.Prelude.{◌≡◌, refl, Bool, true, false, List, [], ◌∷◌, ℕ, zero, suc, ℤ, pos, length, set, Err, Ok, Result as Outcome}
 use Rattle.std.proofs.Math.Path.{sym}
 use Rattle.std.proofs.Common.{◌∙◌, ap, arith}
 use Rattle.std.proofs.Math.ListN.{get_or, length-set}
@@ -8,7 +8,6 @@ use Rattle.std.proofs.Math.Seq.{get_or-set_other}
 use Rattle.std.proofs.Math.Decide.{ℕ_discrete}
 use Rattle.words.specs.Word.{pick}
 use Rattle.words.specs.declared.FaultSort.{FaultSort}
-use Rattle.arithmetic.specs.Arithmetic.{Outcome, value, fault as faulty}
 use Rattle.computation.specs.Computation.{Turn, again, leave, Computation, ret, ◌>>=◌, step, load, save, fail, loop, settle}
 use Rattle.computation.specs.Run.{State, stepped, Stop, spent, Result, ok, stopped, Limit, steps, rounds, and_then, has_room, run_step, rounds_from, iterate, run}
 use Rattle.computation.specs.Agreement.{Words, ◌within◌, Agree}
@@ -118,7 +117,7 @@ module _ (Visible : Words) where
   blind-again m f k b = record { same = λ l σ τ g. rw (← then-then (run l m σ) (λ a. run l (f a)) (λ c. run l (k c)), ← then-then (run l m τ) (λ a. run l (f a)) (λ c. run l (k c))) (b.same l σ τ g) }
 
   -- An outcome: with its value, or a fault that stops the run.
-  pub blind-settle : {A B : Type 0} {P : Words} {R : B → Words} (o : Outcome A) (k : A → Computation B) → Visible within P → ((a : A) → o ≡ value a → Blind P R (k a)) → Blind P R (settle o >>= k)
+  pub blind-settle : {A B : Type 0} {P : Words} {R : B → Words} (o : Outcome A FaultSort) (k : A → Computation B) → Visible within P → ((a : A) → o ≡ Ok a → Blind P R (k a)) → Blind P R (settle o >>= k)
   unfolding run
-  blind-settle (value a) k v h = record { same = λ l σ τ g. (h a refl).same l σ τ g }
-  blind-settle (faulty sort) k v h = record { same = λ l σ τ g. same-stopped (agree-fewer v g) }
+  blind-settle (Ok a) k v h = record { same = λ l σ τ g. (h a refl).same l σ τ g }
+  blind-settle (Err sort) k v h = record { same = λ l σ τ g. same-stopped (agree-fewer v g) }

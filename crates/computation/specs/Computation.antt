@@ -1,7 +1,6 @@
 -- Computations: the effects of document 01 and their sequence, and nothing else.
-use Rattle.std.specs.Prelude.{ℕ, ℤ}
+use Rattle.std.specs.Prelude.{ℕ, ℤ, Err, Ok, Result}
 use Rattle.words.specs.declared.FaultSort.{FaultSort}
-use Rattle.arithmetic.specs.Arithmetic.{Outcome, value, fault}
 
 -- What a round of a loop says.
 pub data Turn (A : Type 0) : Type 0 where
@@ -25,6 +24,6 @@ abbrev pub ◌>>◌ : {A B : Type 0} → Computation A → Computation B → Com
 m >> n = m >>= λ _. n
 
 -- An operation's value; its fault stops the run.
-abbrev pub settle : {A : Type 0} → Outcome A → Computation A
-settle (value a) = ret a
-settle (fault sort) = fail sort
+abbrev pub settle : {A : Type 0} → Result A FaultSort → Computation A
+settle (Ok a) = ret a
+settle (Err sort) = fail sort

@@ -14,6 +14,7 @@ pub fn fill<R: Read>(input: &mut R, buffer: &mut [u8]) -> io::Result<usize>
     ensures { IfOk result (λ n. n ≤ length buffer.new) }
 {
     let mut filled: usize = 0;
+    // A while: the step is as many bytes as the system gave.
     while filled < buffer.len() {
         let bytes = input.read(&mut buffer[filled..])?;
         if bytes == 0 {
@@ -45,10 +46,7 @@ pub fn open<R: Files>(rt: &R, path: &[u8]) -> io::Result<R::File> {
 pub fn argument<R: Env>(rt: &R, number: usize, buffer: &mut [u8]) -> usize
     ensures { result ≤ length buffer.new }
 {
-    match rt.arg(number, buffer) {
-        Ok(bytes) => bytes,
-        Err(_) => 0,
-    }
+    rt.arg(number, buffer).unwrap_or(0)
 }
 
 // How many arguments there are, the program's name among them.

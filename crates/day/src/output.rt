@@ -16,11 +16,10 @@ ghost use Rattle.day.specs.Output.{plan_output, day_output};
 
 use accepted_rows::resolve_accepted;
 use day_form::input::rule_size;
-use day_form::plan::{PlanAnswer, read_plan};
+use day_form::plan::read_plan;
 use day_form::setting::Setting;
 use day_values::values::put_values;
 use text_report::line::refused_line;
-use text_rules::RuleAnswer;
 use text_rules::rule::read_rule;
 use words::table::natural;
 
@@ -54,14 +53,8 @@ fn put_plan(header: &[i32], rows: &[i32], input: &[u8], size: usize, output: &mu
     let variables = natural(header[0]);
     let answer = read_plan(variables, input, size);
     match answer {
-        PlanAnswer::Planned(setting, at) => put_resolved(
-            header,
-            rows,
-            setting,
-            &input[at..],
-            output,
-        ),
-        PlanAnswer::Refused(refusal) => refused_line(refusal, output),
+        Ok((setting, at)) => put_resolved(header, rows, setting, &input[at..], output),
+        Err(refusal) => refused_line(refusal, output),
     }
 }
 
@@ -75,13 +68,13 @@ pub fn day(input: &[u8], output: &mut [u8]) -> usize
     let mut rows = [0i32; 768];
     let answer = read_rule(&input[0..size], &mut header, &mut rows);
     match answer {
-        RuleAnswer::Accepted(header_words, row_words) => put_plan(
+        Ok((header_words, row_words)) => put_plan(
             &header[0..header_words],
             &rows[0..row_words],
             input,
             size,
             output,
         ),
-        RuleAnswer::Refused(refusal) => refused_line(refusal, output),
+        Err(refusal) => refused_line(refusal, output),
     }
 }

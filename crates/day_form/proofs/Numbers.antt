@@ -1,7 +1,7 @@
 -- The numbers of a line: how many were read, and that they stand at the start of the table.
+use Rattle.std.specs.Prelude.{None, Option, Some}
 use mathlib.Core.Path.{◌≡◌, refl, sym, ap, ◌∙◌}
 use mathlib.Core.List.{List, [], ◌∷◌}
-use mathlib.Core.Option.{Option, none, some}
 use Prim.Native.Nat.{ℕ, ◌+◌, ◌-◌, ◌≤◌, ◌<◌}
 use native.Mathlib.Omega.{arith}
 use lib.IntN.{ℤ}
@@ -24,7 +24,7 @@ pub words-unended : (line : List ℕ) → line_words (unended line) ≡ []
 unfolding line_words line_numbers
 words-unended line = ap numbers_in (keep-none is_few)
 
-words-malformed : (line : List ℕ) → numbers_of (fields_of line) ≡ none → line_words (ended line) ≡ []
+words-malformed : (line : List ℕ) → numbers_of (fields_of line) ≡ None → line_words (ended line) ≡ []
 unfolding line_words line_numbers
 words-malformed line e = rw e (ap numbers_in (keep-none is_few))
 
@@ -32,7 +32,7 @@ words-malformed line e = rw e (ap numbers_in (keep-none is_few))
 none_read : (line : TextLine) (table : List ℤ) → line_words line ≡ [] → WordsRead line 0 table table
 none_read line table e = record { size = sym (ap length e); few = omega arith; written = over_none table ∙ ap (λ (l : List ℤ). over l table) (sym e) }
 
-pub malformed-read : (line : List ℕ) (table : List ℤ) → numbers_of (fields_of line) ≡ none → WordsRead (ended line) 0 table table
+pub malformed-read : (line : List ℕ) (table : List ℤ) → numbers_of (fields_of line) ≡ None → WordsRead (ended line) 0 table table
 malformed-read line table e = none_read (ended line) table (words-malformed line e)
 
 module _ (line : List ℕ) {count : ℕ} (s : Sized (numbers_of (fields_of line)) count) where

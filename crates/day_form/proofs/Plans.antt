@@ -1,8 +1,8 @@
 -- The setting and the day lines: the first ground on which they are turned away, or that there is none.
+use Rattle.std.specs.Prelude.{Err, None, Ok, Option, Result, Some}
 use mathlib.Core.Path.{◌≡◌, refl, sym, ap, ◌∙◌}
 use mathlib.Core.Bool.{true, false}
 use mathlib.Core.List.{List, [], ◌∷◌}
-use mathlib.Core.Option.{none, some}
 use Prim.Native.Nat.{ℕ, zero, suc, ◌+◌, ◌-◌, ◌≤◌, ◌<◌}
 use native.Mathlib.Omega.{arith}
 use lib.Dec.{ltb}
@@ -13,11 +13,7 @@ use borrow.Author.Tests.{lt-ltb, le-ltb, ltb-false}
 use Rattle.words.specs.Laws.{by_cases}
 use Rattle.words.specs.OverLaws.{first_of, rest_of}
 use Rattle.words.specs.SearchLaws.{not_found}
-use Rattle.words.specs.declared.Found.{Found}
-use Rattle.words.specs.declared.Found.TheVariants.{At, Nothing}
-use Rattle.words.specs.declared.Refusal.{Refusal}
-use Rattle.words.specs.declared.Verdict.{Verdict}
-use Rattle.words.specs.declared.Verdict.TheVariants.{Accepted, Refused}
+use Rattle.words.specs.Refusals.{NumberedRefusal}
 use Rattle.text_lines.specs.Line.{TextLine, lines_of}
 use Rattle.day_form.specs.Input.{rule_size, first_number, lines_behind, Behind}
 use Rattle.day_form.specs.Lines.{most_days, line_words, turns_away, first_line, NextRead}
@@ -39,7 +35,7 @@ late_turned last number numbers e =
     (λ t. ltb-false _ _ t)
 
 -- where none is turned away, none is past the last
-few-lines : (last number : ℕ) (lines : List TextLine) → number ≤ last + 1 → first_line (Pairs last) number lines ≡ Nothing → number + length lines ≤ last + 1
+few-lines : (last number : ℕ) (lines : List TextLine) → number ≤ last + 1 → first_line (Pairs last) number lines ≡ None → number + length lines ≤ last + 1
 unfolding first_line
 few-lines last number [] h e = omega arith
 few-lines last number (line ∷ lines) h e =
@@ -47,12 +43,22 @@ few-lines last number (line ∷ lines) h e =
     (λ t. not_found number (sym (rw t) ∙ e))
     (λ t. let inside = late_turned last number (line_words line) t in let rest = few-lines last (number + 1) lines (omega arith) (rw t at e) in omega arith)
 
-none-turned : (number : ℕ) (found : Found) (others : Verdict) → Accepted ≡ refused_at number found others → found ≡ Nothing
-none-turned number (At line) others e = absurd (let z : ◌≡◌ {A = ℕ} 0 1 = cc in omega arith)
-none-turned number Nothing others e = refl
+none-turned : (number : ℕ) (found : Option ℕ) (others : Result (Unit {0}) NumberedRefusal) → (Ok tt) ≡ refused_at number found others → found ≡ None
+none-turned number (Some line) others e = absurd (let z : ◌≡◌ {A = ℕ} 0 1 = cc in omega arith)
+none-turned number None others e = refl
+
+-- as `?` goes: a line that is turned away ends the chain, and else the rest decides
+pub handed-on : (number : ℕ) (found by : Option ℕ) (others : Result (Unit {0}) NumberedRefusal) (refusal : NumberedRefusal)
+    → ◌≡◌ {A = Result (Unit {0}) NumberedRefusal} (Err refusal) (refused_at number found (Ok tt)) → found ≡ by → ◌≡◌ {A = Result (Unit {0}) NumberedRefusal} (Err refusal) (refused_at number by others)
+handed-on number (Some line) by others refusal e f = rw (← f) e
+handed-on number None by others refusal e f = absurd (let z : ◌≡◌ {A = ℕ} 0 1 = cc in omega arith)
+
+pub passed-on : (number : ℕ) (found by : Option ℕ) (others : Result (Unit {0}) NumberedRefusal)
+    → ◌≡◌ {A = Result (Unit {0}) NumberedRefusal} (Ok tt) (refused_at number found (Ok tt)) → found ≡ by → refused_at number by others ≡ others
+passed-on number found by others e f = rw (← f, none-turned number found (Ok tt) e)
 
 module _ (variables first variable : ℕ) (days : List TextLine) where
-  pub setting-outside : variables ≤ variable → At first ≡ outside_line variables first variable days
+  pub setting-outside : variables ≤ variable → Some first ≡ outside_line variables first variable days
   unfolding outside_line
   setting-outside h = rw (le-ltb _ _ h)
 
@@ -60,21 +66,7 @@ module _ (variables first variable : ℕ) (days : List TextLine) where
   unfolding outside_line
   setting-inside h = rw (lt-ltb _ _ h)
 
-  module _ (line : ℕ) where
-    pub malformed-at : At line ≡ first_line (Pairs (first + most_days)) (first + 1) days → Refused (record { number = 21; place = line }) ≡ days_verdict variables first variable days
-    unfolding days_verdict
-    malformed-at e = rw (← e)
-
-    pub outside-at : Nothing ≡ first_line (Pairs (first + most_days)) (first + 1) days → At line ≡ outside_line variables first variable days
-        → Refused (record { number = 22; place = line }) ≡ days_verdict variables first variable days
-    unfolding days_verdict
-    outside-at e o = rw (← e, ← o)
-
-  pub days-accepted : Nothing ≡ first_line (Pairs (first + most_days)) (first + 1) days → Nothing ≡ outside_line variables first variable days → Accepted ≡ days_verdict variables first variable days
-  unfolding days_verdict
-  days-accepted e o = rw (← e, ← o)
-
-  few_days : Accepted ≡ days_verdict variables first variable days → length days ≤ most_days
+  few_days : (Ok tt) ≡ days_verdict variables first variable days → length days ≤ most_days
   unfolding days_verdict
   few_days e = let few = few-lines (first + most_days) (first + 1) days (omega arith) (none-turned 21 _ _ e) in omega arith
 
@@ -89,11 +81,11 @@ module _ (variables first : ℕ) {text : List ℕ} {next : NextLine} {table left
   unfolding lines_plan
   by-setting = rw (r.is-first, ← is)
 
-  pub setting-malformed : none ≡ setting_of lent → lines_plan variables first (lines_of text) ≡ refused 21 first
+  pub setting-malformed : None ≡ setting_of lent → lines_plan variables first (lines_of text) ≡ refused 21 first
   unfolding setting_plan
   setting-malformed e = by-setting ∙ rw (← e)
 
-  module _ (setting : Setting) (e : some setting ≡ setting_of lent) where
+  module _ (setting : Setting) (e : Some setting ≡ setting_of lent) where
     by-verdict : lines_plan variables first (lines_of text)
         ≡ checked_plan (days_verdict variables first setting.variable (lines_of (drop next.at text))) setting (lines_of (drop next.at text))
     unfolding setting_plan
@@ -102,16 +94,16 @@ module _ (variables first : ℕ) {text : List ℕ} {next : NextLine} {table left
     rest : lines_of (take (length text - next.at) (drop next.at text)) ≡ lines_of (drop next.at text)
     rest = ap lines_of (rest_of text next.at)
 
-    pub days-refused : (cause : Refusal) → Refused cause ≡ days_verdict variables first setting.variable (lines_of (take (length text - next.at) (drop next.at text)))
+    pub days-refused : (cause : NumberedRefusal) → Err cause ≡ days_verdict variables first setting.variable (lines_of (take (length text - next.at) (drop next.at text)))
         → lines_plan variables first (lines_of text) ≡ refused cause.number cause.place
     unfolding checked_plan
     days-refused cause v = by-verdict ∙ rw (← rest, ← v)
 
-    pub days-planned : Accepted ≡ days_verdict variables first setting.variable (lines_of (take (length text - next.at) (drop next.at text)))
+    pub days-planned : (Ok tt) ≡ days_verdict variables first setting.variable (lines_of (take (length text - next.at) (drop next.at text)))
         → IsPlanned (lines_plan variables first (lines_of text)) setting next.at text
     unfolding checked_plan
     days-planned v =
-        let verdict : Accepted ≡ days_verdict variables first setting.variable (lines_of (drop next.at text)) = v ∙ ap (days_verdict variables first setting.variable) rest in
+        let verdict : (Ok tt) ≡ days_verdict variables first setting.variable (lines_of (drop next.at text)) = v ∙ ap (days_verdict variables first setting.variable) rest in
         record {
           is = by-verdict ∙ rw (← verdict);
           inside = r.inside;

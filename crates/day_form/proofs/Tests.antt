@@ -1,4 +1,5 @@
 -- The walk over the variable numbers of pairs, and the walk over the lines that are tested.
+use Rattle.std.specs.Prelude.{None, Some}
 use mathlib.Core.Path.{◌≡◌, refl, sym, ap, ◌∙◌}
 use mathlib.Core.Bool.{Bool, true, false, not, ◌&&◌}
 use mathlib.Core.List.{List, [], ◌∷◌}
@@ -12,7 +13,6 @@ use lib.Seq.{drop-cons}
 use borrow.Author.Tests.{lt-ltb, le-ltb}
 use Rattle.words.specs.Word.{natural}
 use Rattle.words.specs.OverLaws.{written-part}
-use Rattle.words.specs.declared.Found.TheVariants.{At, Nothing}
 use Rattle.text_lines.specs.Line.{TextLine, lines_of}
 use Rattle.text_lines.specs.LineLaws.{lines_none}
 use Rattle.day_form.specs.Lines.{line_words, are_pairs, all_named, turns_away, first_line, WordsRead, NextRead}
@@ -65,16 +65,16 @@ pub record Tried (test : LineTest) (text : List ℕ) (first at number : ℕ) : T
 pub tried-start : (test : LineTest) (text : List ℕ) (first : ℕ) → Tried test text first 0 first
 tried-start test text first = record { inside = omega arith; fewer = omega arith; same = refl }
 
-first-none : (test : LineTest) (number : ℕ) → first_line test number [] ≡ Nothing
+first-none : (test : LineTest) (number : ℕ) → first_line test number [] ≡ None
 unfolding first_line
 first-none test number = refl
 
 module _ {test : LineTest} {text : List ℕ} {first at number : ℕ} (t : Tried test text first at number) where
-  pub tried-end : length text ≤ at → Nothing ≡ first_line test first (lines_of text)
+  pub tried-end : length text ≤ at → None ≡ first_line test first (lines_of text)
   tried-end h = sym (t.same ∙ ap (first_line test number) (lines_none (drop at text) (ap length (drop_of_length-le text {i = at} h))) ∙ first-none test number)
 
   module _ {next : NextLine} {table left : List ℤ} (r : NextRead text at next table left) (lent : List ℤ) (is : lent ≡ line_words r.line) where
-    here : turns_away test number lent ≡ true → first_line test number (r.line ∷ lines_of (drop next.at text)) ≡ At number
+    here : turns_away test number lent ≡ true → first_line test number (r.line ∷ lines_of (drop next.at text)) ≡ Some number
     unfolding first_line
     here e = rw (← is, e)
 
@@ -82,7 +82,7 @@ module _ {test : LineTest} {text : List ℕ} {first at number : ℕ} (t : Tried 
     unfolding first_line
     behind e = rw (← is, e)
 
-    pub tried_here : turns_away test number lent ≡ true → At number ≡ first_line test first (lines_of text)
+    pub tried_here : turns_away test number lent ≡ true → Some number ≡ first_line test first (lines_of text)
     tried_here e = sym (t.same ∙ ap (first_line test number) r.is-first ∙ here e)
 
     pub tried-next : turns_away test number lent ≡ false → Tried test text first next.at (number + 1)
@@ -103,15 +103,9 @@ module _ (last number : ℕ) (numbers : List ℤ) where
   unfolding turns_away
   too-late h = rw (lt-ltb _ _ h)
 
-  pub no-pair : number ≤ last → length numbers ≡ 0 → true ≡ turns_away (Pairs last) number numbers
-  unfolding turns_away are_pairs
-  no-pair h e = rw (le-ltb _ _ h, e)
-
-  pub even-or-odd : number ≤ last → (length numbers ≡ 0 → ⊥) → not (eqb (length numbers % 2) 0) ≡ turns_away (Pairs last) number numbers
-  unfolding turns_away are_pairs
-  even-or-odd h e =
-      let some : 0 < length numbers = omega arith in
-      rw (le-ltb _ _ h, lt-ltb _ _ some)
+  pub in-time : number ≤ last → (pairs : Bool) → pairs ≡ are_pairs numbers → not pairs ≡ turns_away (Pairs last) number numbers
+  unfolding turns_away
+  in-time h pairs e = rw (le-ltb _ _ h, ← e)
 
 pub names-turned : (variables number : ℕ) (numbers : List ℤ) (r : Bool) → r ≡ all_named variables numbers → not r ≡ turns_away (Names variables) number numbers
 unfolding turns_away

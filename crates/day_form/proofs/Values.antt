@@ -1,7 +1,7 @@
 -- A setting that is read from a line has 1 to 100 values, all of them words: lowest and highest are, and the others lie between.
+use Rattle.std.specs.Prelude.{None, Option, Some}
 use mathlib.Core.Path.{◌≡◌, refl, sym, ap, ◌∙◌}
 use mathlib.Core.List.{List, [], ◌∷◌}
-use mathlib.Core.Option.{Option, none, some}
 use Prim.Native.Nat.{ℕ, zero, suc, ◌+◌, ◌-◌, ◌^◌, ◌≤◌, ◌<◌}
 use native.Mathlib.Omega.{arith}
 use lib.Dec.{ltb, eqb}
@@ -24,10 +24,10 @@ use Rattle.day_form.specs.declared.setting.Setting.{Setting}
 
 -- ---- the numbers of a line are words
 
-words-in : (read : Option (List ℤ)) → ((numbers : List ℤ) → read ≡ some numbers → Words numbers) → Words (numbers_in read)
+words-in : (read : Option (List ℤ)) → ((numbers : List ℤ) → read ≡ Some numbers → Words numbers) → Words (numbers_in read)
 unfolding Words
-words-in none fits = tt
-words-in (some numbers) fits = fits numbers refl
+words-in None fits = tt
+words-in (Some numbers) fits = fits numbers refl
 
 line-words : (line : TextLine) → Words (line_words line)
 unfolding line_words
@@ -58,14 +58,14 @@ above lowest highest (pos n) e h = record { is = sym (-ℤ-+ℤ_cancel highest l
 above lowest highest (negsuc n) e h = absurd (omega arith)
 
 module _ (variable lowest highest : ℤ) (low : mag lowest < 2 ^ 31) (high : mag highest < 2 ^ 31) where
-  sets-by : (setting : Setting) → some setting ≡ setting_by variable lowest highest → Sets setting
+  sets-by : (setting : Setting) → Some setting ≡ setting_by variable lowest highest → Sets setting
   unfolding setting_by
   sets-by setting e =
       by_cases (ltb (natural (highest -ℤ lowest)) 100)
       (λ t.
       let few = ltb-true _ _ t in
       let a = above lowest highest (highest -ℤ lowest) refl few in
-      let s : some setting ≡ some (record { variable = natural variable; lowest = lowest; values = natural (highest -ℤ lowest) + 1 }) = e ∙ rw t in
+      let s : Some setting ≡ Some (record { variable = natural variable; lowest = lowest; values = natural (highest -ℤ lowest) + 1 }) = e ∙ rw t in
       let same : setting ≡ record { variable = natural variable; lowest = lowest; values = natural (highest -ℤ lowest) + 1 } = cc in
       rw same (record {
         some_value = omega arith;
@@ -74,7 +74,7 @@ module _ (variable lowest highest : ℤ) (low : mag lowest < 2 ^ 31) (high : mag
       }))
       (λ t. not_some (sym (e ∙ rw t)))
 
-sets_of : (numbers : List ℤ) → Words numbers → (setting : Setting) → some setting ≡ setting_of numbers → Sets setting
+sets_of : (numbers : List ℤ) → Words numbers → (setting : Setting) → Some setting ≡ setting_of numbers → Sets setting
 unfolding setting_of
 sets_of numbers w setting e =
     by_cases (eqb (length numbers) 3)
@@ -83,5 +83,5 @@ sets_of numbers w setting e =
     sets-by (get_or numbers 0 (pos 0)) (get_or numbers 1 (pos 0)) (get_or numbers 2 (pos 0)) (word-at numbers w 1 (omega arith)) (word-at numbers w 2 (omega arith)) setting (e ∙ rw t))
     (λ t. not_some (sym (e ∙ rw t)))
 
-pub setting-sets : (line : TextLine) (setting : Setting) → some setting ≡ setting_of (line_words line) → Sets setting
+pub setting-sets : (line : TextLine) (setting : Setting) → Some setting ≡ setting_of (line_words line) → Sets setting
 setting-sets line setting e = sets_of (line_words line) (line-words line) setting e

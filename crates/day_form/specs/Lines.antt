@@ -1,9 +1,7 @@
 -- Lines: the numbers of a line, and the first line that a test turns away.
-use Rattle.std.specs.Prelude.{◌≡◌, Bool, true, not, ◌&&◌, ◌||◌, List, [], ◌∷◌, ℕ, ◌+◌, ◌%◌, ◌≤◌, ◌<◌, leb, ltb, eqb, ℤ, length, drop}
+use Rattle.std.specs.Prelude.{◌≡◌, Bool, true, not, ◌&&◌, ◌||◌, List, [], ◌∷◌, ℕ, ◌+◌, ◌%◌, ◌≤◌, ◌<◌, leb, ltb, eqb, ℤ, length, drop, None, Option, Some}
 use Rattle.words.specs.Word.{natural, pick}
 use Rattle.words.specs.Over.{over}
-use Rattle.words.specs.declared.Found.{Found}
-use Rattle.words.specs.declared.Found.TheVariants.{At, Nothing}
 use Rattle.text_lines.specs.Line.{TextLine, lines_of, line_numbers}
 use Rattle.text_form.specs.Text.{keep}
 use Rattle.text_lines.specs.Reader.{numbers_in}
@@ -41,9 +39,9 @@ turns_away (Pairs last) number numbers = ltb last number || not (are_pairs numbe
 turns_away (Names variables) number numbers = not (all_named variables numbers)
 
 -- The first line that is turned away, where the lines are counted from `number`.
-unfoldable pub first_line : LineTest → ℕ → List TextLine → Found
-first_line test number [] = Nothing
-first_line test number (line ∷ lines) = pick (turns_away test number (line_words line)) (At number) (first_line test (number + 1) lines)
+unfoldable pub first_line : LineTest → ℕ → List TextLine → Option ℕ
+first_line test number [] = None
+first_line test number (line ∷ lines) = pick (turns_away test number (line_words line)) (Some number) (first_line test (number + 1) lines)
 
 -- ---- what the reader of a line is lent and leaves
 

@@ -1,49 +1,43 @@
 -- Plans: the setting and the day lines behind a rule, or why they are turned away: "21 .., then 22 ..; both with their line of the whole input".
-use Rattle.std.specs.Prelude.{◌≡◌, List, [], ◌∷◌, ℕ, ◌+◌, ◌^◌, ◌≤◌, ◌<◌, ltb, ℤ, pos, ◌+ℤ◌, length, drop}
-use Rattle.std.proofs.Math.Option.{Option, none, some}
+use Rattle.std.specs.Prelude.{◌≡◌, List, [], ◌∷◌, ℕ, ◌+◌, ◌^◌, ◌≤◌, ◌<◌, ltb, ℤ, pos, ◌+ℤ◌, length, drop, Err, None, Ok, Result, Some, Option}
+use Rattle.words.specs.Refusals.{NumberedRefusal}
 use Rattle.std.specs.Int.Signed.{mag}
 use Rattle.words.specs.Word.{pick}
-use Rattle.words.specs.declared.Found.{Found}
-use Rattle.words.specs.declared.Found.TheVariants.{At, Nothing}
-use Rattle.words.specs.declared.Verdict.{Verdict}
-use Rattle.words.specs.declared.Verdict.TheVariants as verdicts
 use Rattle.text_lines.specs.Line.{TextLine, lines_of}
 use Rattle.day_form.specs.Input.{first_number, lines_behind}
 use Rattle.day_form.specs.Lines.{most_days, line_words, first_line}
 use Rattle.day_form.specs.Settings.{most_values, setting_of}
 use Rattle.day_form.specs.declared.lines.LineTest.TheVariants.{Pairs, Names}
 use Rattle.day_form.specs.declared.setting.Setting.{Setting}
-use Rattle.day_form.specs.declared.plan.PlanAnswer.{PlanAnswer}
-use Rattle.day_form.specs.declared.plan.PlanAnswer.TheVariants as answers
 
 -- A setting with its day lines, or the refusal: the number of the cause, and the line of the whole input.
 pub data Plan : Type 0 where
   planned : Setting → List TextLine → Plan
   refused : (number line : ℕ) → Plan
 
-abbrev pub refused_at : ℕ → Found → Verdict → Verdict
-refused_at number (At line) others = verdicts.Refused (record { number = number; place = line })
-refused_at number Nothing others = others
+abbrev pub refused_at : ℕ → Option ℕ → Result (Unit {0}) NumberedRefusal → Result (Unit {0}) NumberedRefusal
+refused_at number (Some line) others = Err (record { number = number; place = line })
+refused_at number None others = others
 
 -- "22 for a variable number outside 0 to V−1": the setting's, or a day line's. The setting's line has the number `first`.
-unfoldable pub outside_line : ℕ → ℕ → ℕ → List TextLine → Found
-outside_line variables first variable days = pick (ltb variable variables) (first_line (Names variables) (first + 1) days) (At first)
+unfoldable pub outside_line : ℕ → ℕ → ℕ → List TextLine → Option ℕ
+outside_line variables first variable days = pick (ltb variable variables) (first_line (Names variables) (first + 1) days) (Some first)
 
 -- "21 for a .. day line malformed, .. or a .. day line or pair too many; then 22".
-unfoldable pub days_verdict : ℕ → ℕ → ℕ → List TextLine → Verdict
+unfoldable pub days_verdict : ℕ → ℕ → ℕ → List TextLine → Result (Unit {0}) NumberedRefusal
 days_verdict variables first variable days =
     refused_at 21 (first_line (Pairs (first + most_days)) (first + 1) days)
     (refused_at 22 (outside_line variables first variable days)
-    verdicts.Accepted)
+    (Ok tt))
 
-unfoldable pub checked_plan : Verdict → Setting → List TextLine → Plan
-checked_plan (verdicts.Refused cause) setting days = refused cause.number cause.place
-checked_plan verdicts.Accepted setting days = planned setting days
+unfoldable pub checked_plan : Result (Unit {0}) NumberedRefusal → Setting → List TextLine → Plan
+checked_plan (Err cause) setting days = refused cause.number cause.place
+checked_plan (Ok tt) setting days = planned setting days
 
 -- "21 for a setting .. malformed, .. lowest above highest, or a value .. too many".
 unfoldable pub setting_plan : ℕ → ℕ → Option Setting → List TextLine → Plan
-setting_plan variables first none days = refused 21 first
-setting_plan variables first (some setting) days = checked_plan (days_verdict variables first setting.variable days) setting days
+setting_plan variables first None days = refused 21 first
+setting_plan variables first (Some setting) days = checked_plan (days_verdict variables first setting.variable days) setting days
 
 -- The setting's line and the day's, the first of which has this number; "a missing setting (the line after the last)".
 unfoldable pub lines_plan : ℕ → ℕ → List TextLine → Plan
@@ -73,6 +67,6 @@ pub record IsPlanned (plan : Plan) (setting : Setting) (at : ℕ) (text : List �
   pub sets : Sets setting
   pub few_days : length (lines_of (drop at text)) ≤ most_days
 
-abbrev pub PlanRead : Plan → PlanAnswer → List ℕ → Type 0
-PlanRead plan (answers.Planned setting at) text = IsPlanned plan setting at text
-PlanRead plan (answers.Refused cause) text = plan ≡ refused cause.number cause.place
+abbrev pub PlanRead : Plan → Result (Setting × ℕ) NumberedRefusal → List ℕ → Type 0
+PlanRead plan (Ok (setting, at)) text = IsPlanned plan setting at text
+PlanRead plan (Err cause) text = plan ≡ refused cause.number cause.place

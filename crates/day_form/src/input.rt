@@ -8,27 +8,21 @@ use text_lines::line::piece_end;
 fn is_empty_line(starts: bool, byte: u8) -> bool
     ensures { result ≡ (starts && eqb byte newline) }
 {
-    if !starts {
-        return false;
-    }
-    byte == b'\n'
+    starts && byte == b'\n'
 }
 
 // How many bytes the rule has: those before the first empty line.
 pub fn rule_size(input: &[u8]) -> usize
     ensures { result ≡ rule_size input.now }
 {
-    let mut at: usize = 0;
     let mut starts = true;
-    while at < input.len() {
-        let byte = input[at];
-        if is_empty_line(starts, byte) {
+    for (at, byte) in input.iter().enumerate() {
+        if is_empty_line(starts, *byte) {
             return at;
         }
-        starts = byte == b'\n';
-        at += 1;
+        starts = *byte == b'\n';
     }
-    at
+    input.len()
 }
 
 // Where the lines behind the empty line begin; without one, at the end.
@@ -48,6 +42,7 @@ pub fn count_lines(text: &[u8]) -> usize
 {
     let mut at: usize = 0;
     let mut count: usize = 0;
+    // Kept as a while: the step is the length of what was read.
     while at < text.len() {
         at = piece_end(text, at, b'\n') + 1;
         count += 1;

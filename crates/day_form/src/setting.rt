@@ -1,8 +1,8 @@
 // The setting: the variable that is set, and its values.
 ghost use Rattle.std.specs.Prelude.{◌≡◌};
-ghost use Rattle.day_form.specs.Settings.{setting_by, setting_of, setting_says};
+ghost use Rattle.day_form.specs.Settings.{setting_by, setting_of};
 
-use arithmetic::{Computed, subtract};
+use arithmetic::subtract;
 use words::table::natural;
 
 // The variable's number, the lowest value, and how many values there are.
@@ -13,37 +13,30 @@ pub struct Setting {
     pub values: usize,
 }
 
-#[derive(Clone, Copy)]
-pub enum SettingRead {
-    Is(Setting),
-    Malformed,
-}
-
 // The values are at most 100, and there is one. A difference that is no word is that of too many, or of none.
-fn setting_by(variable: i32, lowest: i32, highest: i32) -> SettingRead
-    ensures { setting_says result ≡ setting_by variable lowest highest }
+fn setting_by(variable: i32, lowest: i32, highest: i32) -> Option<Setting>
+    ensures { result ≡ setting_by variable lowest highest }
 {
-    let difference = subtract(highest, lowest);
-    let Computed::Value(gap) = difference else {
-        return SettingRead::Malformed;
+    let Ok(gap) = subtract(highest, lowest) else {
+        return None;
     };
     let more = natural(gap);
     if more >= 100 {
-        return SettingRead::Malformed;
+        return None;
     }
-    SettingRead::Is(Setting {
+    Some(Setting {
         variable: natural(variable),
-        lowest: lowest,
+        lowest,
         values: more + 1,
     })
 }
 
 // The setting that the numbers of a line are.
-pub fn setting_of(numbers: &[i32]) -> SettingRead
-    ensures { setting_says result ≡ setting_of numbers.now }
+pub fn setting_of(numbers: &[i32]) -> Option<Setting>
+    ensures { result ≡ setting_of numbers.now }
 {
     if numbers.len() != 3 {
-        return SettingRead::Malformed;
+        return None;
     }
     setting_by(numbers[0], numbers[1], numbers[2])
 }

@@ -25,10 +25,8 @@ pub fn store_at(at: usize, value: i32, store: &mut [i32])
 fn store_pairs(pairs: &[i32], store: &mut [i32])
     ensures { store.new ≡ store_pairs pairs.now store.old }
 {
-    let mut i: usize = 0;
-    while i + 1 < pairs.len() {
-        store_at(natural(pairs[i]), pairs[i + 1], store);
-        i += 2;
+    for i in 0..pairs.len() / 2 {
+        store_at(natural(pairs[2 * i]), pairs[2 * i + 1], store);
     }
 }
 
@@ -47,8 +45,7 @@ fn do_on_copy(
     put(store, copy);
     store_pairs(pairs, copy);
     let answer = run(Form::Source, header, rows, copy, 100000);
-    let ending = answer.ending;
-    match ending {
+    match answer.ending {
         Ending::Plain => {
             put(copy, store);
             1

@@ -20,6 +20,7 @@ pub fn do_lines(header: &[i32], rows: &[i32], text: &[u8], store: &mut [i32]) ->
     let mut at: usize = 0;
     let mut plain: usize = 0;
     let mut other: usize = 0;
+    // Kept as a while: the step is the length of what was read.
     while at < text.len() {
         let mut table = [0i32; 32];
         let next = next_line(text, at, &mut table);
@@ -29,8 +30,5 @@ pub fn do_lines(header: &[i32], rows: &[i32], text: &[u8], store: &mut [i32]) ->
         other += 1 - done;
         at = next.at;
     }
-    Tally {
-        plain: plain,
-        other: other,
-    }
+    Tally { plain, other }
 }

@@ -25,12 +25,10 @@ pub fn put_values(
     let variable = setting.variable;
     let lowest = setting.lowest;
     let values = setting.values;
-    let mut done: usize = 0;
     let mut end: usize = 0;
-    while done < values {
+    for done in 0..values {
         let value = lowest + done as i32;
         end += put_day(header, rows, variable, value, text, &mut output[end..]);
-        done += 1;
     }
     end
 }

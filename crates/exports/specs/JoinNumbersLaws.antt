@@ -1,37 +1,31 @@
 -- JoinNumbersLaws: a join whose answer has no cause was made, since every cause of a join has a number but 0.
 use Rattle.std.proofs.Math.Path.{◌≡◌, refl, ap}
 use Rattle.std.proofs.Common.{sym, ◌∙◌}
-use Rattle.std.specs.Prelude.{Bool, true, false, List, ℕ, ℤ, length}
+use Rattle.std.specs.Prelude.{Bool, true, false, List, ℕ, ℤ, length, Err, None, Ok, Option, Result, Some}
 use native.Mathlib.Omega.{arith}
 use Rattle.words.specs.declared.Form.TheVariants.{Source}
-use Rattle.words.specs.declared.Found.{Found}
-use Rattle.words.specs.declared.Found.TheVariants.{At, Nothing}
-use Rattle.words.specs.declared.Refusal.{Refusal}
-use Rattle.words.specs.declared.Verdict.{Verdict}
-use Rattle.words.specs.declared.Verdict.TheVariants.{Accepted, Refused}
+use Rattle.words.specs.Refusals.{NumberedRefusal}
 use Rattle.check_structure.specs.Refusal.{at, unless, ◌next◌}
 use Rattle.check_source.specs.Refusal.{refusal}
 use Rattle.join.specs.Join.{joined_rows, rows_refusal, own_refusal, join_refusal}
 use Rattle.joiner.specs.Joining.{JoinResult, answer_and_rows, join_after, join_result, WritesJoin}
-use Rattle.joiner.specs.declared.JoinAnswer.{JoinAnswer}
-use Rattle.joiner.specs.declared.JoinAnswer.TheVariants.{Joined, Refused as JoinRefused}
 use Rattle.exports.specs.declared.Answer.{Answer}
 use Rattle.exports.specs.Numbers.{join_answer, JoinsIfDone}
 use Rattle.exports.specs.NumbersLaws.{check-caused}
 
 -- A verdict whose refusal has a number.
-abbrev Caused : Verdict → Type 0
-Caused verdict = (refusal : Refusal) → verdict ≡ Refused refusal → refusal.number ≡ 0 → ⊥
+abbrev Caused : Result (Unit {0}) NumberedRefusal → Type 0
+Caused verdict = (refusal : NumberedRefusal) → verdict ≡ Err refusal → refusal.number ≡ 0 → ⊥
 
-next-caused : (verdict rest : Verdict) → Caused verdict → Caused rest → Caused (verdict next rest)
+next-caused : (verdict rest : Result (Unit {0}) NumberedRefusal) → Caused verdict → Caused rest → Caused (verdict next rest)
 unfolding ◌next◌
-next-caused Accepted rest here there = there
-next-caused (Refused refusal) rest here there = here
+next-caused (Ok tt) rest here there = there
+next-caused (Err refusal) rest here there = here
 
-same-number : (number place : ℕ) (r : Refusal) → Refused (record { number = number; place = place }) ≡ Refused r → number ≡ r.number
-same-number number place r e = let same : record { number = number; place = place } ≡ r = cc in ap (λ (x : Refusal). x.number) same
+same-number : (number place : ℕ) (r : NumberedRefusal) → ◌≡◌ {A = Result (Unit {0}) NumberedRefusal} (Err (record { number = number; place = place })) (Err r) → number ≡ r.number
+same-number number place r e = let same : record { number = number; place = place } ≡ r = cc in ap (λ (x : NumberedRefusal). x.number) same
 
-accepted-caused : Caused Accepted
+accepted-caused : Caused (Ok tt)
 accepted-caused r e none = let z : ◌≡◌ {A = ℕ} 0 1 = cc in omega arith
 
 unless-caused : (test : Bool) (cause : ℕ) → (cause ≡ 0 → ⊥) → Caused (unless test cause)
@@ -39,10 +33,10 @@ unfolding unless
 unless-caused true cause some = accepted-caused
 unless-caused false cause some = λ r e none. some (same-number cause 0 r e ∙ none)
 
-at-caused : (cause : ℕ) (found : Found) → (cause ≡ 0 → ⊥) → Caused (at cause found)
+at-caused : (cause : ℕ) (found : Option ℕ) → (cause ≡ 0 → ⊥) → Caused (at cause found)
 unfolding at
-at-caused cause (At row) some = λ r e none. some (same-number cause row r e ∙ none)
-at-caused cause Nothing some = accepted-caused
+at-caused cause (Some row) some = λ r e none. some (same-number cause row r e ∙ none)
+at-caused cause None some = accepted-caused
 
 module _ (header first secondHeader second out left : List ℤ) where
   caused : Caused (join_refusal header first secondHeader second (length out))
@@ -55,21 +49,21 @@ module _ (header first secondHeader second out left : List ℤ) where
       (next-caused _ _ (at-caused 9 _ (λ e. omega arith)) (at-caused 20 _ (λ e. omega arith)))))
       (unless-caused _ 10 (λ e. omega arith))))
 
-  join-caused : (r : Refusal) → answer_and_rows (JoinRefused r) left ≡ join_result header first secondHeader second out → r.number ≡ 0 → ⊥
+  join-caused : (r : NumberedRefusal) → answer_and_rows (Err r) left ≡ join_result header first secondHeader second out → r.number ≡ 0 → ⊥
   unfolding join_result
   join-caused r e none = go (join_refusal header first secondHeader second (length out)) refl e
     where
-      go : (verdict : Verdict) → join_refusal header first secondHeader second (length out) ≡ verdict → answer_and_rows (JoinRefused r) left ≡ join_after verdict (joined_rows first second) out → ⊥
-      go (Refused other) told e =
-          let answers : JoinRefused r ≡ JoinRefused other = ap (λ (j : JoinResult). j.answer) e in
+      go : (verdict : Result (Unit {0}) NumberedRefusal) → join_refusal header first secondHeader second (length out) ≡ verdict → answer_and_rows (Err r) left ≡ join_after verdict (joined_rows first second) out → ⊥
+      go (Err other) told e =
+          let answers : ◌≡◌ {A = Result ℕ NumberedRefusal} (Err r) (Err other) = ap (λ (j : JoinResult). j.answer) e in
           let same : r ≡ other = cc in
-          caused other told (ap (λ (x : Refusal). x.number) (sym same) ∙ none)
-      go Accepted told e =
-          let answers : JoinRefused r ≡ Joined (length (joined_rows first second)) = ap (λ (j : JoinResult). j.answer) e in
+          caused other told (ap (λ (x : NumberedRefusal). x.number) (sym same) ∙ none)
+      go (Ok tt) told e =
+          let answers : Err r ≡ Ok (length (joined_rows first second)) = ap (λ (j : JoinResult). j.answer) e in
           let z : ◌≡◌ {A = ℕ} 0 1 = cc in
           omega arith
 
-  pub joins-if-done : (answer : JoinAnswer) (given : Answer) → given ≡ join_answer answer → answer_and_rows answer left ≡ join_result header first secondHeader second out
+  pub joins-if-done : (answer : Result ℕ NumberedRefusal) (given : Answer) → given ≡ join_answer answer → answer_and_rows answer left ≡ join_result header first secondHeader second out
       → WritesJoin header first second answer left → JoinsIfDone header first second given left
-  joins-if-done (Joined words) given told e writes none = rw (ap (λ (a : Answer). a.first) told) writes
-  joins-if-done (JoinRefused r) given told e writes none = absurd (join-caused r e (sym (ap (λ (a : Answer). a.cause) told) ∙ none))
+  joins-if-done (Ok words) given told e writes none = rw (ap (λ (a : Answer). a.first) told) writes
+  joins-if-done (Err r) given told e writes none = absurd (join-caused r e (sym (ap (λ (a : Answer). a.cause) told) ∙ none))

@@ -5,7 +5,6 @@ ghost use Rattle.flattener.specs.Flattening.{flatten_result};
 ghost use Rattle.exports.specs.Numbers.{answer_of, ListsIfDone};
 
 use super::Answer;
-use super::answers::{of_flattening, of_run};
 
 // Writes the flat list of a kernel program. The last promise is about the words that are written.
 #[unsafe(no_mangle)]
@@ -14,7 +13,7 @@ pub extern "C" fn clight_flatten(header: &[i32], rows: &[i32], list: &mut [i32])
     ensures list_after { list.new ≡ (flatten_result header.now rows.now list.old).list }
     ensures lists_if_done { ListsIfDone header.now rows.now result list.new }
 {
-    of_flattening(clight::flat_lists::flatten(header, rows, list))
+    clight::flat_lists::flatten(header, rows, list).into()
 }
 
 // Runs a flat list on the store; the count is of lines.
@@ -28,5 +27,5 @@ pub extern "C" fn clight_flat_run(
     ensures value { result ≡ answer_of (flat_result header.now list.now budget store.old).numbers }
     ensures store_after { store.new ≡ (flat_result header.now list.now budget store.old).store }
 {
-    of_run(clight::flat_lists::flat_run(header, list, store, budget))
+    clight::flat_lists::flat_run(header, list, store, budget).into()
 }

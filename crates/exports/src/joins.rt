@@ -4,7 +4,6 @@ ghost use Rattle.joiner.specs.Joining.{join_result};
 ghost use Rattle.exports.specs.Numbers.{answer_of, JoinsIfDone};
 
 use super::Answer;
-use super::answers::of_join;
 
 // Writes the rows of a program that runs the first, then the second. The last promise is about the words that are written.
 #[unsafe(no_mangle)]
@@ -19,5 +18,5 @@ pub extern "C" fn clight_join(
     ensures out_rows_after { out_rows.new ≡ (join_result header.now rows.now second_header.now second_rows.now out_rows.old).rows }
     ensures joins_if_done { JoinsIfDone header.now rows.now second_rows.now result out_rows.new }
 {
-    of_join(clight::joins::join(header, rows, second_header, second_rows, out_rows))
+    clight::joins::join(header, rows, second_header, second_rows, out_rows).into()
 }

@@ -5,7 +5,6 @@ ghost use Rattle.translator.specs.Translation.{translate_result};
 ghost use Rattle.exports.specs.Numbers.{answer_of, WritesIfDone};
 
 use super::Answer;
-use super::answers::of_translation;
 
 // Writes the kernel header and rows of a source program. The fourth promise is demands 2 and 3 and Change 14 about the kernel form, the
 // last says them of the words that are written.
@@ -22,5 +21,5 @@ pub extern "C" fn clight_translate(
     ensures has_kernel_form { HasKernelForm header.now rows.now }
     ensures writes_if_done { WritesIfDone header.now rows.now result kernel_header.new kernel_rows.new }
 {
-    of_translation(clight::translate::translate(header, rows, kernel_header, kernel_rows))
+    clight::translate::translate(header, rows, kernel_header, kernel_rows).into()
 }

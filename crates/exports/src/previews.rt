@@ -4,7 +4,6 @@ ghost use Rattle.program_previews.specs.Previews.{preview_result};
 ghost use Rattle.exports.specs.Numbers.{preview_answer};
 
 use super::PreviewAnswer;
-use super::answers::of_preview;
 
 // Tells what a run of a source program on the store would do; the store that it would leave goes to the start of the scratch.
 #[unsafe(no_mangle)]
@@ -19,5 +18,5 @@ pub extern "C" fn clight_preview(
     ensures store_value { store.now ≡ (preview_result header.now rows.now budget store.now scratch.old).store }
     ensures scratch_after { scratch.new ≡ (preview_result header.now rows.now budget store.now scratch.old).scratch }
 {
-    of_preview(clight::previews::preview(header, rows, store, budget, scratch))
+    clight::previews::preview(header, rows, store, budget, scratch).into()
 }

@@ -7,7 +7,6 @@ ghost use Rattle.program_runs.specs.Runs.{refusal_of, run_result};
 ghost use Rattle.exports.specs.Numbers.{answer_of, verdict_answer};
 
 use super::Answer;
-use super::answers::{of_dispatcher, of_run, of_verdict};
 
 // The check of source programs. The second promise is demand 2: the legal programs alone have cause 0.
 #[unsafe(no_mangle)]
@@ -15,7 +14,7 @@ pub extern "C" fn clight_check(header: &[i32], rows: &[i32]) -> Answer
     ensures value { result ≡ verdict_answer (refusal_of Source header.now rows.now) }
     ensures no_cause_if_legal { NoCauseIfLegal Source header.now rows.now result.cause }
 {
-    of_verdict(clight::runs::check(header, rows))
+    clight::runs::check(header, rows).into()
 }
 
 // The check of kernel programs, with the same two promises.
@@ -24,7 +23,7 @@ pub extern "C" fn clight_kernel_check(header: &[i32], rows: &[i32]) -> Answer
     ensures value { result ≡ verdict_answer (refusal_of Kernel header.now rows.now) }
     ensures no_cause_if_legal { NoCauseIfLegal Kernel header.now rows.now result.cause }
 {
-    of_verdict(clight::runs::kernel_check(header, rows))
+    clight::runs::kernel_check(header, rows).into()
 }
 
 // Runs a source program on the store.
@@ -33,7 +32,7 @@ pub extern "C" fn clight_run(header: &[i32], rows: &[i32], store: &mut [i32], bu
     ensures value { result ≡ answer_of (run_result Source header.now rows.now budget store.old).numbers }
     ensures store_after { store.new ≡ (run_result Source header.now rows.now budget store.old).store }
 {
-    of_run(clight::runs::run(header, rows, store, budget))
+    clight::runs::run(header, rows, store, budget).into()
 }
 
 // Runs a kernel program on the store.
@@ -47,7 +46,7 @@ pub extern "C" fn clight_kernel_run(
     ensures value { result ≡ answer_of (run_result Kernel header.now rows.now budget store.old).numbers }
     ensures store_after { store.new ≡ (run_result Kernel header.now rows.now budget store.old).store }
 {
-    of_run(clight::runs::kernel_run(header, rows, store, budget))
+    clight::runs::kernel_run(header, rows, store, budget).into()
 }
 
 // Runs a kernel program on the S words that a dispatcher sees; the answer has no count.
@@ -61,5 +60,5 @@ pub extern "C" fn clight_dispatcher_run(
     ensures value { result ≡ answer_of (dispatcher_result header.now rows.now budget words.old).numbers }
     ensures words_after { words.new ≡ (dispatcher_result header.now rows.now budget words.old).words }
 {
-    of_dispatcher(clight::dispatcher::dispatcher_run(header, rows, words, budget))
+    clight::dispatcher::dispatcher_run(header, rows, words, budget).into()
 }

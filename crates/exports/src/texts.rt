@@ -7,7 +7,6 @@ ghost use Rattle.page_reader.specs.Reads.{page_result};
 ghost use Rattle.exports.specs.Numbers.{answer_of, outcome_answer};
 
 use super::Answer;
-use super::answers::{of_page, of_read, of_write};
 
 // Reads a source text into a header and rows.
 #[unsafe(no_mangle)]
@@ -16,7 +15,7 @@ pub extern "C" fn clight_read_source(text: &[u8], header: &mut [i32], rows: &mut
     ensures header_after { header.new ≡ (read_result Source text.now header.old rows.old).header }
     ensures rows_after { rows.new ≡ (read_result Source text.now header.old rows.old).rows }
 {
-    of_read(clight::texts::read_source(text, header, rows))
+    clight::texts::read_source(text, header, rows).into()
 }
 
 // Reads a kernel text.
@@ -26,7 +25,7 @@ pub extern "C" fn clight_read_kernel(text: &[u8], header: &mut [i32], rows: &mut
     ensures header_after { header.new ≡ (read_result Kernel text.now header.old rows.old).header }
     ensures rows_after { rows.new ≡ (read_result Kernel text.now header.old rows.old).rows }
 {
-    of_read(clight::texts::read_kernel(text, header, rows))
+    clight::texts::read_kernel(text, header, rows).into()
 }
 
 // Writes a source program as a text.
@@ -35,7 +34,7 @@ pub extern "C" fn clight_write_source(header: &[i32], rows: &[i32], text: &mut [
     ensures value { result ≡ outcome_answer (write_result Source header.now rows.now text.old).outcome }
     ensures text_after { text.new ≡ (write_result Source header.now rows.now text.old).text }
 {
-    of_write(clight::texts::write_source(header, rows, text))
+    clight::texts::write_source(header, rows, text).into()
 }
 
 // Writes a kernel program as a text.
@@ -44,7 +43,7 @@ pub extern "C" fn clight_write_kernel(header: &[i32], rows: &[i32], text: &mut [
     ensures value { result ≡ outcome_answer (write_result Kernel header.now rows.now text.old).outcome }
     ensures text_after { text.new ≡ (write_result Kernel header.now rows.now text.old).text }
 {
-    of_write(clight::texts::write_kernel(header, rows, text))
+    clight::texts::write_kernel(header, rows, text).into()
 }
 
 // Prints a kernel program as a page.
@@ -53,7 +52,7 @@ pub extern "C" fn clight_print_kernel(header: &[i32], rows: &[i32], page: &mut [
     ensures value { result ≡ outcome_answer (print_result header.now rows.now page.old).outcome }
     ensures page_after { page.new ≡ (print_result header.now rows.now page.old).text }
 {
-    of_write(clight::pages::print_kernel(header, rows, page))
+    clight::pages::print_kernel(header, rows, page).into()
 }
 
 // Reads a page with a header.
@@ -62,5 +61,5 @@ pub extern "C" fn clight_read_page(header: &[i32], page: &[u8], rows: &mut [i32]
     ensures value { result ≡ answer_of (page_result header.now page.now rows.old).numbers }
     ensures rows_after { rows.new ≡ (page_result header.now page.now rows.old).rows }
 {
-    of_page(clight::pages::read_page(header, page, rows))
+    clight::pages::read_page(header, page, rows).into()
 }

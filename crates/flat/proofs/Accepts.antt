@@ -1,5 +1,5 @@
 -- Accepts: the flat list's check accepts the legal lists and no others.
-use Rattle.std.specs.Prelude.{◌≡◌, Bool, not, ◌&&◌, ◌||◌, List, ℕ, suc, ◌+◌, ◌-◌, ◌%◌, ◌^◌, ◌≤◌, ◌<◌, eqb, leb, ℤ, negsuc, length}
+use Rattle.std.specs.Prelude.{◌≡◌, Bool, not, ◌&&◌, ◌||◌, List, ℕ, suc, ◌+◌, ◌-◌, ◌%◌, ◌^◌, ◌≤◌, ◌<◌, eqb, leb, ℤ, negsuc, length, None, Some, Ok}
 use Rattle.std.proofs.Math.Path.{refl, ap}
 use Rattle.std.proofs.Common.{sym, ◌∙◌}
 use Rattle.std.proofs.Math.Bool.{true, false}
@@ -16,8 +16,6 @@ use Rattle.words.specs.Search.{some, lowest}
 use Rattle.words.specs.SearchLaws.{lowest-all, all-lowest, some-all}
 use Rattle.words.specs.declared.Form.TheVariants.{Kernel}
 use Rattle.words.specs.declared.Operator.{Operator}
-use Rattle.words.specs.declared.Verdict.TheVariants.{Accepted}
-use Rattle.words.specs.declared.Found.TheVariants.{Nothing}
 use Rattle.check_fields.specs.Fields.{bounds_of, number_fits}
 use Rattle.check_structure.specs.Refusal.{at, unless}
 use Rattle.check_structure.specs.RefusalLaws.{next-accepts, accepts-next, at-accepts, accepts-at, unless-accepts, accepts-unless}
@@ -26,7 +24,7 @@ use Rattle.language_emission.specs.Emission.{operator_number}
 use Rattle.flat.specs.Lines.{Operand, number, word, copy, minus, operate, fetch, put, FlatLine, does, jump, jump_zero, jump_other, abort}
 use Rattle.flat.specs.Words.{distance, target_of, Parts, parts, unused, line_parts, sort_of, word_of, operation_of, line_count, field_at, operation_at, kind_of, left_constant, right_constant, operand_of, Written}
 use Rattle.flat.proofs.WordsLaws.{distance-onward, distance_back, operator-few, kind-small, is_number, one, kind-back, left_back, right-back, operation-small, operation-whole, operation-back}
-use Rattle.flat.specs.Refusal.{shape, shape_of, constant_fits, known_operation, unknown_operation, lands_inside, jump_outside, holds_right, number_outside, line_causes, refusal}
+use Rattle.flat.specs.Refusal.{shape, shape_of, is_kind, or_unused, constant_fits, known_operation, unknown_operation, lands_inside, jump_outside, holds_right, number_outside, line_causes, refusal}
 use Rattle.flat.specs.Legal.{WithinOperand, Within, LegalLine, LegalFlat}
 use Rattle.flat.specs.declared.Holds.TheVariants.{Atom, Variable}
 use Rattle.flat.specs.declared.LineShape.{LineShape}
@@ -34,11 +32,11 @@ use Rattle.flat.specs.LineKinds.{LineKind, aborts, copies, fetches, jumps, jumps
 
 -- ---- the kinds of lines
 
-operator-shape : (k : ℕ) → 6 ≤ k → k ≤ 16 → shape_of k ≡ shape Variable Atom Atom false
+pub operator-shape : (k : ℕ) → 6 ≤ k → k ≤ 16 → shape_of k ≡ Some (shape Variable Atom Atom false)
 unfolding shape_of
 operator-shape k p q = rw (ne_eqb k 1 (λ e. omega arith), ne_eqb k 3 (λ e. omega arith), ne_eqb k 4 (λ e. omega arith), le-leb 6 k p, le-leb k 16 q)
 
-pub operate-shape : (o : Operator) → shape_of (6 + operator_number o) ≡ shape Variable Atom Atom false
+pub operate-shape : (o : Operator) → shape_of (6 + operator_number o) ≡ Some (shape Variable Atom Atom false)
 operate-shape o = operator-shape (6 + operator_number o) (omega arith) (omega (arith, operator-few o))
 
 -- the operator of a kind
@@ -46,8 +44,8 @@ operator-number : (n : ℕ) → n ≤ 10 → operator_number (operator_of n) ≡
 unfolding some operator_of operators
 operator-number n h = eqb-true _ _ (not-false _ (some-all (λ k. not (eqb (operator_number (operator_of k)) k)) 11 0 refl n (omega arith) (omega arith)))
 
--- A kind whose shape is known is one of the table.
-pub line-kind : (k : ℕ) → (shape_of k).known ≡ true → LineKind k
+-- A kind with a shape is one of the table.
+pub line-kind : (k : ℕ) → is_kind (shape_of k) ≡ true → LineKind k
 unfolding shape_of
 line-kind k e =
     by_cases (eqb k 1) (λ t. rw (eqb-true k 1 t) copies)
@@ -172,7 +170,7 @@ module _ (bounds : Bounds) (small : Small bounds) (i lines : ℕ) (inside : i < 
         within = (p.target_holds, a.within, b.within);
       }
 
-  made : {k : ℕ} → LineKind k → Passes bounds i lines (shape_of k) leftIs rightIs t l r d → Made bounds i lines k leftIs rightIs t l r d
+  made : {k : ℕ} → LineKind k → Passes bounds i lines (or_unused (shape_of k)) leftIs rightIs t l r d → Made bounds i lines k leftIs rightIs t l r d
   unfolding shape_of natural
   made copies p =
       let a = atom-is bounds small leftIs l p.left_holds in
@@ -280,15 +278,15 @@ module _ (bounds : Bounds) (small : Small bounds) (list : List ℤ) (i : ℕ) (i
   -- what the three tests say
   record Tested : Type 0 where
     below : operation < 256
-    known : (shape_of kind).known ≡ true
-    passes : Passes bounds i (line_count list) (shape_of kind) (left_constant operation) (right_constant operation) (field_at list i 1) (field_at list i 2) (field_at list i 3) (field_at list i 4)
+    known : is_kind (shape_of kind) ≡ true
+    passes : Passes bounds i (line_count list) (or_unused (shape_of kind)) (left_constant operation) (right_constant operation) (field_at list i 1) (field_at list i 2) (field_at list i 3) (field_at list i 4)
 
   tested : unknown_operation list i ≡ false → jump_outside list i ≡ false → number_outside bounds list i ≡ false → Tested
   unfolding unknown_operation known_operation jump_outside number_outside
   tested e f g =
-      let s = shape_of kind in
+      let s = or_unused (shape_of kind) in
       let third = both (ltb operation 256) _ (not-false _ e) in
-      let fourth = both s.known _ third.1 in
+      let fourth = both (is_kind (shape_of kind)) _ third.1 in
       let sorts = both (constant_fits (left_constant operation) s.left) (constant_fits (right_constant operation) s.right) fourth.1 in
       let sixth = both (holds_right bounds s.target false (field_at list i 1)) _ (not-false _ g) in
       let operands = both (holds_right bounds s.left (left_constant operation) (field_at list i 2)) (holds_right bounds s.right (right_constant operation) (field_at list i 3)) sixth.1 in
@@ -332,15 +330,15 @@ module _ (bounds : Bounds) (i lines : ℕ) (inside : i < lines) where
   atom-holds (word k) w = w
 
   abbrev PassesLine : FlatLine → Type 0
-  PassesLine x = let p = line_parts i x in Passes bounds i lines (shape_of p.kind) (is_number p.left) (is_number p.right) (pos p.target) (word_of p.left) (word_of p.right) p.distance_is
+  PassesLine x = let p = line_parts i x in Passes bounds i lines (or_unused (shape_of p.kind)) (is_number p.left) (is_number p.right) (pos p.target) (word_of p.left) (word_of p.right) p.distance_is
 
-  line_known : (x : FlatLine) → (shape_of (line_parts i x).kind).known ≡ true
+  line_known : (x : FlatLine) → is_kind (shape_of (line_parts i x).kind) ≡ true
   unfolding shape_of
   line_known (does (copy x a)) = refl
   line_known (does (minus x a)) = refl
-  line_known (does (operate o x a b)) = ap (λ s. s.known) (operate-shape o)
-  line_known (does (fetch x array a)) = refl
-  line_known (does (put array a b)) = refl
+  line_known (does (operate o x a b)) = ap is_kind (operate-shape o)
+  line_known (does (fetch x k a)) = refl
+  line_known (does (put k a b)) = refl
   line_known (jump j) = refl
   line_known (jump_zero a j) = refl
   line_known (jump_other a j) = refl
@@ -392,11 +390,11 @@ small-bounds header e =
     record { few_variables = omega arith; few_words = omega (arith, f.small_store, f.few_declared, f.few_temporaries); few_arrays = f.few_arrays }
 
 -- a cause that no line breaks
-none : (list : List ℤ) (p : ℕ → Bool) → lowest p 0 (line_count list) ≡ Nothing → (i : ℕ) → i < line_count list → p i ≡ false
+none : (list : List ℤ) (p : ℕ → Bool) → lowest p 0 (line_count list) ≡ None → (i : ℕ) → i < line_count list → p i ≡ false
 none list p found i h = lowest-all p (line_count list) 0 found i (omega arith) (omega arith)
 
 module _ (header list : List ℤ) where
-  pub accepted-legal : refusal header list ≡ Accepted → LegalFlat header list
+  pub accepted-legal : refusal header list ≡ (Ok tt) → LegalFlat header list
   unfolding refusal line_causes
   accepted-legal e =
       let c1 = next-accepts (unless (header_fits Kernel header) 1) _ e in
@@ -412,7 +410,7 @@ module _ (header list : List ℤ) where
             (tested (bounds_of Kernel header) (small-bounds header fits) list i h (none list (unknown_operation list) (at-accepts 3 _ c3.0) i h) (none list (jump_outside list) (at-accepts 4 _ c4.0) i h) (none list (number_outside (bounds_of Kernel header) list) (at-accepts 6 _ c4.1) i h));
       }
 
-  pub legal_accepted : LegalFlat header list → refusal header list ≡ Accepted
+  pub legal_accepted : LegalFlat header list → refusal header list ≡ (Ok tt)
   unfolding refusal line_causes
   legal_accepted l =
       accepts-next (unless (header_fits Kernel header) 1) _ (accepts-unless (header_fits Kernel header) 1 l.header-fits)
@@ -422,5 +420,5 @@ module _ (header list : List ℤ) where
       (accepts-at 6 _ (all-lowest (number_outside (bounds_of Kernel header) list) (line_count list) 0 (λ i a b. let h : i < line_count list = omega arith in let x = l.lines i h in no-number-outside (bounds_of Kernel header) list i h x.line x.written x.within))))))
 
   -- The check accepts the legal flat lists and no others.
-  pub accepts-legal : (refusal header list ≡ Accepted → LegalFlat header list) × (LegalFlat header list → refusal header list ≡ Accepted)
+  pub accepts-legal : (refusal header list ≡ (Ok tt) → LegalFlat header list) × (LegalFlat header list → refusal header list ≡ (Ok tt))
   accepts-legal = (accepted-legal, legal_accepted)

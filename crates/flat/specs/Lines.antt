@@ -1,9 +1,9 @@
 -- Lines: what a line of the flat list does, and the flat run. A configuration is a line number and a store; the run ends just past the
 -- last line.
-use Rattle.std.specs.Prelude.{List, [], ◌∷◌, ℕ, zero, suc, ℤ, pos, get_or, set}
+use Rattle.std.specs.Prelude.{List, [], ◌∷◌, ℕ, zero, suc, ℤ, pos, get_or, set, Err, Ok, Result}
 use Rattle.words.specs.Word.{pick}
 use Rattle.words.specs.Layout.{Layout, array_base, array_length}
-use Rattle.arithmetic.specs.Arithmetic.{Outcome, value, fault, is_true, apply, minus as minus_word, element as element_word}
+use Rattle.arithmetic.specs.Arithmetic.{is_true, apply, minus as minus_word, element as element_word}
 use Rattle.words.specs.declared.FaultSort.{FaultSort}
 use Rattle.words.specs.declared.FaultSort.TheVariants.{Guard}
 use Rattle.words.specs.declared.Operator.{Operator}
@@ -34,17 +34,17 @@ value_of (number v) s = v
 value_of (word i) s = get_or s i (pos 0)
 
 -- A value stored, or the fault.
-abbrev pub stored : ℕ → List ℤ → Outcome ℤ → Outcome (List ℤ)
-stored i s (value v) = value (set s i v)
-stored i s (fault sort) = fault sort
+abbrev pub stored : ℕ → List ℤ → Result ℤ FaultSort → Result (List ℤ) FaultSort
+stored i s (Ok v) = Ok (set s i v)
+stored i s (Err sort) = Err sort
 
-abbrev pub fetched : ℕ → List ℤ → Outcome ℕ → Outcome (List ℤ)
-fetched i s (value position) = value (set s i (get_or s position (pos 0)))
-fetched i s (fault sort) = fault sort
+abbrev pub fetched : ℕ → List ℤ → Result ℕ FaultSort → Result (List ℤ) FaultSort
+fetched i s (Ok position) = Ok (set s i (get_or s position (pos 0)))
+fetched i s (Err sort) = Err sort
 
-abbrev pub put_at : ℤ → List ℤ → Outcome ℕ → Outcome (List ℤ)
-put_at v s (value position) = value (set s position v)
-put_at v s (fault sort) = fault sort
+abbrev pub put_at : ℤ → List ℤ → Result ℕ FaultSort → Result (List ℤ) FaultSort
+put_at v s (Ok position) = Ok (set s position v)
+put_at v s (Err sort) = Err sort
 
 -- What follows a line: another line with a store, a fault, or the end.
 pub data Next : Type 0 where
@@ -52,9 +52,9 @@ pub data Next : Type 0 where
   faults : FaultSort → Next
   ends : Next
 
-abbrev pub onward : ℕ → Outcome (List ℤ) → Next
-onward i (value s) = goes (suc i) s
-onward i (fault sort) = faults sort
+abbrev pub onward : ℕ → Result (List ℤ) FaultSort → Next
+onward i (Ok s) = goes (suc i) s
+onward i (Err sort) = faults sort
 
 -- Where no line is left in the budget: spent, unless the run has ended.
 abbrev pub stop : ℕ → List ℤ → Next → Finished
@@ -69,8 +69,8 @@ follow more count s (faults sort) = record { ending = Fault sort; count = suc co
 follow more count s ends = record { ending = Plain; count = count; store = s }
 
 module _ (L : Layout) where
-  abbrev pub effect : Operation → List ℤ → Outcome (List ℤ)
-  effect (copy i a) s = value (set s i (value_of a s))
+  abbrev pub effect : Operation → List ℤ → Result (List ℤ) FaultSort
+  effect (copy i a) s = Ok (set s i (value_of a s))
   effect (minus i a) s = stored i s (minus_word (value_of a s))
   effect (operate operator i a b) s = stored i s (apply operator (value_of a s) (value_of b s))
   effect (fetch i array a) s = fetched i s (element_word (array_base L array) (array_length L array) (value_of a s))

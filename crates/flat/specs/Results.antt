@@ -1,14 +1,11 @@
 -- Results: the run of a flat list, what a flat run answers, and what it leaves in the store.
-use Rattle.std.specs.Prelude.{List, ℕ, eqb, ℤ, length}
+use Rattle.std.specs.Prelude.{List, ℕ, eqb, ℤ, length, Err, Ok, Result}
+use Rattle.words.specs.declared.RunAnswer.{RunAnswer}
 use Rattle.words.specs.Word.{pick}
 use Rattle.words.specs.Numbers.{Numbers, run_numbers}
 use Rattle.words.specs.Layout.{layout_of, header_store}
 use Rattle.words.specs.declared.Form.TheVariants.{Kernel}
-use Rattle.words.specs.declared.Refusal.{Refusal}
-use Rattle.words.specs.declared.Verdict.{Verdict}
-use Rattle.words.specs.declared.Verdict.TheVariants.{Accepted, Refused}
-use Rattle.words.specs.declared.RunVerdict.{RunVerdict}
-use Rattle.words.specs.declared.RunVerdict.TheVariants.{Ran, Refused as RunRefused}
+use Rattle.words.specs.Refusals.{NumberedRefusal}
 use Rattle.language.specs.Program.{Finished}
 use Rattle.flat.specs.Lines.{run_from}
 use Rattle.flat.specs.Words.{lines_of}
@@ -20,24 +17,24 @@ run_list header list budget store = run_from (layout_of Kernel header) (lines_of
 
 -- What a flat run gives: its answer, that answer in numbers, and the store that it leaves.
 pub record FlatResult : Type 0 where
-  pub answer : RunVerdict
+  pub answer : Result RunAnswer NumberedRefusal
   pub numbers : Numbers
   pub store : List ℤ
 
-abbrev pub answer_and_store : RunVerdict → List ℤ → FlatResult
+abbrev pub answer_and_store : Result RunAnswer NumberedRefusal → List ℤ → FlatResult
 answer_and_store answer store = record { answer = answer; numbers = run_numbers answer; store = store }
 
 -- A refusal leaves the store as it was.
-abbrev pub flat_refused : Refusal → List ℤ → FlatResult
-flat_refused refusal store = answer_and_store (RunRefused refusal) store
+abbrev pub flat_refused : NumberedRefusal → List ℤ → FlatResult
+flat_refused refusal store = answer_and_store (Err refusal) store
 
 abbrev pub flat_ran : Finished → FlatResult
-flat_ran finished = answer_and_store (Ran (record { ending = finished.ending; count = finished.count })) finished.store
+flat_ran finished = answer_and_store (Ok (record { ending = finished.ending; count = finished.count })) finished.store
 
 -- The list's own check first; "then 11 store"; then the run.
-abbrev pub flat_after : Verdict → List ℤ → List ℤ → ℕ → List ℤ → FlatResult
-flat_after (Refused refusal) header list budget store = flat_refused refusal store
-flat_after Accepted header list budget store =
+abbrev pub flat_after : Result (Unit {0}) NumberedRefusal → List ℤ → List ℤ → ℕ → List ℤ → FlatResult
+flat_after (Err refusal) header list budget store = flat_refused refusal store
+flat_after (Ok tt) header list budget store =
     pick (eqb (length store) (header_store Kernel header)) (flat_ran (run_list header list budget store)) (flat_refused (record { number = 11; place = 0 }) store)
 
 unfoldable pub flat_result : List ℤ → List ℤ → ℕ → List ℤ → FlatResult

@@ -12,10 +12,9 @@ pub enum Holds {
     Array,
 }
 
-// What the words of a line of one kind hold, and whether it jumps; `known` is false where no line is of this kind.
+// What the words of a line of one kind hold, and whether it jumps.
 #[derive(Clone, Copy)]
 pub struct LineShape {
-    pub known: bool,
     pub target: Holds,
     pub left: Holds,
     pub right: Holds,

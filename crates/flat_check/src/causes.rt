@@ -1,9 +1,9 @@
 // The causes that one line can break: 3, 4 and 6.
-ghost use Rattle.std.specs.Prelude.{◌≡◌, ◌<◌};
+ghost use Rattle.std.specs.Prelude.{◌≡◌, ◌<◌, not};
 ghost use Rattle.flat.specs.Words.{line_count};
 ghost use Rattle.flat.specs.Refusal.{known_operation, unknown_operation, lands_inside, jump_outside, holds_right, number_outside};
 
-use super::kinds::{constant_fits, shape_of};
+use super::kinds::{constant_fits, shape_of, shape_or_unused};
 use check_fields::Bounds;
 use check_fields::fields::number_fits;
 use check_grammar::{ARRAY, VARIABLE};
@@ -20,16 +20,11 @@ fn known_operation(operation: usize) -> bool
     if operation >= 256 {
         return false;
     }
-    let shape = shape_of(operation_kind(operation));
-    if !shape.known {
+    let Some(shape) = shape_of(operation_kind(operation)) else {
         return false;
-    }
-    let left = shape.left;
-    if !constant_fits(left_constant(operation), left) {
-        return false;
-    }
-    let right = shape.right;
-    constant_fits(right_constant(operation), right)
+    };
+    constant_fits(left_constant(operation), shape.left)
+        && constant_fits(right_constant(operation), shape.right)
 }
 
 // Cause 3.
@@ -57,7 +52,7 @@ pub fn is_jump_outside(list: &[i32], line: usize) -> bool
     requires { line < line_count list.now }
     ensures { result ≡ jump_outside list.now line }
 {
-    let shape = shape_of(operation_kind(operation_at(list, line)));
+    let shape = shape_or_unused(operation_kind(operation_at(list, line)));
     let distance = word_at(list, line, 4);
     if shape.jumps {
         return !lands_inside(list, line, distance);
@@ -72,15 +67,32 @@ fn holds_right(bounds: Bounds, holds: Holds, constant: bool, word: i32) -> bool
     let number = natural(word);
     match holds {
         Holds::Unused => number == 0,
-        Holds::Atom => {
-            if constant {
-                return true;
-            }
-            number_fits(bounds, VARIABLE, number)
-        }
+        Holds::Atom => constant || number_fits(bounds, VARIABLE, number),
         Holds::Variable => number_fits(bounds, VARIABLE, number),
         Holds::Array => number_fits(bounds, ARRAY, number),
     }
+}
+
+// Each word of a line names what it should.
+fn words_hold_right(bounds: Bounds, list: &[i32], line: usize) -> bool
+    requires { line < line_count list.now }
+    ensures { not result ≡ number_outside bounds list.now line }
+{
+    let operation = operation_at(list, line);
+    let shape = shape_or_unused(operation_kind(operation));
+    holds_right(bounds, shape.target, false, word_at(list, line, 1))
+        && holds_right(
+            bounds,
+            shape.left,
+            left_constant(operation),
+            word_at(list, line, 2),
+        )
+        && holds_right(
+            bounds,
+            shape.right,
+            right_constant(operation),
+            word_at(list, line, 3),
+        )
 }
 
 // Cause 6.
@@ -88,26 +100,5 @@ pub fn is_number_outside(bounds: Bounds, list: &[i32], line: usize) -> bool
     requires { line < line_count list.now }
     ensures { result ≡ number_outside bounds list.now line }
 {
-    let operation = operation_at(list, line);
-    let shape = shape_of(operation_kind(operation));
-    let target = shape.target;
-    if !holds_right(bounds, target, false, word_at(list, line, 1)) {
-        return true;
-    }
-    let left = shape.left;
-    if !holds_right(
-        bounds,
-        left,
-        left_constant(operation),
-        word_at(list, line, 2),
-    ) {
-        return true;
-    }
-    let right = shape.right;
-    !holds_right(
-        bounds,
-        right,
-        right_constant(operation),
-        word_at(list, line, 3),
-    )
+    !words_hold_right(bounds, list, line)
 }

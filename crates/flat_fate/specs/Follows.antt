@@ -1,7 +1,7 @@
 -- Follows: the flat run goes where the kernel's goes, under every number of rounds. A kernel run that is cut off after c rounds of some
 -- loop is at least c lines in the flat list, so that endless runs stay endless; the other way round follows, since the flat run is
 -- determined.
-use Rattle.std.specs.Prelude.{◌≡◌, Bool, List, ℕ, zero, suc, ◌+◌, ◌≤◌, ℤ, pos}
+use Rattle.std.specs.Prelude.{◌≡◌, Bool, List, ℕ, zero, suc, ◌+◌, ◌≤◌, ℤ, pos, Err, Ok, Result as Outcome}
 use Rattle.std.proofs.Math.Path.{refl, ap}
 use Rattle.std.proofs.Common.{sym, ◌∙◌, arith, zero-add, suc-add, le_refl, eqb-true}
 use Rattle.std.proofs.Math.Bool.{true, false}
@@ -9,7 +9,7 @@ use Rattle.std.proofs.lemmas.Bool.{false≢true}
 use Rattle.std.proofs.Math.Dec.{eqb}
 use Rattle.words.specs.Word.{pick}
 use Rattle.words.specs.Layout.{Layout, array_base, array_length}
-use Rattle.arithmetic.specs.Arithmetic.{Outcome, value, fault as faulty, is_true, apply, minus as minus_word, element as element_word}
+use Rattle.arithmetic.specs.Arithmetic.{is_true, apply, minus as minus_word, element as element_word}
 use Rattle.words.specs.declared.FaultSort.{FaultSort}
 use Rattle.computation.specs.Computation.{Turn, again, leave, Computation, ret, ◌>>=◌, ◌>>◌}
 use Rattle.computation.specs.Run.{State, stepped, spent, fault, Result, ok, stopped, rounds, and_then, after_turn, iterate, run}
@@ -19,9 +19,9 @@ use Rattle.language.specs.Meaning.{Signal, next, seeking, enters_statement, ente
 use Rattle.flat.specs.Lines.{Operand, number, Operation, stored, fetched, put_at, value_of, FlatLine, does, jump, jump_zero, jump_other, goes, faults, onward, next_at}
 use Rattle.flat_fate.specs.Stands.{Means, means_number, means_word, Acts, acts_copy, acts_minus, acts_operate, acts_fetch, acts_put, At, Stands, stands-empty, stands-assign, stands-block, stands-neither, stands-yes, stands-no, stands-both, stands-while, stands-endless, stands-goto, stands-abort, StandsItems, stands-none, stands-then, stands-label}
 
-by-outcome : {A G : Type 0} (o : Outcome A) → ((a : A) → o ≡ value a → G) → ((sort : FaultSort) → o ≡ faulty sort → G) → G
-by-outcome (value a) y n = y a refl
-by-outcome (faulty sort) y n = n sort refl
+by-outcome : {A G : Type 0} (o : Outcome A FaultSort) → ((a : A) → o ≡ Ok a → G) → ((sort : FaultSort) → o ≡ Err sort → G) → G
+by-outcome (Ok a) y n = y a refl
+by-outcome (Err sort) y n = n sort refl
 
 module _ (L : Layout) (lines : List FlatLine) (address : ℕ → ℕ) where
   -- In n lines from line i with the store s to line j with the store t.

@@ -93,10 +93,7 @@ pub fn put_rows(out: &mut [i32], rows: &[i32], sizes: &[u16], lines: &[u16], lab
     requires { Tables rows.now sizes.now lines.now labels.now × Exact rows.now out.old }
     ensures { out.new ≡ flattened rows.now }
 {
-    let count = rows.len() / 6;
-    let mut row = 0;
-    while row < count {
+    for row in 0..rows.len() / 6 {
         put_row(out, rows, sizes, lines, labels, row);
-        row += 1;
     }
 }

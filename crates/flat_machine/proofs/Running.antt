@@ -1,4 +1,5 @@
 -- Running: the run of lines, one line at a time: what the loop's invariant says, and how it goes on or ends.
+use Rattle.std.specs.Prelude.{Err, Ok, Result}
 use mathlib.Core.Path.{◌≡◌, refl, sym, ap, ◌∙◌}
 use mathlib.Core.List.{List}
 use Prim.Native.Nat.{ℕ, zero, suc, ◌+◌, ◌-◌, ◌≤◌, ◌<◌}
@@ -9,11 +10,8 @@ use Rattle.words.specs.declared.FaultSort.{FaultSort}
 use Rattle.words.specs.declared.Ending.TheVariants.{Plain, Spent, Fault}
 use Rattle.language.specs.Program.{Finished}
 use Rattle.flat.specs.Lines.{FlatLine, does, jump, jump_zero, jump_other, abort, Next, goes, faults, ends, onward, effect, next_of, next_at, stop, follow, run_from}
-use Rattle.arithmetic.specs.Arithmetic.{Outcome, value, fault}
 use Rattle.flat.specs.Words.{line_count, line_at, lines_from, lines_of}
 use Rattle.flat_steps.specs.Steps.{Makes}
-use Rattle.flat_steps.specs.declared.Step.{Step}
-use Rattle.flat_steps.specs.declared.Step.TheVariants.{At, Fails}
 
 module _ (L : Layout) (list : List ℤ) where
   next-from : (i n k j : ℕ) (s : List ℤ) → k < n → next_at L (lines_from list i n) k j s ≡ next_of L (line_at list (i + k)) j s
@@ -37,9 +35,9 @@ module _ (L : Layout) (list : List ℤ) where
   next-end line s h = end-from 0 (line_count list) line line s h
 
   -- a line is never the end
-  onward_stops : (count i : ℕ) (s : List ℤ) (o : Outcome (List ℤ)) → stop count s (onward i o) ≡ record { ending = Spent; count = count; store = s }
-  onward_stops count i s (value t) = refl
-  onward_stops count i s (fault sort) = refl
+  onward_stops : (count i : ℕ) (s : List ℤ) (o : Result (List ℤ) FaultSort) → stop count s (onward i o) ≡ record { ending = Spent; count = count; store = s }
+  onward_stops count i s (Ok t) = refl
+  onward_stops count i s (Err sort) = refl
 
   line-stops : (count i : ℕ) (s : List ℤ) (x : FlatLine) → stop count s (next_of L x i s) ≡ record { ending = Spent; count = count; store = s }
   line-stops count i s (does o) = onward_stops count i s (effect L o s)
@@ -79,7 +77,7 @@ module _ (L : Layout) (list : List ℤ) where
           ∙ ap (λ (n : ℕ). run_from L (lines_of list) n (budget - left) line s) one ∙ r.same
 
       -- a line that goes on at j
-      pub runs_on : (step : Step) (t : List ℤ) → Makes s step t (next_of L (line_at list line) line s) → (j : ℕ) → step ≡ At j → Runs budget (left - 1) j t whole
+      pub runs_on : (step : Result ℕ FaultSort) (t : List ℤ) → Makes s step t (next_of L (line_at list line) line s) → (j : ℕ) → step ≡ Ok j → Runs budget (left - 1) j t whole
       runs_on step t m j e = record { most = omega (arith, r.most); same = by (next_of L (line_at list line) line s) m next-step }
         where
           by : (n : Next) → Makes s step t n → follow (λ j t. run_from L (lines_of list) (left - 1) (budget - (left - 1)) j t) (budget - left) s n ≡ whole → run_from L (lines_of list) (left - 1) (budget - (left - 1)) j t ≡ whole
@@ -88,7 +86,7 @@ module _ (L : Layout) (list : List ℤ) where
           by ends m w = absurd m
 
       -- a line that faults
-      pub runs-fault : (step : Step) (t : List ℤ) → Makes s step t (next_of L (line_at list line) line s) → (sort : FaultSort) → step ≡ Fails sort → record { ending = Fault sort; count = budget - (left - 1); store = t } ≡ whole
+      pub runs-fault : (step : Result ℕ FaultSort) (t : List ℤ) → Makes s step t (next_of L (line_at list line) line s) → (sort : FaultSort) → step ≡ Err sort → record { ending = Fault sort; count = budget - (left - 1); store = t } ≡ whole
       runs-fault step t m sort e = by (next_of L (line_at list line) line s) m next-step
         where
           by : (n : Next) → Makes s step t n → follow (λ j t. run_from L (lines_of list) (left - 1) (budget - (left - 1)) j t) (budget - left) s n ≡ whole → record { ending = Fault sort; count = budget - (left - 1); store = t } ≡ whole

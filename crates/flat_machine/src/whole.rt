@@ -3,7 +3,6 @@ ghost use Rattle.std.specs.Prelude.{◌≡◌, map, length};
 ghost use Rattle.words.specs.Word.{natural as natural_of};
 ghost use Rattle.words.specs.Layout.{header_store};
 ghost use Rattle.words.specs.declared.Form.TheVariants.{Kernel};
-ghost use Rattle.words.specs.declared.Verdict.TheVariants.{Accepted};
 ghost use Rattle.machine_operations.specs.Bounds.{bounds_from, layout_from};
 ghost use Rattle.machine.specs.Whole.{finished_of};
 ghost use Rattle.flat.specs.Lines.{run_from};
@@ -14,12 +13,11 @@ ghost use Rattle.flat_steps.specs.Steps.{Setting};
 ghost use Rattle.flat_machine.specs.Whole.{Startable};
 
 use flat_check::check;
-use flat_steps::Step;
 use flat_steps::lines::make;
 use machine::whole::fill_bounds;
 use words::layout::{header_store, leading};
 use words::table::natural;
-use words::{Ending, Form, Refusal, RunAnswer, RunVerdict, Verdict};
+use words::{Cause, Ending, Form, Refusal, RunAnswer};
 
 // The lines from line 0 on, until the end, a fault, or a line more than the budget.
 fn run_lines(list: &[i32], bounds: &[usize], store: &mut [i32], budget: u32) -> RunAnswer
@@ -39,10 +37,8 @@ fn run_lines(list: &[i32], bounds: &[usize], store: &mut [i32], budget: u32) -> 
         left -= 1;
         let step = make(list, bounds, line, store);
         match step {
-            Step::At(next) => {
-                line = next;
-            }
-            Step::Fails(sort) => {
+            Ok(next) => line = next,
+            Err(sort) => {
                 return RunAnswer {
                     ending: Ending::Fault(sort),
                     count: budget - left,
@@ -74,7 +70,7 @@ fn start(
 
 // Runs an accepted list on a store of its size, for a caller that has the check's answer: nothing is tested again.
 pub fn run_accepted(header: &[i32], list: &[i32], store: &mut [i32], budget: u32) -> RunAnswer
-    requires list_value { refusal_of header.now list.now ≡ Accepted }
+    requires list_value { refusal_of header.now list.now ≡ (Ok tt) }
     requires store_len { length store.old ≡ header_store Kernel header.now }
     ensures { finished_of result store.new ≡ run_list header.now list.now budget store.old }
 {
@@ -92,26 +88,33 @@ pub fn run_accepted(header: &[i32], list: &[i32], store: &mut [i32], budget: u32
 }
 
 // An accepted list on a store of any size: cause 11, then the run.
-fn run_on_store(header: &[i32], list: &[i32], store: &mut [i32], budget: u32) -> RunVerdict
-    requires { refusal_of header.now list.now ≡ Accepted }
-    ensures { answer_and_store result store.new ≡ flat_after Accepted header.now list.now budget store.old }
+fn run_on_store(
+    header: &[i32],
+    list: &[i32],
+    store: &mut [i32],
+    budget: u32,
+) -> Result<RunAnswer, Refusal>
+    requires { refusal_of header.now list.now ≡ (Ok tt) }
+    ensures { answer_and_store result store.new ≡ flat_after (Ok tt) header.now list.now budget store.old }
 {
     if store.len() != header_store(Form::Kernel, header) {
-        return RunVerdict::Refused(Refusal {
-            number: 11,
+        return Err(Refusal {
+            cause: Cause::StoreSize,
             place: 0,
         });
     }
-    RunVerdict::Ran(run_accepted(header, list, store, budget))
+    Ok(run_accepted(header, list, store, budget))
 }
 
 // Runs a flat list on the store, "budget counted in lines".
-pub fn flat_run(header: &[i32], list: &[i32], store: &mut [i32], budget: u32) -> RunVerdict
+pub fn flat_run(
+    header: &[i32],
+    list: &[i32],
+    store: &mut [i32],
+    budget: u32,
+) -> Result<RunAnswer, Refusal>
     ensures { answer_and_store result store.new ≡ flat_result header.now list.now budget store.old }
 {
-    let verdict = check(header, list);
-    match verdict {
-        Verdict::Accepted => run_on_store(header, list, store, budget),
-        Verdict::Refused(refusal) => RunVerdict::Refused(refusal),
-    }
+    check(header, list)?;
+    run_on_store(header, list, store, budget)
 }

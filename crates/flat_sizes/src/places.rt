@@ -126,10 +126,7 @@ pub fn place_rows(rows: &[i32], sizes: &[u16], lines: &mut [u16], labels: &mut [
     requires { KernelTable rows.now × Sized rows.now 0 sizes.now × (row_count rows.now ≤ length lines.old) × (get_or lines.old 0 0 ≡ 0) × (40980 ≤ length labels.old) }
     ensures { LinesPlaced rows.now (row_count rows.now) lines.new × Labelled rows.now (row_count rows.now) labels.new }
 {
-    let count = rows.len() / 6;
-    let mut row = 0;
-    while row < count {
+    for row in 0..rows.len() / 6 {
         place_row(rows, sizes, lines, labels, row);
-        row += 1;
     }
 }

@@ -108,9 +108,7 @@ pub fn size_rows(rows: &[i32], sizes: &mut [u16])
     requires { KernelTable rows.now × (row_count rows.now ≤ length sizes.old) }
     ensures { Sized rows.now 0 sizes.new }
 {
-    let mut row = rows.len() / 6;
-    while row > 0 {
-        row -= 1;
+    for row in (0..rows.len() / 6).rev() {
         size_row(rows, sizes, row);
     }
 }

@@ -1,11 +1,10 @@
 -- Source and flat: what it is for a source program and a flat list to share their fate; demand 3 and Change 10 in one.
-use Rattle.std.specs.Prelude.{◌≡◌, true, false, ◌↔◌, List, ◌++◌, ℕ, ◌<◌, ℤ, length, take}
+use Rattle.std.specs.Prelude.{◌≡◌, true, false, ◌↔◌, List, ◌++◌, ℕ, ◌<◌, ℤ, length, take, Err, Ok}
 use Rattle.words.specs.Table.{row_count}
 use Rattle.words.specs.Declarations.{declaration_count}
 use Rattle.words.specs.Layout.{layout_of, store_size, temporaries_of}
 use Rattle.words.specs.declared.Form.TheVariants.{Source, Kernel}
 use Rattle.words.specs.declared.Ending.TheVariants.{Spent}
-use Rattle.words.specs.declared.Verdict.TheVariants.{Accepted, Refused}
 use Rattle.language.specs.Program.{Finished}
 use Rattle.language_programs.specs.Program.{run_program}
 use Rattle.check_function_causes.specs.Functions.{is_definition}
@@ -43,7 +42,7 @@ module _ (header rows kernel_header list store declared flatDeclared temporaries
 -- What a flat list has to be for a source program.
 pub record FlatFormOf (header rows kernel_header list : List ℤ) : Type 0 where
   -- the list's own check takes it
-  pub accepted : flat_refusal kernel_header list ≡ Accepted
+  pub accepted : flat_refusal kernel_header list ≡ (Ok tt)
   -- "whatever its variables and arrays hold and whatever stands in the temporaries"; "whatever the D words held at the start", in either run
   pub share_fate : (store declared flatDeclared temporaries : List ℤ) → length store ≡ store_size (layout_of Source header)
       → length declared ≡ declaration_count rows → length flatDeclared ≡ declaration_count rows → length temporaries ≡ temporaries_of Kernel kernel_header
@@ -56,10 +55,10 @@ WithoutFunctions rows = (row : ℕ) → row < row_count rows → is_definition r
 -- What holds of every source program without functions that the check accepts, and of the flat list of its translation.
 abbrev pub HasFlatForm : List ℤ → List ℤ → Type 0
 HasFlatForm header rows =
-    source_refusal header rows ≡ Accepted → WithoutFunctions rows → FlatFormOf header rows (kernel_header_of header rows) (flattened (kernel_rows_of header rows))
+    source_refusal header rows ≡ (Ok tt) → WithoutFunctions rows → FlatFormOf header rows (kernel_header_of header rows) (flattened (kernel_rows_of header rows))
 
 -- Of one with functions: "the flat list refuses functions with 25 and the first one's row", which in a translation is row 1.
 abbrev pub FunctionsRefused : List ℤ → List ℤ → Type 0
 FunctionsRefused header rows =
-    source_refusal header rows ≡ Accepted → (row : ℕ) → row < row_count rows → is_definition rows row ≡ true
-    → plain_refusal (kernel_header_of header rows) (kernel_rows_of header rows) ≡ Refused (record { number = 25; place = 1 })
+    source_refusal header rows ≡ (Ok tt) → (row : ℕ) → row < row_count rows → is_definition rows row ≡ true
+    → plain_refusal (kernel_header_of header rows) (kernel_rows_of header rows) ≡ Err (record { number = 25; place = 1 })

@@ -1,6 +1,6 @@
 -- The theorems: every accepted program without functions shares its fate with the flat list of its translation, from demand 3 and the equal fate of a
 -- kernel program and its list, one behind the other; the translation of one with functions gets 25.
-use Rattle.std.specs.Prelude.{◌≡◌, List, ◌++◌, ℕ, ◌+◌, ◌≤◌, ◌<◌, ℤ, length, take}
+use Rattle.std.specs.Prelude.{◌≡◌, List, ◌++◌, ℕ, ◌+◌, ◌≤◌, ◌<◌, ℤ, length, take, Err, Ok}
 use Rattle.std.proofs.Math.Path.{ap}
 use Rattle.std.proofs.Common.{◌∙◌, arith}
 use Rattle.words.specs.Declarations.{declaration_count}
@@ -8,7 +8,6 @@ use Rattle.words.specs.Layout.{layout_of, store_size, store_words, temporaries_o
 use Rattle.words.specs.StoreLaws.{source-store}
 use Rattle.words.specs.Laws.{count_fits-facts}
 use Rattle.words.specs.declared.Form.TheVariants.{Source, Kernel}
-use Rattle.words.specs.declared.Verdict.TheVariants.{Accepted, Refused}
 use Rattle.language.specs.Trees.{block, Items}
 use Rattle.language.specs.Functions.{function_count}
 use Rattle.language.specs.FunctionWrites.{functions_write}
@@ -47,7 +46,7 @@ use Rattle.flat_fate.proofs.FlatWordsLaws.{shares_fate}
 use Rattle.flat_source.specs.SourceFlat.{SourceEnds, FlatEnds, SharedFate, WithoutFunctions, HasFlatForm, FunctionsRefused}
 use Rattle.flat_source.specs.SourceFunctions.{none-without, some_with, first-definition}
 
-module _ (header rows : List ℤ) (accepted : source_refusal header rows ≡ Accepted) where
+module _ (header rows : List ℤ) (accepted : source_refusal header rows ≡ (Ok tt)) where
   abbrev K : List ℤ
   K = kernel_header_of header rows
 
@@ -130,13 +129,13 @@ module _ (header rows : List ℤ) (accepted : source_refusal header rows ≡ Acc
   unfolding kernel_header_of
   own-tree = rw (header-layout (layout_of Source header) (declaration_count rows) (temporaries program), header-behind (layout_of Source header) (declaration_count rows) (temporaries program), kernel-items) kernel-tree
 
-  takes : WithoutFunctions rows → flat_refusal K (flattened R) ≡ Accepted
+  takes : WithoutFunctions rows → flat_refusal K (flattened R) ≡ (Ok tt)
   unfolding flattened
   takes none = flat-accepts K (words_from 0 (flat_of (contents R))) (flattened-legal K (contents R) kernel-legal.header-fits own-tree (functionless none))
 
   -- ---- with functions
 
-  refused : 0 < function_count program → plain_refusal K R ≡ Refused (record { number = 25; place = 1 })
+  refused : 0 < function_count program → plain_refusal K R ≡ Err (record { number = 25; place = 1 })
   unfolding plain_refusal kernel_rows_of ◌next◌ at translate
   refused some =
       let count = code-count (functions_write program) (store_words Source header rows) program 1 (table-tree header rows legal).placed in

@@ -1,5 +1,5 @@
 -- Functions of a source program: it has some where a row of it is a definition, and then its translation has its first one in row 1.
-use Rattle.std.specs.Prelude.{◌≡◌, refl, true, false, List, ℕ, ◌<◌, ℤ}
+use Rattle.std.specs.Prelude.{◌≡◌, refl, true, false, List, ℕ, ◌<◌, ℤ, Some}
 use Rattle.std.proofs.Common.{sym, ap, ◌∙◌, true≢false, arith}
 use Rattle.std.proofs.Math.Decide.{ℕ_discrete}
 use Rattle.words.specs.Table.{row_count, number_at}
@@ -7,7 +7,6 @@ use Rattle.words.specs.Layout.{layout_of, store_size}
 use Rattle.words.specs.Search.{lowest_row}
 use Rattle.words.specs.SearchLaws.{lowest-at}
 use Rattle.words.specs.declared.Form.TheVariants.{Source}
-use Rattle.words.specs.declared.Found.TheVariants.{At}
 use Rattle.language.specs.Trees.{block, Items}
 use Rattle.language.specs.Functions.{function_count}
 use Rattle.language.specs.Program.{contents}
@@ -55,14 +54,14 @@ module _ (header rows : List ℤ) (legal : Legal header rows) where
 -- ---- the table of a program with functions
 
 -- The first definition stands in row 1, behind the block of the program.
-pub first-definition : (rows : List ℤ) (program : Items) → EmittedStatement rows (block program) 0 0 → KernelProgram program → 0 < function_count program → lowest_row rows (is_definition rows) ≡ At 1
+pub first-definition : (rows : List ℤ) (program : Items) → EmittedStatement rows (block program) 0 0 → KernelProgram program → 0 < function_count program → lowest_row rows (is_definition rows) ≡ Some 1
 unfolding lowest_row is_definition
 first-definition rows program (block_at r m) form some = go m form some
   where
     first : (k : ℕ) → k ≡ 0 → is_definition rows k ≡ false
     first k z = rw (z, r.kind_is)
 
-    go : {is : Items} → EmittedItems rows is 1 → KernelProgram is → 0 < function_count is → lowest_row rows (is_definition rows) ≡ At 1
+    go : {is : Items} → EmittedItems rows is 1 → KernelProgram is → 0 < function_count is → lowest_row rows (is_definition rows) ≡ Some 1
     go m (kernel_main k) some = absurd (let none = plain-count k in omega arith)
     go (define-at q p b n) (kernel_define k form) some =
         lowest-at (is_definition rows) 1 (row_count rows) 0 (omega arith) (omega (arith, q.inside)) (rw q.kind_is) (λ k l h. first k (omega arith))

@@ -1,4 +1,7 @@
 -- Words of a line, handed on: numbers, values, targets.
+use Rattle.std.specs.Prelude.{Err, Ok, Result}
+use Rattle.std.specs.Result.{IsErrAnd}
+use Rattle.std.proofs.lemmas.Result.{err_from_is_err_and}
 use mathlib.Core.Path.{◌≡◌, refl, sym, ap, ap₂, ◌∙◌, subst}
 use mathlib.Core.Bool.{true}
 use mathlib.Core.List.{List}
@@ -14,32 +17,27 @@ use mir.Val.{SFits, Fits, to_z, of_z}
 use mir.Facts.{to_z-of_z, to_z_pos}
 use borrow.Author.Tests.{le-ltb, leb-true}
 use Rattle.words.specs.Laws.{back}
-use Rattle.arithmetic.specs.Answers.{computed}
 use Rattle.words.specs.declared.FaultSort.{FaultSort}
-use Rattle.arithmetic.specs.declared.Computed.{Computed}
-use Rattle.arithmetic.specs.declared.Computed.TheVariants.{Value, Fails as FailsWith}
 use Rattle.flat.specs.Lines.{Next, stored, onward}
 use Rattle.flat.specs.Words.{target_of}
 use Rattle.flat.specs.Refusal.{lands_inside}
 use Rattle.flat_steps.specs.Steps.{Makes}
-use Rattle.flat_steps.specs.declared.Step.{Step}
-use Rattle.flat_steps.specs.declared.Step.TheVariants.{At, Fails}
 
 abbrev pub again : ℤ → ℤ
 again z = to_z w32 (of_z w32 z)
 
 -- what holds of a line's next holds of an equal one
-pub made_so : (s : List ℤ) (r : Step) (t : List ℤ) (n m : Next) → Makes s r t n → n ≡ m → Makes s r t m
+pub made_so : (s : List ℤ) (r : Result ℕ FaultSort) (t : List ℤ) (n m : Next) → Makes s r t n → n ≡ m → Makes s r t m
 made_so s r t n m h e = subst (λ x. Makes s r t x) e h
 
 -- ---- a value stored, or a fault
 
-module _ (s : List ℤ) (line target : ℕ) (result : Computed) where
-  pub assigned : (v : ℤ) → result ≡ Value v → mag v < 2 ^ 31 → Makes s (At (line + 1)) (set s target (again v)) (onward line (stored target s (computed result)))
-  assigned v e h = rw e (ap At (add-one line), ap (set s target) (back v h))
+pub assigned : (s : List ℤ) (line target : ℕ) (v : ℤ) (r : ℕ) (t : List ℤ) → (r ≡ line + 1) × (t ≡ set s target v) → Makes s (Ok r) t (onward line (stored target s (Ok v)))
+assigned s line target v r t e = (ap Ok (e.0 ∙ add-one line), e.1)
 
-  pub failed : (sort : FaultSort) → result ≡ FailsWith sort → Makes s (Fails sort) s (onward line (stored target s (computed result)))
-  failed sort e = rw e (refl, refl)
+-- a fault that `?` hands on
+pub failed : (s : List ℤ) (r : Result ℕ FaultSort) (sort : FaultSort) → IsErrAnd r (λ q. q ≡ sort) → (n : Next) → Makes s (Err sort) s n → Makes s r s n
+failed s r sort h n m = let p = err_from_is_err_and r h in rw (p.1, p.2) m
 
 -- ---- the target of a jump: the following line's number and the distance, added at 64 bits
 

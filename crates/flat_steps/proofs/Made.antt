@@ -1,4 +1,6 @@
 -- Made: what a line of each kind asks, and what it does next, told by what its function reads and computes.
+use Rattle.std.specs.Prelude.{Err, None, Ok, Option, Some, Result, ok_or}
+use Rattle.words.specs.declared.FaultSort.{FaultSort}
 use mathlib.Core.Path.{◌≡◌, refl, sym, ap, ◌∙◌, subst}
 use mathlib.Core.Bool.{Bool, true, false, true≢false}
 use mathlib.Core.List.{List}
@@ -13,14 +15,11 @@ use borrow.Author.Tests.{leb-true, le-leb, ne_eqb}
 use Rattle.words.specs.Word.{natural}
 use Rattle.words.specs.Kinds.{between, array, operator_of}
 use Rattle.words.specs.Layout.{Layout, store_size, array_base, array_length}
-use Rattle.arithmetic.specs.Arithmetic.{Outcome, value, is_true, apply, minus as minus_word, element as element_word}
-use Rattle.arithmetic.specs.Answers.{located}
+use Rattle.arithmetic.specs.Arithmetic.{is_true, apply, minus as minus_word, element as element_word}
 use Rattle.words.specs.Laws.{back, both, array-in-store}
 use Rattle.arithmetic.proofs.Laws.{element-inside}
 use Rattle.words.specs.declared.FaultSort.TheVariants.{Index, Guard}
 use Rattle.words.specs.declared.Operator.{Operator}
-use Rattle.arithmetic.specs.declared.Located.{Located}
-use Rattle.arithmetic.specs.declared.Located.TheVariants.{At as LiesAt, Outside}
 use Rattle.check_fields.specs.Fields.{bounds_in}
 use Rattle.check_fields.specs.declared.Bounds.{Bounds}
 use Rattle.machine_operations.specs.Bounds.{layout_from}
@@ -33,7 +32,6 @@ use Rattle.flat.proofs.Accepts.{Small, variable-below, array-below}
 use Rattle.flat.proofs.WordsLaws.{operator-few}
 use Rattle.language_emission.specs.Emission.{operator_number}
 use Rattle.flat_steps.specs.Steps.{Makes, ReadyOperand, ReadyJump, ReadyLine, OfKind}
-use Rattle.flat_steps.specs.declared.Step.TheVariants.{At, Fails}
 use Rattle.flat_steps.proofs.Handed.{again}
 
 -- ---- what a line asks
@@ -84,7 +82,7 @@ module _ {bounds : List ℕ} {list : List ℤ} {words line operation kind : ℕ}
       lies_in bounds words s.bounds_are s.store_fits (omega (arith, s.few_words)) n (array-below numbers_is small n e)
 
   -- an element that the bounds test lets through lies in the store
-  pub element-inside-store : (n : ℕ) → NamesArray numbers_is n → (v : ℤ) (at : ℕ) → element_word (get_or bounds n 0) (get_or bounds (n + 1) 0 - get_or bounds n 0) v ≡ value at → at < words
+  pub element-inside-store : (n : ℕ) → NamesArray numbers_is n → (v : ℤ) (at : ℕ) → element_word (get_or bounds n 0) (get_or bounds (n + 1) 0 - get_or bounds n 0) v ≡ Ok at → at < words
   element-inside-store n e v at f =
       let L = layout_from bounds in
       let s = o.ready.setting in
@@ -94,8 +92,8 @@ module _ {bounds : List ℕ} {list : List ℤ} {words line operation kind : ℕ}
       omega (arith, inside.most, here.base, here.span, s.store_fits)
 
 -- the bounds test, with the array and the index as the code reads them
-element-is : (bounds : List ℕ) (L : Layout) (n array : ℕ) → array ≡ n → Lies L bounds n → (v x : ℤ) → mag v < 2 ^ 31 → v ≡ x → (l : Located) → located l ≡ element_word (get_or bounds array 0) (get_or bounds (array + 1) 0 - get_or bounds array 0) (again v)
-    → element_word (array_base L n) (array_length L n) x ≡ located l
+element-is : (bounds : List ℕ) (L : Layout) (n array : ℕ) → array ≡ n → Lies L bounds n → (v x : ℤ) → mag v < 2 ^ 31 → v ≡ x → (l : Result ℕ FaultSort) → l ≡ element_word (get_or bounds array 0) (get_or bounds (array + 1) 0 - get_or bounds array 0) (again v)
+    → element_word (array_base L n) (array_length L n) x ≡ l
 element-is bounds L n array ae lie v x h ve l le = sym (rw (ae, lie.span, lie.base, back v h, ve) at le)
 
 -- ---- what it does next
@@ -103,12 +101,12 @@ element-is bounds L n array ae lie v x h ve l le = sym (rw (ae, lie.span, lie.ba
 module _ {bounds : List ℕ} {list : List ℤ} {words line operation : ℕ} (s : List ℤ) where
   module _ (o : OfKind bounds list words line operation 1) where
     pub copy-next : (c : Bool) → c ≡ left_constant operation → (target : ℕ) → target ≡ natural (field_at list line 1) → (v : ℤ) → mag v < 2 ^ 31 → v ≡ value_of (operand_of c (field_at list line 2)) s
-        → onward line (stored target s (value (again v))) ≡ next_of (layout_from bounds) (line_at list line) line s
+        → onward line (stored target s (Ok (again v))) ≡ next_of (layout_from bounds) (line_at list line) line s
     copy-next c ce target te v h ve = rw (line-is o, te, back v h, ve, ce)
 
   module _ (o : OfKind bounds list words line operation 4) where
     pub negate-next : (c : Bool) → c ≡ left_constant operation → (target : ℕ) → target ≡ natural (field_at list line 1) → (v : ℤ) → mag v < 2 ^ 31 → v ≡ value_of (operand_of c (field_at list line 2)) s
-        → (m : Outcome ℤ) → m ≡ minus_word (again v) → onward line (stored target s m) ≡ next_of (layout_from bounds) (line_at list line) line s
+        → (m : Result ℤ FaultSort) → m ≡ minus_word (again v) → onward line (stored target s m) ≡ next_of (layout_from bounds) (line_at list line) line s
     negate-next c ce target te v h ve m me = rw (line-is o, te, me, back v h, ve, ce)
 
   module _ {kind : ℕ} (o : OfKind bounds list words line operation kind) (k : between 6 16 kind ≡ true) where
@@ -124,7 +122,7 @@ module _ {bounds : List ℕ} {list : List ℤ} {words line operation : ℕ} (s :
 
     pub operate-next : (c d : Bool) → c ≡ left_constant operation → d ≡ right_constant operation → (target : ℕ) → target ≡ natural (field_at list line 1)
         → (v w : ℤ) → mag v < 2 ^ 31 → mag w < 2 ^ 31 → v ≡ value_of (operand_of c (field_at list line 2)) s → w ≡ value_of (operand_of d (field_at list line 3)) s
-        → (p : Operator) → p ≡ operator_of (kind - 6) → (m : Outcome ℤ) → m ≡ apply p (again v) (again w) → onward line (stored target s m) ≡ next_of (layout_from bounds) (line_at list line) line s
+        → (p : Operator) → p ≡ operator_of (kind - 6) → (m : Result ℤ FaultSort) → m ≡ apply p (again v) (again w) → onward line (stored target s m) ≡ next_of (layout_from bounds) (line_at list line) line s
     operate-next c d ce de target te v w h g ve we p pe m me = rw (line-is o, operate-line, te, me, pe, back v h, back w g, ve, we, ce, de)
 
   module _ (o : OfKind bounds list words line operation 3) where
@@ -139,35 +137,35 @@ module _ {bounds : List ℕ} {list : List ℤ} {words line operation : ℕ} (s :
     fetch-within = subst (λ x. Within (numbers_is o) (line_count list) x) fetch-line (within-is o)
 
     module _ (d : Bool) (de : d ≡ right_constant operation) (array : ℕ) (ae : array ≡ natural (field_at list line 2)) (v : ℤ) (h : mag v < 2 ^ 31)
-        (ve : v ≡ value_of (operand_of d (field_at list line 3)) s) (l : Located) (le : located l ≡ element_word (get_or bounds array 0) (get_or bounds (array + 1) 0 - get_or bounds array 0) (again v)) where
-      fetch-element : element_word (array_base (layout_from bounds) (natural (field_at list line 2))) (array_length (layout_from bounds) (natural (field_at list line 2))) (value_of (operand_of (right_constant operation) (field_at list line 3)) s) ≡ located l
+        (ve : v ≡ value_of (operand_of d (field_at list line 3)) s) (l : Result ℕ FaultSort) (le : l ≡ element_word (get_or bounds array 0) (get_or bounds (array + 1) 0 - get_or bounds array 0) (again v)) where
+      fetch-element : element_word (array_base (layout_from bounds) (natural (field_at list line 2))) (array_length (layout_from bounds) (natural (field_at list line 2))) (value_of (operand_of (right_constant operation) (field_at list line 3)) s) ≡ l
       fetch-element = element-is bounds (layout_from bounds) (natural (field_at list line 2)) array ae (lies o (natural (field_at list line 2)) fetch-within.1) v _ h (ve ∙ ap (λ b. value_of (operand_of b (field_at list line 3)) s) de) l le
 
-      pub fetch-fails : l ≡ Outside → Makes s (Fails Index) s (next_of (layout_from bounds) (line_at list line) line s)
-      fetch-fails e = rw (line-is o ∙ fetch-line, fetch-element, e) (refl, refl)
+      pub fetch-fails : (sort : FaultSort) → l ≡ Err sort → Makes s (Err sort) s (next_of (layout_from bounds) (line_at list line) line s)
+      fetch-fails sort e = rw (line-is o ∙ fetch-line, fetch-element, e) (refl, refl)
 
-      pub fetch-next : (at : ℕ) → l ≡ LiesAt at → (target : ℕ) → target ≡ natural (field_at list line 1) → (w : ℤ) → mag w < 2 ^ 31 → w ≡ get_or s at (pos 0)
-          → onward line (stored target s (value (again w))) ≡ next_of (layout_from bounds) (line_at list line) line s
+      pub fetch-next : (at : ℕ) → l ≡ Ok at → (target : ℕ) → target ≡ natural (field_at list line 1) → (w : ℤ) → mag w < 2 ^ 31 → w ≡ get_or s at (pos 0)
+          → onward line (stored target s (Ok (again w))) ≡ next_of (layout_from bounds) (line_at list line) line s
       fetch-next at e target te w g we = rw (line-is o ∙ fetch-line, fetch-element, e, te, back w g, we)
 
-      pub fetch-inside : (at : ℕ) → l ≡ LiesAt at → at < words
-      fetch-inside at e = element-inside-store o (natural (field_at list line 2)) fetch-within.1 (again v) at (rw ae at (sym le ∙ ap located e))
+      pub fetch-inside : (at : ℕ) → l ≡ Ok at → at < words
+      fetch-inside at e = element-inside-store o (natural (field_at list line 2)) fetch-within.1 (again v) at (rw ae at (sym le ∙ e))
 
   module _ (o : OfKind bounds list words line operation 21) (c d : Bool) (ce : c ≡ left_constant operation) (de : d ≡ right_constant operation) (array : ℕ) (ae : array ≡ natural (field_at list line 1))
-      (v : ℤ) (h : mag v < 2 ^ 31) (ve : v ≡ value_of (operand_of c (field_at list line 2)) s) (l : Located) (le : located l ≡ element_word (get_or bounds array 0) (get_or bounds (array + 1) 0 - get_or bounds array 0) (again v)) where
-    put-element : element_word (array_base (layout_from bounds) (natural (field_at list line 1))) (array_length (layout_from bounds) (natural (field_at list line 1))) (value_of (operand_of (left_constant operation) (field_at list line 2)) s) ≡ located l
+      (v : ℤ) (h : mag v < 2 ^ 31) (ve : v ≡ value_of (operand_of c (field_at list line 2)) s) (l : Result ℕ FaultSort) (le : l ≡ element_word (get_or bounds array 0) (get_or bounds (array + 1) 0 - get_or bounds array 0) (again v)) where
+    put-element : element_word (array_base (layout_from bounds) (natural (field_at list line 1))) (array_length (layout_from bounds) (natural (field_at list line 1))) (value_of (operand_of (left_constant operation) (field_at list line 2)) s) ≡ l
     put-element = element-is bounds (layout_from bounds) (natural (field_at list line 1)) array ae (lies o (natural (field_at list line 1)) (within-is o).0) v _ h (ve ∙ ap (λ b. value_of (operand_of b (field_at list line 2)) s) ce) l le
 
-    pub put-fails : l ≡ Outside → Makes s (Fails Index) s (next_of (layout_from bounds) (line_at list line) line s)
-    put-fails e = rw (line-is o, put-element, e) (refl, refl)
+    pub put-fails : (sort : FaultSort) → l ≡ Err sort → Makes s (Err sort) s (next_of (layout_from bounds) (line_at list line) line s)
+    put-fails sort e = rw (line-is o, put-element, e) (refl, refl)
 
-    pub put_next : (at : ℕ) → l ≡ LiesAt at → (w : ℤ) → mag w < 2 ^ 31 → w ≡ value_of (operand_of d (field_at list line 3)) s
-        → onward line (stored at s (value (again w))) ≡ next_of (layout_from bounds) (line_at list line) line s
+    pub put_next : (at : ℕ) → l ≡ Ok at → (w : ℤ) → mag w < 2 ^ 31 → w ≡ value_of (operand_of d (field_at list line 3)) s
+        → onward line (stored at s (Ok (again w))) ≡ next_of (layout_from bounds) (line_at list line) line s
     put_next at e w g we = rw (line-is o, put-element, e, back w g, we, de)
 
-    pub put-inside : (at : ℕ) → l ≡ LiesAt at → at < words
+    pub put-inside : (at : ℕ) → l ≡ Ok at → at < words
     put-inside at e =
-        element-inside-store o (natural (field_at list line 1)) (within-is o).0 (again v) at (rw ae at (sym le ∙ ap located e))
+        element-inside-store o (natural (field_at list line 1)) (within-is o).0 (again v) at (rw ae at (sym le ∙ e))
 
   -- ---- jumps
 
@@ -175,26 +173,26 @@ module _ {bounds : List ℕ} {list : List ℤ} {words line operation : ℕ} (s :
     zero_test : is_true (value_of (operand_of (left_constant operation) (field_at list line 2)) s) ≡ t
     zero_test = sym (te ∙ ap is_true (back v h ∙ ve ∙ ap (λ b. value_of (operand_of b (field_at list line 2)) s) ce))
 
-    pub zero-stays : t ≡ true → Makes s (At (line + 1)) s (next_of (layout_from bounds) (line_at list line) line s)
-    zero-stays e = rw (line-is o, zero_test, e) (ap At (add-one line), refl)
+    pub zero-stays : t ≡ true → Makes s (Ok (line + 1)) s (next_of (layout_from bounds) (line_at list line) line s)
+    zero-stays e = rw (line-is o, zero_test, e) (ap Ok (add-one line), refl)
 
-    pub zero-jumps : t ≡ false → (j : ℕ) → j ≡ target_of line (field_at list line 4) → Makes s (At j) s (next_of (layout_from bounds) (line_at list line) line s)
-    zero-jumps e j je = rw (line-is o, zero_test, e) (ap At je, refl)
+    pub zero-jumps : t ≡ false → (j : ℕ) → j ≡ target_of line (field_at list line 4) → Makes s (Ok j) s (next_of (layout_from bounds) (line_at list line) line s)
+    zero-jumps e j je = rw (line-is o, zero_test, e) (ap Ok je, refl)
 
   module _ (o : OfKind bounds list words line operation 44) (c : Bool) (ce : c ≡ left_constant operation) (v : ℤ) (h : mag v < 2 ^ 31) (ve : v ≡ value_of (operand_of c (field_at list line 2)) s) (t : Bool) (te : t ≡ is_true (again v)) where
     other_test : is_true (value_of (operand_of (left_constant operation) (field_at list line 2)) s) ≡ t
     other_test = sym (te ∙ ap is_true (back v h ∙ ve ∙ ap (λ b. value_of (operand_of b (field_at list line 2)) s) ce))
 
-    pub other-stays : t ≡ false → Makes s (At (line + 1)) s (next_of (layout_from bounds) (line_at list line) line s)
-    other-stays e = rw (line-is o, other_test, e) (ap At (add-one line), refl)
+    pub other-stays : t ≡ false → Makes s (Ok (line + 1)) s (next_of (layout_from bounds) (line_at list line) line s)
+    other-stays e = rw (line-is o, other_test, e) (ap Ok (add-one line), refl)
 
-    pub other-jumps : t ≡ true → (j : ℕ) → j ≡ target_of line (field_at list line 4) → Makes s (At j) s (next_of (layout_from bounds) (line_at list line) line s)
-    other-jumps e j je = rw (line-is o, other_test, e) (ap At je, refl)
+    pub other-jumps : t ≡ true → (j : ℕ) → j ≡ target_of line (field_at list line 4) → Makes s (Ok j) s (next_of (layout_from bounds) (line_at list line) line s)
+    other-jumps e j je = rw (line-is o, other_test, e) (ap Ok je, refl)
 
-  pub jump-next : OfKind bounds list words line operation 52 → (j : ℕ) → j ≡ target_of line (field_at list line 4) → Makes s (At j) s (next_of (layout_from bounds) (line_at list line) line s)
-  jump-next o j je = rw (line-is o) (ap At je, refl)
+  pub jump-next : OfKind bounds list words line operation 52 → (j : ℕ) → j ≡ target_of line (field_at list line 4) → Makes s (Ok j) s (next_of (layout_from bounds) (line_at list line) line s)
+  jump-next o j je = rw (line-is o) (ap Ok je, refl)
 
-  pub abort_fails : OfKind bounds list words line operation 57 → Makes s (Fails Guard) s (next_of (layout_from bounds) (line_at list line) line s)
+  pub abort_fails : OfKind bounds list words line operation 57 → Makes s (Err Guard) s (next_of (layout_from bounds) (line_at list line) line s)
   abort_fails o = rw (line-is o) (refl, refl)
 
 -- ---- the kind that is left

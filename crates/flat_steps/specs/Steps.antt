@@ -1,5 +1,6 @@
 -- Steps: what the code's answer for a line says, and what it asks of a list, a line and a store.
-use Rattle.std.specs.Prelude.{◌≡◌, Bool, true, false, List, ℕ, ◌+◌, ◌*◌, ◌<◌, ◌≤◌, ℤ, length}
+use Rattle.std.specs.Prelude.{◌≡◌, Bool, true, false, List, ℕ, ◌+◌, ◌*◌, ◌<◌, ◌≤◌, ℤ, length, Err, Ok, Result}
+use Rattle.words.specs.declared.FaultSort.{FaultSort}
 use Rattle.words.specs.Word.{natural}
 use Rattle.words.specs.Layout.{store_size}
 use Rattle.check_fields.specs.Fields.{bounds_in}
@@ -10,13 +11,11 @@ use Rattle.flat.specs.Words.{line_count, field_at, operation_at, kind_of, left_c
 use Rattle.flat.specs.Refusal.{lands_inside}
 use Rattle.flat.specs.Legal.{Within}
 use Rattle.flat.specs.LineKinds.{LineKind}
-use Rattle.flat_steps.specs.declared.Step.{Step}
-use Rattle.flat_steps.specs.declared.Step.TheVariants.{At, Fails}
 
 -- A line made with the store `before` was answered so, and left the store `after`: a fault leaves it as it was.
-abbrev pub Makes : List ℤ → Step → List ℤ → Next → Type 0
-Makes before step after (goes j store) = (step ≡ At j) × (after ≡ store)
-Makes before step after (faults sort) = (step ≡ Fails sort) × (after ≡ before)
+abbrev pub Makes : List ℤ → Result ℕ FaultSort → List ℤ → Next → Type 0
+Makes before step after (goes j store) = (step ≡ Ok j) × (after ≡ store)
+Makes before step after (faults sort) = (step ≡ Err sort) × (after ≡ before)
 Makes before step after ends = ⊥
 
 -- An operand's word; where it is no constant, it names a word of a store of so many.

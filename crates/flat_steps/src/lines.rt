@@ -2,49 +2,53 @@
 ghost use Rattle.std.specs.Prelude.{◌≡◌, true, length, ◌-◌};
 ghost use Rattle.words.specs.Kinds.{between, operator_of};
 ghost use Rattle.arithmetic.specs.Arithmetic.{apply as apply_of};
-ghost use Rattle.arithmetic.specs.Answers.{computed as computed_of};
 ghost use Rattle.machine_operations.specs.Bounds.{layout_from};
 ghost use Rattle.flat.specs.Lines.{next_of};
 ghost use Rattle.flat.specs.Words.{line_at};
 ghost use Rattle.flat_steps.specs.Steps.{Makes, ReadyLine, OfKind};
 
-use super::Step;
 use super::operands::{assign, locate, number_at, operand, target_of};
-use arithmetic::{
-    Computed, Located, add, bit, divide, is_true, minus, multiply, remainder, subtract,
-};
+use arithmetic::{add, bit, divide, is_true, minus, multiply, remainder, subtract};
 use flat::lines::{left_constant, operation_kind, right_constant};
 use machine_operations::operations::is_binary;
 use words::FaultSort;
 
 // Kind 1: a value is stored.
-fn copy(list: &[i32], bounds: &[usize], line: usize, operation: usize, store: &mut [i32]) -> Step
+fn copy(
+    list: &[i32],
+    bounds: &[usize],
+    line: usize,
+    operation: usize,
+    store: &mut [i32],
+) -> Result<usize, FaultSort>
     requires { OfKind bounds.now list.now (length store.old) line operation 1 }
     ensures { Makes store.old result store.new (next_of (layout_from bounds.now) (line_at list.now line) line store.old) }
 {
     let value = operand(list, line, 2, left_constant(operation), store);
-    assign(
-        Computed::Value(value),
-        number_at(list, line, 1),
-        line,
-        store,
-    )
+    Ok(assign(value, number_at(list, line, 1), line, store))
 }
 
 // Kind 4: minus.
-fn negate(list: &[i32], bounds: &[usize], line: usize, operation: usize, store: &mut [i32]) -> Step
+fn negate(
+    list: &[i32],
+    bounds: &[usize],
+    line: usize,
+    operation: usize,
+    store: &mut [i32],
+) -> Result<usize, FaultSort>
     requires { OfKind bounds.now list.now (length store.old) line operation 4 }
     ensures { Makes store.old result store.new (next_of (layout_from bounds.now) (line_at list.now line) line store.old) }
 {
-    let value = operand(list, line, 2, left_constant(operation), store);
-    assign(minus(value), number_at(list, line, 1), line, store)
+    let word = operand(list, line, 2, left_constant(operation), store);
+    let value = minus(word)?;
+    Ok(assign(value, number_at(list, line, 1), line, store))
 }
 
 // What an operation gives. This is for `operate` alone, so that the compiler builds it in: what `apply` gives would come back through
 // memory.
-fn outcome(kind: usize, left: i32, right: i32) -> Computed
+fn outcome(kind: usize, left: i32, right: i32) -> Result<i32, FaultSort>
     requires { between 6 16 kind ≡ true }
-    ensures { computed_of result ≡ apply_of (operator_of (kind - 6)) left right }
+    ensures { result ≡ apply_of (operator_of (kind - 6)) left right }
 {
     match kind {
         6 => add(left, right),
@@ -52,12 +56,12 @@ fn outcome(kind: usize, left: i32, right: i32) -> Computed
         8 => multiply(left, right),
         9 => divide(left, right),
         10 => remainder(left, right),
-        11 => Computed::Value(bit(left < right)),
-        12 => Computed::Value(bit(right < left)),
-        13 => Computed::Value(bit(left <= right)),
-        14 => Computed::Value(bit(right <= left)),
-        15 => Computed::Value(bit(left == right)),
-        _ => Computed::Value(bit(left != right)),
+        11 => Ok(bit(left < right)),
+        12 => Ok(bit(right < left)),
+        13 => Ok(bit(left <= right)),
+        14 => Ok(bit(right <= left)),
+        15 => Ok(bit(left == right)),
+        _ => Ok(bit(left != right)),
     }
 }
 
@@ -69,76 +73,94 @@ fn operate(
     operation: usize,
     kind: usize,
     store: &mut [i32],
-) -> Step
+) -> Result<usize, FaultSort>
     requires { OfKind bounds.now list.now (length store.old) line operation kind × (between 6 16 kind ≡ true) }
     ensures { Makes store.old result store.new (next_of (layout_from bounds.now) (line_at list.now line) line store.old) }
 {
     let left = operand(list, line, 2, left_constant(operation), store);
     let right = operand(list, line, 3, right_constant(operation), store);
-    let result = outcome(kind, left, right);
-    assign(result, number_at(list, line, 1), line, store)
+    let value = outcome(kind, left, right)?;
+    Ok(assign(value, number_at(list, line, 1), line, store))
 }
 
 // Kind 3: an element is stored.
-fn fetch(list: &[i32], bounds: &[usize], line: usize, operation: usize, store: &mut [i32]) -> Step
+fn fetch(
+    list: &[i32],
+    bounds: &[usize],
+    line: usize,
+    operation: usize,
+    store: &mut [i32],
+) -> Result<usize, FaultSort>
     requires { OfKind bounds.now list.now (length store.old) line operation 3 }
     ensures { Makes store.old result store.new (next_of (layout_from bounds.now) (line_at list.now line) line store.old) }
 {
     let index = operand(list, line, 3, right_constant(operation), store);
-    let located = locate(bounds, number_at(list, line, 2), index);
-    let Located::At(at) = located else {
-        return Step::Fails(FaultSort::Index);
-    };
+    let at = locate(bounds, number_at(list, line, 2), index)?;
     let value = store[at];
-    assign(
-        Computed::Value(value),
-        number_at(list, line, 1),
-        line,
-        store,
-    )
+    Ok(assign(value, number_at(list, line, 1), line, store))
 }
 
 // Kind 21: a value is stored in an element.
-fn put(list: &[i32], bounds: &[usize], line: usize, operation: usize, store: &mut [i32]) -> Step
+fn put(
+    list: &[i32],
+    bounds: &[usize],
+    line: usize,
+    operation: usize,
+    store: &mut [i32],
+) -> Result<usize, FaultSort>
     requires { OfKind bounds.now list.now (length store.old) line operation 21 }
     ensures { Makes store.old result store.new (next_of (layout_from bounds.now) (line_at list.now line) line store.old) }
 {
     let value = operand(list, line, 3, right_constant(operation), store);
     let index = operand(list, line, 2, left_constant(operation), store);
-    let located = locate(bounds, number_at(list, line, 1), index);
-    let Located::At(at) = located else {
-        return Step::Fails(FaultSort::Index);
-    };
-    assign(Computed::Value(value), at, line, store)
+    let at = locate(bounds, number_at(list, line, 1), index)?;
+    Ok(assign(value, at, line, store))
 }
 
 // Kind 43: a jump where the operand is 0.
-fn jump_zero(list: &[i32], bounds: &[usize], line: usize, operation: usize, store: &[i32]) -> Step
+fn jump_zero(
+    list: &[i32],
+    bounds: &[usize],
+    line: usize,
+    operation: usize,
+    store: &[i32],
+) -> Result<usize, FaultSort>
     requires { OfKind bounds.now list.now (length store.now) line operation 43 }
     ensures { Makes store.now result store.now (next_of (layout_from bounds.now) (line_at list.now line) line store.now) }
 {
     let value = operand(list, line, 2, left_constant(operation), store);
     if is_true(value) {
-        return Step::At(line + 1);
+        return Ok(line + 1);
     }
-    Step::At(target_of(list, line))
+    Ok(target_of(list, line))
 }
 
 // Kind 44: a jump where the operand is not 0.
-fn jump_other(list: &[i32], bounds: &[usize], line: usize, operation: usize, store: &[i32]) -> Step
+fn jump_other(
+    list: &[i32],
+    bounds: &[usize],
+    line: usize,
+    operation: usize,
+    store: &[i32],
+) -> Result<usize, FaultSort>
     requires { OfKind bounds.now list.now (length store.now) line operation 44 }
     ensures { Makes store.now result store.now (next_of (layout_from bounds.now) (line_at list.now line) line store.now) }
 {
     let value = operand(list, line, 2, left_constant(operation), store);
     if is_true(value) {
-        return Step::At(target_of(list, line));
+        return Ok(target_of(list, line));
     }
-    Step::At(line + 1)
+    Ok(line + 1)
 }
 
 // A line is made. Kind 43 and kinds 6 to 16 are the most frequent, and have no table of places in front; kind 4, the last, is the most
 // seldom.
-pub fn make(list: &[i32], bounds: &[usize], line: usize, store: &mut [i32]) -> Step
+pub fn make(
+    list: &[i32],
+    bounds: &[usize],
+    line: usize,
+    store: &mut [i32],
+) -> Result<usize, FaultSort>
     requires { ReadyLine bounds.now list.now (length store.old) line }
     ensures { Makes store.old result store.new (next_of (layout_from bounds.now) (line_at list.now line) line store.old) }
 {
@@ -154,7 +176,7 @@ pub fn make(list: &[i32], bounds: &[usize], line: usize, store: &mut [i32]) -> S
         return copy(list, bounds, line, operation, store);
     }
     if kind == 52 {
-        return Step::At(target_of(list, line));
+        return Ok(target_of(list, line));
     }
     if kind == 3 {
         return fetch(list, bounds, line, operation, store);
@@ -166,7 +188,7 @@ pub fn make(list: &[i32], bounds: &[usize], line: usize, store: &mut [i32]) -> S
         return jump_other(list, bounds, line, operation, store);
     }
     if kind == 57 {
-        return Step::Fails(FaultSort::Guard);
+        return Err(FaultSort::Guard);
     }
     negate(list, bounds, line, operation, store)
 }

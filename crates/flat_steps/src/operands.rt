@@ -1,16 +1,15 @@
 // What lines are made of: the numbers and operands of a line, the store of a value, the target of a jump.
-ghost use Rattle.std.specs.Prelude.{◌≡◌, ◌+◌, ◌*◌, ◌-◌, ◌<◌, length, get_or};
+ghost use Rattle.std.specs.Prelude.{◌≡◌, ◌+◌, ◌*◌, ◌-◌, ◌<◌, length, get_or, set};
 ghost use Rattle.words.specs.Word.{natural as natural_of};
 ghost use Rattle.arithmetic.specs.Arithmetic.{element as element_of};
-ghost use Rattle.arithmetic.specs.Answers.{computed as computed_of, located as located_of};
 ghost use Rattle.machine_operations.specs.Ready.{Bounded};
-ghost use Rattle.flat.specs.Lines.{value_of, stored, onward};
+ghost use Rattle.flat.specs.Lines.{value_of};
 ghost use Rattle.flat.specs.Words.{field_at, operand_of, target_of};
-ghost use Rattle.flat_steps.specs.Steps.{Makes, ReadyOperand, ReadyJump};
+ghost use Rattle.flat_steps.specs.Steps.{ReadyOperand, ReadyJump};
 
-use super::Step;
-use arithmetic::{Computed, Located, element};
+use arithmetic::element;
 use flat::lines::word_at;
+use words::FaultSort;
 
 // A field that is no negative word, as the number it names.
 pub fn number_at(list: &[i32], line: usize, field: usize) -> usize
@@ -32,18 +31,13 @@ pub fn operand(list: &[i32], line: usize, field: usize, constant: bool, store: &
     store[at]
 }
 
-// What an operation gave is stored, and the following line comes next; or its fault stops the run.
-pub fn assign(res: Computed, target: usize, line: usize, store: &mut [i32]) -> Step
+// A value is stored, and the following line comes next.
+pub fn assign(value: i32, target: usize, line: usize, store: &mut [i32]) -> usize
     requires { (target < length store.old) × (line < 9223372036854775808) }
-    ensures { Makes store.old result store.new (onward line (stored target store.old (computed_of res))) }
+    ensures { (result ≡ line + 1) × (store.new ≡ set store.old target value) }
 {
-    match res {
-        Computed::Value(value) => {
-            store[target] = value;
-            Step::At(line + 1)
-        }
-        Computed::Fails(sort) => Step::Fails(sort),
-    }
+    store[target] = value;
+    line + 1
 }
 
 // Where a jump goes: "a signed jump distance counted from the following line". One sum, since the next line's words wait for it.
@@ -56,11 +50,11 @@ pub fn target_of(list: &[i32], line: usize) -> usize
 }
 
 // The bounds test: an array lies from its own bound up to the next.
-pub fn locate(bounds: &[usize], array: usize, index: i32) -> Located
+pub fn locate(bounds: &[usize], array: usize, index: i32) -> Result<usize, FaultSort>
     requires { Bounded bounds.now array }
-    ensures { located_of result ≡ element_of (get_or bounds.now array 0) (get_or bounds.now (array + 1) 0 - get_or bounds.now array 0) index }
+    ensures { result ≡ element_of (get_or bounds.now array 0) (get_or bounds.now (array + 1) 0 - get_or bounds.now array 0) index }
 {
     let base = bounds[array];
     let end = bounds[array + 1];
-    element(base, end - base, index)
+    element(base, end - base, index).ok_or(FaultSort::Index)
 }

@@ -1,8 +1,9 @@
 -- The bytes that words leave of a room, counted down word by word; and whether a text fits.
+use Rattle.std.specs.Prelude.{None, Option, Some}
+use Rattle.std.specs.Option.{is_some}
 use mathlib.Core.Path.{◌≡◌, sym, ap}
 use mathlib.Core.Bool.{true, false}
 use mathlib.Core.List.{List}
-use mathlib.Core.Option.{none, some}
 use Prim.Native.Nat.{ℕ, ◌+◌, ◌*◌, ◌-◌, ◌^◌, ◌≤◌, ◌<◌}
 use native.Mathlib.Omega.{arith}
 use lib.Dec.{leb}
@@ -22,11 +23,11 @@ use Rattle.flat_text.specs.Writer.{left_of}
 
 -- ---- what is left
 
-left-enough : (room size : ℕ) → size ≤ room → some (room - size) ≡ left_of room size
+left-enough : (room size : ℕ) → size ≤ room → Some (room - size) ≡ left_of room size
 unfolding left_of
 left-enough room size h = rw (le-leb size room h)
 
-left-short : (room size : ℕ) → room < size → none ≡ left_of room size
+left-short : (room size : ℕ) → room < size → None ≡ left_of room size
 unfolding left_of
 left-short room size h = rw (lt-leb size room h)
 
@@ -35,14 +36,14 @@ pub record Leaves (room size left : ℕ) : Type 0 where
   pub fits : size ≤ room
   pub rest : left ≡ room - size
 
-pub leaves_of : (room size left : ℕ) → some left ≡ left_of room size → Leaves room size left
+pub leaves_of : (room size left : ℕ) → Some left ≡ left_of room size → Leaves room size left
 unfolding left_of
 leaves_of room size left e =
     by_cases (leb size room)
-    (λ t. let same : some left ≡ some (room - size) = rw t at e in record { fits = leb-true _ _ t; rest = cc })
+    (λ t. let same : Some left ≡ Some (room - size) = rw t at e in record { fits = leb-true _ _ t; rest = cc })
     (λ t. not_some (sym (rw t at e)))
 
-pub short-of : (room size : ℕ) → none ≡ left_of room size → room < size
+pub short-of : (room size : ℕ) → None ≡ left_of room size → room < size
 unfolding left_of
 short-of room size e = by_cases (leb size room) (λ t. not_some (rw t at e)) (λ t. leb-false _ _ t)
 
@@ -62,7 +63,7 @@ bytes-fewer : (n : ℕ) (words : List ℤ) → bytes_of (take n words) ≤ bytes
 bytes-fewer n words = omega (arith, bytes-append (take n words) (drop n words), ap bytes_of (take-append-drop n words))
 
 module _ {words : List ℤ} {room left i : ℕ} (b : Behind words room left i) where
-  pub behind-end : length words ≤ i → some left ≡ left_of room (bytes_of words)
+  pub behind-end : length words ≤ i → Some left ≡ left_of room (bytes_of words)
   behind-end h =
       let m = summed-end b.summed h in
       let e : left ≡ room - bytes_of words = omega (arith, m.sum, b.within) in
@@ -72,7 +73,7 @@ module _ {words : List ℤ} {room left i : ℕ} (b : Behind words room left i) w
     more : Summed words (room - left + (count + 1)) (i + 1)
     more = summed-next b.summed h f count e
 
-    pub behind-short : left < count + 1 → none ≡ left_of room (bytes_of words)
+    pub behind-short : left < count + 1 → None ≡ left_of room (bytes_of words)
     behind-short s = left-short room (bytes_of words) (omega (arith, more.sum, bytes-fewer (i + 1) words, b.within))
 
     pub behind-next : count + 1 ≤ left → Behind words room (left - (count + 1)) (i + 1)
@@ -90,8 +91,13 @@ module _ (header list : List ℤ) (filled : 0 < length header) (whole : length l
   header-short h = sym (lt-leb (length (flat_bytes header list)) room (omega (arith, total)))
 
   module _ {left : ℕ} (l : Leaves room (bytes_of header) left) where
-    pub list-short : left < bytes_of list → false ≡ leb (length (flat_bytes header list)) room
+    list-short : left < bytes_of list → false ≡ leb (length (flat_bytes header list)) room
     list-short h = sym (lt-leb (length (flat_bytes header list)) room (omega (arith, total, l.fits, l.rest)))
 
-    pub list-fits : bytes_of list ≤ left → true ≡ leb (length (flat_bytes header list)) room
+    list-fits : bytes_of list ≤ left → true ≡ leb (length (flat_bytes header list)) room
     list-fits h = sym (le-leb (length (flat_bytes header list)) room (omega (arith, total, l.fits, l.rest)))
+
+    -- whether the list leaves something of what the header left
+    pub list-told : (rest : Option ℕ) → rest ≡ left_of left (bytes_of list) → is_some rest ≡ leb (length (flat_bytes header list)) room
+    list-told None e = list-short (short-of left (bytes_of list) e)
+    list-told (Some n) e = list-fits (leaves_of left (bytes_of list) n e).fits

@@ -1,8 +1,7 @@
 -- ReaderLaws: what a reader of flat lists gives, by whether the first line is within its limits.
-use Rattle.std.specs.Prelude.{◌≡◌, refl, Bool, true, false, List, ℕ, ◌-◌, ℤ, take}
+use Rattle.std.specs.Prelude.{◌≡◌, refl, Bool, true, false, List, ℕ, ◌-◌, ℤ, take, Err, None, Option, Some}
 use Rattle.std.proofs.Common.{sym, ◌∙◌}
 use Rattle.std.proofs.Math.Path.{ap}
-use Rattle.std.proofs.Math.Option.{Option, none, some}
 use Rattle.words.specs.Layout.{header_fits}
 use Rattle.words.specs.Laws.{by_cases}
 use Rattle.words.specs.declared.Form.TheVariants.{Kernel}
@@ -12,15 +11,14 @@ use Rattle.text_form.specs.Text.{malformed}
 use Rattle.text_form.specs.Answers.{cause_unless, read_refused, read_program, tables_hold, Reads}
 use Rattle.text_form.specs.Reader.{HasLines, or_short, read_by}
 use Rattle.text_form.proofs.ReaderLaws.{lent-line}
-use Rattle.text_form.specs.declared.ReadAnswer.TheVariants.{Refused}
 use Rattle.flat_text.specs.Text.{parse_flat}
 use Rattle.flat_text.specs.Answers.{flat_cause, flat_parsed, flat_read_result}
 
-pub cause-fits : (header : List ℤ) → header_fits Kernel header ≡ true → flat_cause header true ≡ none
+pub cause-fits : (header : List ℤ) → header_fits Kernel header ≡ true → flat_cause header true ≡ None
 unfolding flat_cause cause_unless
 cause-fits header e = rw e
 
-pub cause-unfit : (header : List ℤ) → header_fits Kernel header ≡ false → flat_cause header true ≡ some 1
+pub cause-unfit : (header : List ℤ) → header_fits Kernel header ≡ false → flat_cause header true ≡ Some 1
 unfolding flat_cause cause_unless
 cause-unfit header e = rw e
 
@@ -30,7 +28,7 @@ unfolding flat_cause cause_unless or_short
 cause-by header room = by_cases (header_fits Kernel header) (λ t. rw t) (λ t. rw t)
 
 pub reads-malformed : (text : List ℕ) (header list : List ℤ) (line : ℕ) → parse_flat text ≡ malformed line
-    → Reads (flat_read_result text header list) (Refused (record { number = 14; place = line })) header list
+    → Reads (flat_read_result text header list) (Err (record { number = 14; place = line })) header list
 unfolding flat_read_result flat_parsed read_refused
 reads-malformed text header list line e = rw e (record { outcome = refl; header_left = refl; rows-left = refl })
 

@@ -8,12 +8,10 @@ ghost use Rattle.text_form.specs.Answers.{Reads};
 ghost use Rattle.text_form.specs.Reader.{HoldsExactly, cause_says, HasLines};
 ghost use Rattle.flat_text.specs.Answers.{flat_cause, flat_read_result};
 
-use text_form::ReadAnswer;
-use text_form::limits::Cause;
 use text_form::reader::store_text;
 use text_lines::line::store_numbers;
-use words::Form;
 use words::layout::header_fits;
+use words::{Cause, Form, Refusal};
 
 // Whether a text's header is within its limits.
 fn first_fits(line: &[u8], numbers: usize) -> bool
@@ -26,14 +24,14 @@ fn first_fits(line: &[u8], numbers: usize) -> bool
 }
 
 // The cause before 10 that a text meets, if any.
-fn text_cause(line: &[u8], numbers: usize) -> Cause
+fn text_cause(line: &[u8], numbers: usize) -> Option<Cause>
     requires { HoldsExactly (numbers_of (fields_of line.now)) numbers }
     ensures { cause_says result ≡ flat_cause (numbers_in (numbers_of (fields_of line.now))) true }
 {
     if first_fits(line, numbers) {
-        return Cause::Absent;
+        return None;
     }
-    Cause::Number(1)
+    Some(Cause::Header)
 }
 
 // Reads a well-formed text. A refusal leaves both tables as they were.
@@ -44,7 +42,7 @@ pub fn read_lines(
     words: usize,
     header: &mut [i32],
     list: &mut [i32],
-) -> ReadAnswer
+) -> Result<(usize, usize), Refusal>
     requires { HasLines 5 Kernel text.now end numbers words }
     ensures { Reads (flat_read_result text.now header.old list.old) result header.new list.new }
 {

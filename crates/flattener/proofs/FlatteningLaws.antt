@@ -1,6 +1,6 @@
 -- Laws of flattening: every kernel program without functions has its flat list; the list's exact size, from the table of sizes; what the
 -- code leaves is what the definition says.
-use Rattle.std.specs.Prelude.{◌≡◌, refl, Bool, true, false, List, ◌++◌, ℕ, ◌+◌, ◌*◌, ◌≤◌, ◌<◌, ℤ, leb, length, get_or, take, drop, replicate}
+use Rattle.std.specs.Prelude.{◌≡◌, refl, Bool, true, false, List, ◌++◌, ℕ, ◌+◌, ◌*◌, ◌≤◌, ◌<◌, ℤ, leb, length, get_or, take, drop, replicate, Err, Ok, Result}
 use Rattle.std.proofs.Common.{sym, ◌∙◌, arith, length-take-le, leb-true, le-leb}
 use Rattle.std.proofs.Math.Path.{ap}
 use Rattle.std.proofs.lemmas.List.{length-replicate, get_or-replicate}
@@ -11,8 +11,7 @@ use Rattle.words.specs.Over.{over}
 use Rattle.words.specs.OverLaws.{length_over, take-over}
 use Rattle.words.specs.Table.{row_count}
 use Rattle.words.specs.declared.Form.TheVariants.{Kernel}
-use Rattle.words.specs.declared.Refusal.{Refusal}
-use Rattle.words.specs.declared.Verdict.TheVariants.{Accepted, Refused}
+use Rattle.words.specs.Refusals.{NumberedRefusal}
 use Rattle.language.specs.Decode.{items_at}
 use Rattle.language.specs.Program.{contents}
 use Rattle.language.specs.Calls.{arity_in}
@@ -36,12 +35,10 @@ use Rattle.flat_fate.proofs.CodeLegal.{flattened-legal}
 use Rattle.flat_rows.proofs.Standing.{list-few}
 use Rattle.flat_sizes.specs.Tables.{Sized}
 use Rattle.flat_lines.specs.Lent.{Exact}
-use Rattle.flattener.specs.declared.FlattenAnswer.{FlattenAnswer}
-use Rattle.flattener.specs.declared.FlattenAnswer.TheVariants.{Flattened, Refused as FlattenRefused}
 use Rattle.flattener.specs.Flattening.{FlattenResult, answer_and_list, written, flatten_result, FlatFormOf, WroteList, WritesList}
 
 -- Every plain kernel program, foreign ones too, has its flat list.
-pub has-flat-form : (header rows : List ℤ) → plain_refusal header rows ≡ Accepted → FlatFormOf header rows (flattened rows)
+pub has-flat-form : (header rows : List ℤ) → plain_refusal header rows ≡ (Ok tt) → FlatFormOf header rows (flattened rows)
 unfolding flattened
 has-flat-form header rows e =
     let plain = accepted-plain header rows e in
@@ -78,14 +75,14 @@ module _ {rows : List ℤ} (table : KernelTable rows) where
   lines-few = omega (arith, list-size, list-few table.header rows plain)
 
   -- where the list is too short nothing is written
-  pub too-short : (out : List ℤ) (words : ℕ) → words ≡ length (flattened rows) → length out < words → answer_and_list (FlattenRefused (record { number = 10; place = 0 })) out ≡ written (flattened rows) out
+  pub too-short : (out : List ℤ) (words : ℕ) → words ≡ length (flattened rows) → length out < words → answer_and_list (Err (record { number = 10; place = 0 })) out ≡ written (flattened rows) out
   too-short out words e h = rw (lt-leb (length (flattened rows)) (length out) (omega arith))
 
   -- else it stands in the part that it takes
   pub exact-part : (out : List ℤ) (words : ℕ) → words ≡ length (flattened rows) → words ≤ length out → Exact rows (take words out)
   exact-part out words e h = length-take-le words out h ∙ e ∙ list-size
 
-  pub list_put : (out part : List ℤ) (words : ℕ) → words ≡ length (flattened rows) → words ≤ length out → part ≡ flattened rows → answer_and_list (Flattened words) (part ++ drop words out) ≡ written (flattened rows) out
+  pub list_put : (out part : List ℤ) (words : ℕ) → words ≡ length (flattened rows) → words ≤ length out → part ≡ flattened rows → answer_and_list (Ok words) (part ++ drop words out) ≡ written (flattened rows) out
   unfolding over
   list_put out part words e h f = rw (le-leb (length (flattened rows)) (length out) (omega arith), e, f)
 
@@ -100,26 +97,26 @@ zeros-first room h = get_or-replicate room 0 0 0 h
 -- ---- the check's answer comes first
 
 module _ (header rows out : List ℤ) where
-  pub refused-first : (refusal : Refusal) → plain_refusal header rows ≡ Refused refusal → answer_and_list (FlattenRefused refusal) out ≡ flatten_result header rows out
+  pub refused-first : (refusal : NumberedRefusal) → plain_refusal header rows ≡ Err refusal → answer_and_list (Err refusal) out ≡ flatten_result header rows out
   unfolding flatten_result
   refused-first refusal e = rw e
 
-  pub accepted-next : (result : FlattenResult) → plain_refusal header rows ≡ Accepted → result ≡ written (flattened rows) out → result ≡ flatten_result header rows out
+  pub accepted-next : (result : FlattenResult) → plain_refusal header rows ≡ (Ok tt) → result ≡ written (flattened rows) out → result ≡ flatten_result header rows out
   unfolding flatten_result
   accepted-next result e f = rw e f
 
   -- ---- what is written has the flat form
 
-  module _ (e : plain_refusal header rows ≡ Accepted) (left : List ℤ) where
-    wrote : (words : ℕ) → Flattened words ≡ Flattened (length (flattened rows)) → left ≡ over (flattened rows) out → length (flattened rows) ≤ length out → WroteList header rows words left
+  module _ (e : plain_refusal header rows ≡ (Ok tt)) (left : List ℤ) where
+    wrote : (words : ℕ) → ◌≡◌ {A = Result ℕ NumberedRefusal} (Ok words) (Ok (length (flattened rows))) → left ≡ over (flattened rows) out → length (flattened rows) ≤ length out → WroteList header rows words left
     wrote words f g h =
         let same : words ≡ length (flattened rows) = cc in
         record { inside = omega (arith, length_over (flattened rows) out left g h); form = rw (same, g, take-over (flattened rows) out) (has-flat-form header rows e) }
 
-    writes : (answer : FlattenAnswer) (test : Bool) → leb (length (flattened rows)) (length out) ≡ test → answer_and_list answer left ≡ pick test (answer_and_list (Flattened (length (flattened rows))) (over (flattened rows) out)) (answer_and_list (FlattenRefused (record { number = 10; place = 0 })) out) → WritesList header rows answer left
-    writes (Flattened words) true t f = wrote words (ap (λ (r : FlattenResult). r.answer) f) (ap (λ (r : FlattenResult). r.list) f) (leb-true (length (flattened rows)) (length out) t)
-    writes (Flattened words) false t f = absurd (let told : Flattened words ≡ FlattenRefused (record { number = 10; place = 0 }) = ap (λ (r : FlattenResult). r.answer) f in let z : ◌≡◌ {A = ℕ} 0 1 = cc in omega arith)
-    writes (FlattenRefused refusal) test t f = tt
+    writes : (answer : Result ℕ NumberedRefusal) (test : Bool) → leb (length (flattened rows)) (length out) ≡ test → answer_and_list answer left ≡ pick test (answer_and_list (Ok (length (flattened rows))) (over (flattened rows) out)) (answer_and_list (Err (record { number = 10; place = 0 })) out) → WritesList header rows answer left
+    writes (Ok words) true t f = wrote words (ap (λ (r : FlattenResult). r.answer) f) (ap (λ (r : FlattenResult). r.list) f) (leb-true (length (flattened rows)) (length out) t)
+    writes (Ok words) false t f = absurd (let told : ◌≡◌ {A = Result ℕ NumberedRefusal} (Ok words) (Err (record { number = 10; place = 0 })) = ap (λ (r : FlattenResult). r.answer) f in let z : ◌≡◌ {A = ℕ} 0 1 = cc in omega arith)
+    writes (Err refusal) test t f = tt
 
-    pub written-form : (answer : FlattenAnswer) → answer_and_list answer left ≡ written (flattened rows) out → WritesList header rows answer left
+    pub written-form : (answer : Result ℕ NumberedRefusal) → answer_and_list answer left ≡ written (flattened rows) out → WritesList header rows answer left
     written-form answer f = writes answer (leb (length (flattened rows)) (length out)) refl f

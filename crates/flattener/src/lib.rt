@@ -12,14 +12,7 @@ use check_structure::row_number::wide;
 use flat_lines::rows::put_rows;
 use flat_sizes::places::place_rows;
 use flat_sizes::sizes::size_rows;
-use words::{Refusal, Verdict};
-
-// What flattening answers: how many words the list has.
-#[derive(Clone, Copy)]
-pub enum FlattenAnswer {
-    Flattened(usize),
-    Refused(Refusal),
-}
+use words::{Cause, Refusal};
 
 // The lines of rows and labels, then the words, into a list that has room for them and no more.
 fn write_sized(rows: &[i32], sizes: &[u16], out: &mut [i32])
@@ -33,7 +26,7 @@ fn write_sized(rows: &[i32], sizes: &[u16], out: &mut [i32])
 }
 
 // Writes the list of a plain kernel table: cause 10, before the first word is written.
-fn flatten_accepted(rows: &[i32], out: &mut [i32]) -> FlattenAnswer
+fn flatten_accepted(rows: &[i32], out: &mut [i32]) -> Result<usize, Refusal>
     requires { KernelTable rows.now }
     ensures { answer_and_list result out.new ≡ written (flattened rows.now) out.old }
 {
@@ -41,24 +34,24 @@ fn flatten_accepted(rows: &[i32], out: &mut [i32]) -> FlattenAnswer
     size_rows(rows, &mut sizes);
     let words = 5 * wide(sizes[0]);
     if words > out.len() {
-        return FlattenAnswer::Refused(Refusal {
-            number: 10,
+        return Err(Refusal {
+            cause: Cause::NoRoom,
             place: 0,
         });
     }
     write_sized(rows, &sizes, &mut out[..words]);
-    FlattenAnswer::Flattened(words)
+    Ok(words)
 }
 
 // Flattens a kernel program: the kernel check's causes, 25 where it has functions, then 10. The second promise is about the words that were
 // written: the list's own check takes them, they are as many as they must be, and both runs share their fate.
-pub fn flatten(header: &[i32], rows: &[i32], out: &mut [i32]) -> FlattenAnswer
+pub fn flatten(header: &[i32], rows: &[i32], out: &mut [i32]) -> Result<usize, Refusal>
     ensures out_after { answer_and_list result out.new ≡ flatten_result header.now rows.now out.old }
     ensures writes_list { WritesList header.now rows.now result out.new }
 {
     let verdict = check_plain::check(header, rows);
     match verdict {
-        Verdict::Accepted => flatten_accepted(rows, out),
-        Verdict::Refused(refusal) => FlattenAnswer::Refused(refusal),
+        Ok(()) => flatten_accepted(rows, out),
+        Err(refusal) => Err(refusal),
     }
 }

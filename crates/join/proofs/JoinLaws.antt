@@ -1,5 +1,5 @@
 -- Laws of joins: a join worked by hand; the order of a join's own causes; what is not refused is legal, and so is its join.
-use Rattle.std.specs.Prelude.{◌≡◌, refl, true, false, ℕ, leb, ℤ, pos}
+use Rattle.std.specs.Prelude.{◌≡◌, refl, true, false, ℕ, leb, ℤ, pos, Err, None, Ok, Some}
 use Rattle.std.proofs.Common.{sym, ap₂}
 use Rattle.std.proofs.Math.Path.{subst}
 use Rattle.std.proofs.lemmas.Bool.{false≢true}
@@ -13,8 +13,6 @@ use Rattle.words.specs.Kinds.{kinds, kind_in, kind_of, is_link, kind_row, expres
 use Rattle.words.specs.Links.{link, target, linker, received, note_by, note}
 use Rattle.words.specs.Search.{lowest, lowest_row}
 use Rattle.words.specs.declared.Form.TheVariants.{Source}
-use Rattle.words.specs.declared.Found.TheVariants.{At, Nothing}
-use Rattle.words.specs.declared.Verdict.TheVariants.{Accepted, Refused}
 use Rattle.check_structure.specs.Links.{too_deep}
 use Rattle.check_structure.specs.Refusal.{at, unless, ◌next◌}
 use Rattle.check_structure.specs.RefusalLaws.{next-accepts, at-accepts, unless-accepts}
@@ -105,22 +103,22 @@ module _ (header first secondHeader second : List ℤ) where
   joined = joined_rows first second
 
   -- "unequal headers get 16, joined rows over 2,048 get 17 (both place 0), and a join too deep 9 with its joined row"
-  pub unequal-headers : same_header header secondHeader ≡ false → own_refusal header first secondHeader second ≡ Refused (record { number = 16; place = 0 })
+  pub unequal-headers : same_header header secondHeader ≡ false → own_refusal header first secondHeader second ≡ Err (record { number = 16; place = 0 })
   unfolding own_refusal unless ◌next◌
   unequal-headers e = rw e
 
-  pub too_many_rows : same_header header secondHeader ≡ true → leb (row_count joined) 2048 ≡ false → own_refusal header first secondHeader second ≡ Refused (record { number = 17; place = 0 })
+  pub too_many_rows : same_header header secondHeader ≡ true → leb (row_count joined) 2048 ≡ false → own_refusal header first secondHeader second ≡ Err (record { number = 17; place = 0 })
   unfolding own_refusal unless ◌next◌
   too_many_rows e n = rw (e, n)
 
-  pub too-deep : (row : ℕ) → same_header header secondHeader ≡ true → leb (row_count joined) 2048 ≡ true → lowest_row joined (too_deep Source joined) ≡ At row
-      → own_refusal header first secondHeader second ≡ Refused (record { number = 9; place = row })
+  pub too-deep : (row : ℕ) → same_header header secondHeader ≡ true → leb (row_count joined) 2048 ≡ true → lowest_row joined (too_deep Source joined) ≡ Some row
+      → own_refusal header first secondHeader second ≡ Err (record { number = 9; place = row })
   unfolding own_refusal rows_refusal unless at ◌next◌
   too-deep row e n d = rw (e, n, d)
 
   -- "a 65th declaration, in a join too, 20 .. with the declaration's row, after 9"
-  pub too-many-declarations : (row : ℕ) → same_header header secondHeader ≡ true → leb (row_count joined) 2048 ≡ true → lowest_row joined (too_deep Source joined) ≡ Nothing
-      → lowest_row joined (one_too_many joined) ≡ At row → own_refusal header first secondHeader second ≡ Refused (record { number = 20; place = row })
+  pub too-many-declarations : (row : ℕ) → same_header header secondHeader ≡ true → leb (row_count joined) 2048 ≡ true → lowest_row joined (too_deep Source joined) ≡ None
+      → lowest_row joined (one_too_many joined) ≡ Some row → own_refusal header first secondHeader second ≡ Err (record { number = 20; place = row })
   unfolding own_refusal rows_refusal unless at ◌next◌
   too-many-declarations row e n d m = rw (e, n, d, m)
 
@@ -130,7 +128,7 @@ module _ (header first secondHeader second : List ℤ) where
     pub of-second : Legal header second
     pub of_join : Legal header joined
 
-  pub accepted-legal : (room : ℕ) → join_refusal header first secondHeader second room ≡ Accepted → AllLegal
+  pub accepted-legal : (room : ℕ) → join_refusal header first secondHeader second room ≡ Ok tt → AllLegal
   unfolding join_refusal own_refusal rows_refusal
   accepted-legal room e =
       let of_first = next-accepts (refusal header first) _ e in

@@ -1,12 +1,11 @@
 -- The join of two legal programs is legal: row by row, by the links of the joined rows, and by the front of the new block.
-use Rattle.std.specs.Prelude.{◌≡◌, true, false, List, ℕ, ◌+◌, ◌≤◌, ◌<◌, ℤ}
+use Rattle.std.specs.Prelude.{◌≡◌, true, false, List, ℕ, ◌+◌, ◌≤◌, ◌<◌, ℤ, None}
 use Rattle.std.proofs.Math.Path.{refl}
 use Rattle.std.proofs.Common.{sym, ◌∙◌, ap, subst, true≢false, arith}
 use Rattle.std.proofs.lemmas.Bool.{false≢true}
 use Rattle.words.specs.Table.{row_count, number_at}
 use Rattle.words.specs.Search.{lowest_row}
 use Rattle.words.specs.declared.Form.TheVariants.{Source}
-use Rattle.words.specs.declared.Found.TheVariants.{Nothing}
 use Rattle.words.specs.Declarations.{is_declaration}
 use Rattle.words.specs.Links.{note}
 use Rattle.check_fields.specs.declared.Bounds.{Bounds}
@@ -129,7 +128,7 @@ module _ {bounds : Bounds} (first second : List ℤ) (s : Structured Source boun
 -- "Join two legal source programs into a legal one": where their headers agree, its rows are not too many, none of them is too deep, and it has
 -- no 65th declaration.
 pub joined-legal : (header first second : List ℤ) → Legal header first → Legal header second → row_count (joined_rows first second) ≤ 2048
-    → lowest_row (joined_rows first second) (too_deep Source (joined_rows first second)) ≡ Nothing → lowest_row (joined_rows first second) (one_too_many (joined_rows first second)) ≡ Nothing
+    → lowest_row (joined_rows first second) (too_deep Source (joined_rows first second)) ≡ None → lowest_row (joined_rows first second) (one_too_many (joined_rows first second)) ≡ None
     → Legal header (joined_rows first second)
 joined-legal header first second l m few flat declarations =
     let s = l.structured in

@@ -1,5 +1,5 @@
 -- Laws of the words that a join keeps: they link no definition, and both rows stand in one part of the table. What the others link.
-use Rattle.std.specs.Prelude.{◌≡◌, refl, true, ◌||◌, ◌⊎◌, List, ℕ, zero, suc, ◌+◌, ◌≤◌, ◌<◌, eqb, ℤ}
+use Rattle.std.specs.Prelude.{◌≡◌, refl, true, ◌||◌, ◌⊎◌, List, ℕ, zero, suc, ◌+◌, ◌≤◌, ◌<◌, eqb, ℤ, Some}
 use Rattle.std.proofs.Common.{sym, ◌∙◌, true≢false, inl, inr, arith}
 use Rattle.std.proofs.Math.Path.{ap}
 use Rattle.std.proofs.Math.Bool.{false, not}
@@ -11,7 +11,6 @@ use Rattle.words.specs.Laws.{by_cases}
 use Rattle.words.specs.Table.{row_count}
 use Rattle.words.specs.Links.{link, linker}
 use Rattle.words.specs.declared.Form.{Form}
-use Rattle.words.specs.declared.Found.TheVariants.{At}
 use Rattle.check_grammar.specs.GrammarLaws.{zero-links-none}
 use Rattle.check_structure.specs.LinkLaws.{linker-of}
 use Rattle.check_structure.specs.NoteLaws.{note-root, note-link}
@@ -33,7 +32,7 @@ one_word rows t row field other place f g a b e =
     let same = found (sym (linker-of rows t row field f a (omega arith)) ∙ ap (linker rows) e ∙ linker-of rows t other place g b (omega arith)) in
     (omega arith, omega arith)
   where
-    found : {m n : ℕ} → At m ≡ At n → m ≡ n
+    found : {m n : ℕ} → Some m ≡ Some n → m ≡ n
     found q = cc
 
 -- Of a program: its rows are a tree, row 0 defines nothing and has no next, and the definitions come first, in order.

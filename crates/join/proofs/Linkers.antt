@@ -1,6 +1,6 @@
 -- Linkers: which word of a join links a row of one of its programs, in numbers of words. The word is that which linked the row before; the list of the
 -- new block begins elsewhere.
-use Rattle.std.specs.Prelude.{◌≡◌, false, List, ℕ, ◌+◌, ◌*◌, ◌/◌, ◌%◌, ◌<◌, eqb, ℤ}
+use Rattle.std.specs.Prelude.{◌≡◌, false, List, ℕ, ◌+◌, ◌*◌, ◌/◌, ◌%◌, ◌<◌, eqb, ℤ, None, Option, Some}
 use Rattle.std.proofs.Math.Path.{refl, sym, ap, ap₂}
 use Rattle.std.proofs.Common.{◌∙◌}
 use Rattle.std.proofs.Math.Bool.{true, true≢false}
@@ -9,8 +9,6 @@ use borrow.Author.Tests.{ne_eqb, eq-eqb}
 use Rattle.words.specs.Word.{pick}
 use Rattle.words.specs.Table.{row_count}
 use Rattle.words.specs.Links.{link, linker}
-use Rattle.words.specs.declared.Found.{Found}
-use Rattle.words.specs.declared.Found.TheVariants.{At, Nothing}
 use Rattle.check_structure.specs.LinkLaws.{word-of, linker-of}
 use Rattle.check_structure.specs.Structured.{Leads}
 use Rattle.check_function_causes.specs.Functions.{is_definition, function_at}
@@ -21,9 +19,9 @@ use Rattle.join.specs.Moved.{at_seam}
 use Rattle.join.proofs.Fronts.{functions-last, Front, empty, ending}
 use Rattle.join.proofs.Kept.{one_word, Ordered, kept-undefined, definition-some, first-linked, first-undefined}
 
-abbrev word_of : Found → ℕ
-word_of (At word) = word
-word_of Nothing = 0
+abbrev word_of : Option ℕ → ℕ
+word_of (Some word) = word
+word_of None = 0
 
 -- a program with definitions at its front begins with one
 pub front-head : {rows : List ℤ} {row place : ℕ} → InFront rows row place → is_definition rows (link rows 0 1) ≡ true

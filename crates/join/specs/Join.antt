@@ -1,5 +1,6 @@
 -- Join: two source programs as one, that runs the first and then the second. Its rows, and what it refuses.
-use Rattle.std.specs.Prelude.{Bool, true, false, not, ◌&&◌, ◌||◌, List, [], ◌∷◌, ◌++◌, ℕ, zero, suc, ◌+◌, eqb, leb, ℤ, pos, length}
+use Rattle.std.specs.Prelude.{Bool, true, false, not, ◌&&◌, ◌||◌, List, [], ◌∷◌, ◌++◌, ℕ, zero, suc, ◌+◌, eqb, leb, ℤ, pos, length, Result}
+use Rattle.words.specs.Refusals.{NumberedRefusal}
 use Rattle.words.specs.Word.{pick, one, same_word}
 use Rattle.words.specs.Table.{row_count, word_at, number_at}
 use Rattle.words.specs.Kinds.{function_number, is_link, sort_at}
@@ -7,7 +8,6 @@ use Rattle.words.specs.Layout.{row_limit}
 use Rattle.words.specs.Links.{link}
 use Rattle.words.specs.Search.{lowest_row}
 use Rattle.words.specs.declared.Form.TheVariants.{Source}
-use Rattle.words.specs.declared.Verdict.{Verdict}
 use Rattle.check_grammar.specs.Grammar.{tabulate}
 use Rattle.check_structure.specs.Links.{too_deep}
 use Rattle.check_structure.specs.Refusal.{at, unless, ◌next◌}
@@ -131,13 +131,13 @@ same_header (w ∷ ws) [] = false
 same_header (w ∷ ws) (v ∷ vs) = same_word w v && same_header ws vs
 
 -- Of the joined rows: "a join too deep 9 with its joined row", then "a 65th declaration, in a join too, 20": the 65th of both together.
-unfoldable pub rows_refusal : List ℤ → Verdict
+unfoldable pub rows_refusal : List ℤ → Result (Unit {0}) NumberedRefusal
 rows_refusal joined =
     at 9 (lowest_row joined (too_deep Source joined))
     next at 20 (lowest_row joined (one_too_many joined))
 
 -- The causes of the join itself: "unequal headers get 16, joined rows over 2,048 get 17 (both place 0)", then those of its rows.
-unfoldable pub own_refusal : List ℤ → List ℤ → List ℤ → List ℤ → Verdict
+unfoldable pub own_refusal : List ℤ → List ℤ → List ℤ → List ℤ → Result (Unit {0}) NumberedRefusal
 own_refusal header first secondHeader second =
     let joined = joined_rows first second in
     unless (same_header header secondHeader) 16
@@ -145,7 +145,7 @@ own_refusal header first secondHeader second =
     next rows_refusal joined
 
 -- "After the first's own causes, then the second's, and before 10": an output of `room` words is shorter than the joined rows.
-unfoldable pub join_refusal : List ℤ → List ℤ → List ℤ → List ℤ → ℕ → Verdict
+unfoldable pub join_refusal : List ℤ → List ℤ → List ℤ → List ℤ → ℕ → Result (Unit {0}) NumberedRefusal
 join_refusal header first secondHeader second room =
     refusal header first
     next refusal secondHeader second

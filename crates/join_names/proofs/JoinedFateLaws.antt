@@ -1,5 +1,5 @@
 -- The fate of a join, from its run at every budget: a step for the new block, the first, and then the second; each shows what it shows by itself.
-use Rattle.std.specs.Prelude.{◌≡◌, List, [], ◌∷◌, ◌++◌, ℕ, suc, ◌+◌, ◌-◌, ◌≤◌, ℤ, length, take}
+use Rattle.std.specs.Prelude.{◌≡◌, List, [], ◌∷◌, ◌++◌, ℕ, suc, ◌+◌, ◌-◌, ◌≤◌, ℤ, length, take, Ok}
 use Rattle.std.proofs.Math.Path.{refl}
 use Rattle.std.proofs.Common.{sym, ◌∙◌, ap, arith, length-append}
 use Rattle.words.specs.Declarations.{declaration_count}
@@ -9,7 +9,6 @@ use Rattle.words.specs.Table.{row_count}
 use Rattle.words.specs.declared.Ending.{Ending}
 use Rattle.words.specs.declared.Ending.TheVariants.{Plain, Spent, Fault}
 use Rattle.words.specs.declared.Form.TheVariants.{Source}
-use Rattle.words.specs.declared.Verdict.TheVariants.{Accepted}
 use Rattle.computation.specs.Run.{start, steps, run}
 use Rattle.computation.proofs.RunLaws.{store-keeps-length}
 use Rattle.language.specs.Calls.{CallsInOrder}
@@ -182,6 +181,6 @@ module _ (header first second : List ℤ) (legal-first : Legal header first) (le
   legal-joins = record { legal = legal; runs = at-budget; fate = fate-declared }
 
 -- What is not refused is joined as promised.
-pub accepted-joins : (header first secondHeader second : List ℤ) (room : ℕ) → join_refusal header first secondHeader second room ≡ Accepted → Joins header first second (joined_rows first second)
+pub accepted-joins : (header first secondHeader second : List ℤ) (room : ℕ) → join_refusal header first secondHeader second room ≡ Ok tt → Joins header first second (joined_rows first second)
 accepted-joins header first secondHeader second room e =
     let legal = accepted-legal header first secondHeader second room e in legal-joins header first second legal.of-first legal.of-second legal.of_join

@@ -1,71 +1,27 @@
 // The words of a row at its new place: "the second's renumbered", links led along, the list of the new block made of definitions and both blocks.
 ghost use Rattle.std.specs.Prelude.{◌≡◌, ◌&&◌, ◌/◌, ◌<◌, eqb, length};
 ghost use Rattle.words.specs.Word.{pick};
-ghost use Rattle.check_grammar.specs.Grammar.{grammar};
 ghost use Rattle.join.specs.Join.{place_of, front_of, placed_link, placed_word};
 ghost use Rattle.join_rows.specs.Standings.{placement_of, Ready};
 
 use super::Standing;
 use super::parts::is_of_definition;
-use check_grammar::{FUNCTION, KindTable, is_link, link, sort_at};
+use check_grammar::kinds::KindTable;
+use check_grammar::{FUNCTION, is_link};
 use check_structure::row_number::wide;
 use words::table::{number_at, word_at};
 use words_roles::is_definition;
 
-// The new number of a row.
-fn place(standing: Standing, rows: &[i32], around: &[u16], ranks: &[u16], row: usize) -> usize
-    requires { Ready rows.now around.now ranks.now standing × (row < length rows.now / 6) }
-    ensures { (result ≡ place_of (placement_of standing) rows.now row) × (result < 65536) }
-{
-    let rank = wide(ranks[row]);
-    if is_of_definition(rows, around, row) {
-        return standing.definitions + rank;
-    }
-    standing.others + rank
-}
-
-// A link that is led along; 0 stays absent.
-fn led(standing: Standing, rows: &[i32], around: &[u16], ranks: &[u16], to: usize) -> usize
-    requires { Ready rows.now around.now ranks.now standing × (to < length rows.now / 6) }
-    ensures { (result ≡ pick (eqb to 0) 0 (place_of (placement_of standing) rows.now to)) × (result < 65536) }
-{
-    if to == 0 {
-        return 0;
-    }
-    place(standing, rows, around, ranks, to)
-}
-
-// From this item on the list of the new block: a definition, or what stands behind the program's definitions.
-pub fn front(standing: Standing, rows: &[i32], around: &[u16], ranks: &[u16], item: usize) -> usize
-    requires { Ready rows.now around.now ranks.now standing × (item < length rows.now / 6) }
-    ensures { (result ≡ front_of (placement_of standing) rows.now item) × (result < 65536) }
-{
-    if is_definition(rows, item) {
-        return place(standing, rows, around, ranks, item);
-    }
-    standing.behind
-}
-
-// The next of a row.
-fn next_link(
-    kinds: &KindTable,
-    standing: Standing,
-    rows: &[i32],
-    around: &[u16],
-    ranks: &[u16],
-    row: usize,
-) -> usize
-    requires { Ready rows.now around.now ranks.now standing × (row < length rows.now / 6) × (kinds.now ≡ grammar) }
-    ensures { (result ≡ placed_link (placement_of standing) rows.now row 5) × (result < 65536) }
-{
-    let to = link(kinds, rows, row, 5);
-    if is_definition(rows, row) {
-        return front(standing, rows, around, ranks, to);
-    }
-    if row == 0 {
-        return standing.after;
-    }
-    led(standing, rows, around, ranks, to)
+// A program in a join: its rows, with the function that each stands in and how many rows of its part come before it, and where the program
+// stands.
+#[derive(Clone, Copy)]
+pub struct Placed<'a> {
+    pub kinds: &'a KindTable,
+    pub rows: &'a [i32],
+    pub around: &'a [u16],
+    pub ranks: &'a [u16],
+    pub standing: Standing,
+    ghost ready: { Ready rows.now around.now ranks.now standing },
 }
 
 // Field a of row 0.
@@ -78,64 +34,91 @@ fn is_first(row: usize, field: usize) -> bool
     false
 }
 
-// A part of a row: the old block begins behind the definitions.
-fn part_link(
-    kinds: &KindTable,
-    standing: Standing,
-    rows: &[i32],
-    around: &[u16],
-    ranks: &[u16],
-    row: usize,
-    field: usize,
-) -> usize
-    requires { Ready rows.now around.now ranks.now standing × (row < length rows.now / 6) × (field < 5) × (kinds.now ≡ grammar) }
-    ensures { (result ≡ placed_link (placement_of standing) rows.now row field) × (result < 65536) }
-{
-    if is_first(row, field) {
-        return led(standing, rows, around, ranks, standing.item);
+impl Placed<'_> {
+    // The new number of a row.
+    fn place(&self, row: usize) -> usize
+        requires { row < length self.now.rows.now / 6 }
+        ensures { (result ≡ place_of (placement_of self.now.standing) self.now.rows.now row) × (result < 65536) }
+    {
+        let rank = wide(self.ranks[row]);
+        if is_of_definition(self.rows, self.around, row) {
+            return self.standing.definitions + rank;
+        }
+        self.standing.others + rank
     }
-    let to = link(kinds, rows, row, field);
-    led(standing, rows, around, ranks, to)
-}
 
-// The row that a field links.
-fn placed_link(
-    kinds: &KindTable,
-    standing: Standing,
-    rows: &[i32],
-    around: &[u16],
-    ranks: &[u16],
-    row: usize,
-    field: usize,
-) -> usize
-    requires { Ready rows.now around.now ranks.now standing × (row < length rows.now / 6) × (field < 6) × (kinds.now ≡ grammar) }
-    ensures { (result ≡ placed_link (placement_of standing) rows.now row field) × (result < 65536) }
-{
-    if field == 5 {
-        return next_link(kinds, standing, rows, around, ranks, row);
+    // A link that is led along; 0 stays absent.
+    fn led(&self, to: usize) -> usize
+        requires { to < length self.now.rows.now / 6 }
+        ensures { (result ≡ pick (eqb to 0) 0 (place_of (placement_of self.now.standing) self.now.rows.now to)) × (result < 65536) }
+    {
+        if to == 0 {
+            return 0;
+        }
+        self.place(to)
     }
-    part_link(kinds, standing, rows, around, ranks, row, field)
-}
 
-// A word of a row.
-pub fn placed_word(
-    kinds: &KindTable,
-    standing: Standing,
-    rows: &[i32],
-    around: &[u16],
-    ranks: &[u16],
-    row: usize,
-    field: usize,
-) -> i32
-    requires { Ready rows.now around.now ranks.now standing × (row < length rows.now / 6) × (field < 6) × (kinds.now ≡ grammar) }
-    ensures { result ≡ placed_word (placement_of standing) rows.now row field }
-{
-    let sort = sort_at(kinds, rows, row, field);
-    if is_link(sort) {
-        return placed_link(kinds, standing, rows, around, ranks, row, field) as i32;
+    // From this item on the list of the new block: a definition, or what stands behind the program's definitions.
+    pub fn front(&self, item: usize) -> usize
+        requires { item < length self.now.rows.now / 6 }
+        ensures { (result ≡ front_of (placement_of self.now.standing) self.now.rows.now item) × (result < 65536) }
+    {
+        if is_definition(self.rows, item) {
+            return self.place(item);
+        }
+        self.standing.behind
     }
-    if sort == FUNCTION {
-        return (standing.functions + number_at(rows, row, field)) as i32;
+
+    // The next of a row.
+    fn next_link(&self, row: usize) -> usize
+        requires { row < length self.now.rows.now / 6 }
+        ensures { (result ≡ placed_link (placement_of self.now.standing) self.now.rows.now row 5) × (result < 65536) }
+    {
+        let to = self.kinds.link(self.rows, row, 5);
+        if is_definition(self.rows, row) {
+            return self.front(to);
+        }
+        if row == 0 {
+            return self.standing.after;
+        }
+        self.led(to)
     }
-    word_at(rows, row, field)
+
+    // A part of a row: the old block begins behind the definitions.
+    fn part_link(&self, row: usize, field: usize) -> usize
+        requires { (row < length self.now.rows.now / 6) × (field < 5) }
+        ensures { (result ≡ placed_link (placement_of self.now.standing) self.now.rows.now row field) × (result < 65536) }
+    {
+        if is_first(row, field) {
+            return self.led(self.standing.item);
+        }
+        let to = self.kinds.link(self.rows, row, field);
+        self.led(to)
+    }
+
+    // The row that a field links.
+    fn placed_link(&self, row: usize, field: usize) -> usize
+        requires { (row < length self.now.rows.now / 6) × (field < 6) }
+        ensures { (result ≡ placed_link (placement_of self.now.standing) self.now.rows.now row field) × (result < 65536) }
+    {
+        if field == 5 {
+            return self.next_link(row);
+        }
+        self.part_link(row, field)
+    }
+
+    // A word of a row.
+    pub fn placed_word(&self, row: usize, field: usize) -> i32
+        requires { (row < length self.now.rows.now / 6) × (field < 6) }
+        ensures { result ≡ placed_word (placement_of self.now.standing) self.now.rows.now row field }
+    {
+        let sort = self.kinds.sort_at(self.rows, row, field);
+        if is_link(sort) {
+            return self.placed_link(row, field) as i32;
+        }
+        if sort == FUNCTION {
+            return (self.standing.functions + number_at(self.rows, row, field)) as i32;
+        }
+        word_at(self.rows, row, field)
+    }
 }

@@ -1,7 +1,5 @@
 // What a join refuses before it writes: the first's own causes, the second's, unequal headers, too many rows, a join too deep, a 65th declaration.
 ghost use Rattle.std.specs.Prelude.{◌≡◌, ◌+◌, length};
-ghost use Rattle.words.specs.declared.Verdict.TheVariants.{Accepted};
-ghost use Rattle.check_grammar.specs.Grammar.{grammar};
 ghost use Rattle.check_structure.specs.Structured.{Tree};
 ghost use Rattle.check_structure.specs.Refusal.{◌next◌};
 ghost use Rattle.check_source.specs.Refusal.{refusal};
@@ -9,32 +7,29 @@ ghost use Rattle.join.specs.Join.{joined_rows, rows_refusal, own_refusal};
 ghost use Rattle.joiner.specs.Joinable.{Joinable};
 
 use super::declarations::lowest_too_many;
-use super::headers::same_header;
-use check_grammar::KindTable;
-use check_grammar::kinds::kind_table;
+use check_grammar::kinds::KindTable;
 use check_structure::causes::at;
 use check_structure::depth::lowest_deep_by;
 use join_rows::rows::put_joined;
-use words::{Form, Found, Refusal, Verdict};
+use words::{Cause, Form, Refusal};
 
 // Causes 9 and 20 of the joined rows.
-fn rows_refusal(kinds: &KindTable, rows: &[i32]) -> Verdict
-    requires { Tree rows.now × (kinds.now ≡ grammar) }
+fn rows_refusal(kinds: &KindTable, rows: &[i32]) -> Result<(), Refusal>
+    requires { Tree rows.now }
     ensures { result ≡ rows_refusal rows.now }
 {
-    let deep = lowest_deep_by(kinds, Form::Source, rows);
-    if let Found::At(row) = deep {
-        return Verdict::Refused(Refusal {
-            number: 9,
-            place: row,
-        });
-    }
-    at(20, lowest_too_many(rows))
+    at(Cause::TooDeep, lowest_deep_by(kinds, Form::Source, rows))?;
+    at(Cause::TooManyDeclared, lowest_too_many(rows))
 }
 
 // Both causes of two programs' joined rows: they are put into a table lent for them.
-fn refusal_in_table(kinds: &KindTable, first: &[i32], second: &[i32], table: &mut [i32]) -> Verdict
-    requires { Joinable first.now second.now × (length table.old ≡ 6 + length first.now + length second.now) × (kinds.now ≡ grammar) }
+fn refusal_in_table(
+    kinds: &KindTable,
+    first: &[i32],
+    second: &[i32],
+    table: &mut [i32],
+) -> Result<(), Refusal>
+    requires { Joinable first.now second.now × (length table.old ≡ 6 + length first.now + length second.now) }
     ensures { result ≡ rows_refusal (joined_rows first.now second.now) }
 {
     put_joined(kinds, first, second, table);
@@ -42,8 +37,8 @@ fn refusal_in_table(kinds: &KindTable, first: &[i32], second: &[i32], table: &mu
 }
 
 // The same in a table of its own, so that a join that is refused changes no word of the output.
-fn refusal_by(kinds: &KindTable, first: &[i32], second: &[i32]) -> Verdict
-    requires { Joinable first.now second.now × (kinds.now ≡ grammar) }
+fn refusal_by(kinds: &KindTable, first: &[i32], second: &[i32]) -> Result<(), Refusal>
+    requires { Joinable first.now second.now }
     ensures { result ≡ rows_refusal (joined_rows first.now second.now) }
 {
     let words = 6 + first.len() + second.len();
@@ -52,53 +47,49 @@ fn refusal_by(kinds: &KindTable, first: &[i32], second: &[i32]) -> Verdict
 }
 
 // The same, with the table of kinds.
-fn joined_refusal(first: &[i32], second: &[i32]) -> Verdict
+fn joined_refusal(first: &[i32], second: &[i32]) -> Result<(), Refusal>
     requires { Joinable first.now second.now }
     ensures { result ≡ rows_refusal (joined_rows first.now second.now) }
 {
-    let kinds = kind_table();
+    let kinds = KindTable::new();
     refusal_by(&kinds, first, second)
 }
 
 // The causes of the join of two accepted programs: 16, 17, 9, 20.
-fn own_refusal(header: &[i32], first: &[i32], second_header: &[i32], second: &[i32]) -> Verdict
-    requires { (refusal header.now first.now ≡ Accepted) × (refusal second_header.now second.now ≡ Accepted) }
+fn own_refusal(
+    header: &[i32],
+    first: &[i32],
+    second_header: &[i32],
+    second: &[i32],
+) -> Result<(), Refusal>
+    requires { (refusal header.now first.now ≡ Ok tt) × (refusal second_header.now second.now ≡ Ok tt) }
     ensures { result ≡ own_refusal header.now first.now second_header.now second.now }
 {
-    if !same_header(header, second_header) {
-        return Verdict::Refused(Refusal {
-            number: 16,
+    if header != second_header {
+        return Err(Refusal {
+            cause: Cause::HeadersDiffer,
             place: 0,
         });
     }
     if 1 + first.len() / 6 + second.len() / 6 > 2048 {
-        return Verdict::Refused(Refusal {
-            number: 17,
+        return Err(Refusal {
+            cause: Cause::TooManyRows,
             place: 0,
         });
     }
     joined_refusal(first, second)
 }
 
-// The second's causes, then those of the join.
-fn second_refusal(header: &[i32], first: &[i32], second_header: &[i32], second: &[i32]) -> Verdict
-    requires { refusal header.now first.now ≡ Accepted }
-    ensures { result ≡ (refusal second_header.now second.now next own_refusal header.now first.now second_header.now second.now) }
-{
-    let verdict = check_source::check(second_header, second);
-    match verdict {
-        Verdict::Accepted => own_refusal(header, first, second_header, second),
-        Verdict::Refused(found) => Verdict::Refused(found),
-    }
-}
-
 // Every cause but 10: the first's, then the second's, then those of the join. "The check takes causes in order".
-pub fn join_refusal(header: &[i32], first: &[i32], second_header: &[i32], second: &[i32]) -> Verdict
+pub fn join_refusal(
+    header: &[i32],
+    first: &[i32],
+    second_header: &[i32],
+    second: &[i32],
+) -> Result<(), Refusal>
     ensures { result ≡ (refusal header.now first.now next refusal second_header.now second.now next own_refusal header.now first.now second_header.now second.now) }
 {
-    let verdict = check_source::check(header, first);
-    match verdict {
-        Verdict::Accepted => second_refusal(header, first, second_header, second),
-        Verdict::Refused(found) => Verdict::Refused(found),
-    }
+    check_source::check(header, first)?;
+    check_source::check(second_header, second)?;
+    own_refusal(header, first, second_header, second)
 }

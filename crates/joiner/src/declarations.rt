@@ -4,7 +4,6 @@ ghost use Rattle.words.specs.Declarations.{declarations_before};
 ghost use Rattle.words.specs.Search.{lowest_row};
 ghost use Rattle.check_declaration_causes.specs.Causes.{one_too_many};
 
-use words::Found;
 use words::declarations::{counted, is_declaration};
 
 // "At most 64."
@@ -22,18 +21,15 @@ fn is_too_many(rows: &[i32], row: usize, before: usize) -> bool
 }
 
 // The row of the 65th declaration, where there is one: they are counted in one pass.
-pub fn lowest_too_many(rows: &[i32]) -> Found
+pub fn lowest_too_many(rows: &[i32]) -> Option<usize>
     ensures { result ≡ lowest_row rows.now (one_too_many rows.now) }
 {
-    let count = rows.len() / 6;
-    let mut before: usize = 0;
-    let mut row: usize = 0;
-    while row < count {
+    let mut before = 0;
+    for row in 0..rows.len() / 6 {
         if is_too_many(rows, row, before) {
-            return Found::At(row);
+            return Some(row);
         }
         before = counted(rows, row, before);
-        row += 1;
     }
-    Found::Nothing
+    None
 }

@@ -1,6 +1,7 @@
 -- Laws of untouched words: an expression leaves every variable alone that it cannot write, under every limit, and where its run stops too. By
 -- rules for computations, and then by induction on the expression.
-use Rattle.std.specs.Prelude.{◌≡◌, Bool, ◌||◌, List, ℕ, ◌+◌, ◌<◌, ◌≤◌, eqb, ℤ, pos, length, get_or}
+use Rattle.std.specs.Prelude.{◌≡◌, Bool, ◌||◌, List, ℕ, ◌+◌, ◌<◌, ◌≤◌, eqb, ℤ, pos, length, get_or, Err, Ok, Result as Outcome}
+use Rattle.words.specs.declared.FaultSort.{FaultSort}
 use Rattle.std.proofs.Math.Path.{refl}
 use Rattle.std.proofs.Common.{sym, ◌∙◌, true≢false, ⊎_elim, arith, eq-eqb, get_or-set_other}
 use Rattle.std.proofs.Math.Bool.{true, false}
@@ -10,7 +11,7 @@ use Rattle.words.specs.Word.{pick}
 use Rattle.words.specs.Layout.{Layout, store_size, array_base, array_length}
 use Rattle.words.specs.Laws.{neither, array-in-store}
 use Rattle.arithmetic.proofs.Laws.{element-inside}
-use Rattle.arithmetic.specs.Arithmetic.{Outcome, value, fault, is_true, apply, minus as minus_word, element as element_word}
+use Rattle.arithmetic.specs.Arithmetic.{is_true, apply, minus as minus_word, element as element_word}
 use Rattle.words.specs.declared.Operator.{Operator}
 use Rattle.computation.specs.Computation.{Computation, ret, ◌>>=◌, step, load, save, settle}
 use Rattle.computation.specs.Run.{State, stepped, spent, Result, ok, stopped, has_room, and_then, run}
@@ -55,10 +56,10 @@ module _ {i : ℕ} where
   unfolding run
   leaves-save {j} {v} h = record { leaves = λ l σ. untouched_ok (get_or-set_other σ.store j i v (pos 0) h) tt }
 
-  pub leaves-settle : {A : Type 0} {Q : A → Type 0} (o : Outcome A) → ((a : A) → o ≡ value a → Q a) → Leaves i Q (settle o)
+  pub leaves-settle : {A : Type 0} {Q : A → Type 0} (o : Outcome A FaultSort) → ((a : A) → o ≡ Ok a → Q a) → Leaves i Q (settle o)
   unfolding run
-  leaves-settle (value a) q = leaves_ret (q a refl)
-  leaves-settle (fault sort) q = record { leaves = λ l σ. untouched_stopped refl }
+  leaves-settle (Ok a) q = leaves_ret (q a refl)
+  leaves-settle (Err sort) q = record { leaves = λ l σ. untouched_stopped refl }
 
   pub leaves-pick : {A : Type 0} {Q : A → Type 0} {m n : Computation A} (b : Bool) → Leaves i Q m → Leaves i Q n → Leaves i Q (pick b m n)
   leaves-pick true p q = p

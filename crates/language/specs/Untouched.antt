@@ -1,7 +1,7 @@
 -- Untouched words: computations that leave a word alone, under every limit.
-use Rattle.std.specs.Prelude.{◌≡◌, ℕ, ℤ, pos, get_or}
+use Rattle.std.specs.Prelude.{◌≡◌, ℕ, ℤ, pos, get_or, Ok}
 use Rattle.words.specs.Layout.{Layout, array_base, array_length}
-use Rattle.arithmetic.specs.Arithmetic.{value, element as element_word}
+use Rattle.arithmetic.specs.Arithmetic.{element as element_word}
 use Rattle.computation.specs.Computation.{Computation}
 use Rattle.computation.specs.Run.{State, Stop, Result, ok, stopped, Limit, run}
 
@@ -20,4 +20,4 @@ Any a = Unit {0}
 
 -- No element of an array is word i.
 abbrev pub NoElement : Layout → ℕ → Type 0
-NoElement L i = (array : ℕ) (index : ℤ) (position : ℕ) → element_word (array_base L array) (array_length L array) index ≡ value position → i ≡ position → ⊥
+NoElement L i = (array : ℕ) (index : ℤ) (position : ℕ) → element_word (array_base L array) (array_length L array) index ≡ Ok position → i ≡ position → ⊥

@@ -1,5 +1,5 @@
 -- Laws of the table that a program's rows stand for: it asks as large a store, and without declarations it is the rows themselves.
-use Rattle.std.specs.Prelude.{◌≡◌, refl, true, false, List, ℕ, zero, suc, ◌+◌, ◌/◌, ◌<◌, ℤ}
+use Rattle.std.specs.Prelude.{◌≡◌, refl, true, List, ℕ, zero, suc, ◌+◌, ◌/◌, ◌<◌, ℤ}
 use Rattle.std.proofs.Common.{sym, ap, ◌∙◌, true≢false, arith}
 use Rattle.std.proofs.Math.Decide.{dec_lt}
 use Rattle.words.specs.Table.{row_count}

@@ -1,9 +1,8 @@
 -- Declared words: a declaration makes its word known, whatever it held before; how the rest of its list goes on, entered or passed over.
-use Rattle.std.specs.Prelude.{◌≡◌, false, List, ℕ, ℤ}
+use Rattle.std.specs.Prelude.{◌≡◌, false, List, ℕ, ℤ, None, Option, Some}
 use Rattle.std.proofs.Math.Path.{refl}
 use Rattle.std.proofs.Common.{subst, sym, true≢false, inr}
 use Rattle.std.proofs.Math.Logic.{inl}
-use Rattle.std.proofs.Math.Option.{Option, none as nothing, some}
 use Rattle.words.specs.Word.{pick}
 use Rattle.words.specs.Layout.{Layout}
 use Rattle.computation.specs.Computation.{Computation, ret, ◌>>=◌}
@@ -57,8 +56,8 @@ module _ {L : Layout} {arrays : ℕ} {All : Words} {π : ℕ → ℕ} {Visible P
   -- behind the list it is not known
   pub forget : (d : Option ℕ) {m n : Computation Signal} → Alike All π Visible P (behind P d) Equal m n → Same h Equal m n
   unfolding behind
-  forget nothing p = p
-  forget (some word) p = alike-weaker (λ i p. p) (λ i p. inl p) p
+  forget None p = p
+  forget (Some word) p = alike-weaker (λ i p. p) (λ i p. inl p) p
 
 module _ {L : Layout} {arrays : ℕ} {All : Words} {π ρ : ℕ → ℕ} {Visible : Words} {c d : ℕ → List ℤ → Computation ℤ} (k : Callings L arrays All π ρ Visible c d)
     {P : Words} (h : Renames L arrays All π Visible P) where
@@ -91,9 +90,9 @@ module _ {L : Layout} {arrays : ℕ} {All : Words} {π ρ : ℕ → ℕ} {Visibl
       → ((signal : Signal) → Alike All π Visible (behind P own) (behind P own) Equal (items (context_by L c) is signal) (items (context_by L d) (renamed_items π ρ is) signal))
       → (signal : Signal) → Same h Equal (pick (enters_statement signal) (enter m) (ret signal) >>= items (context_by L c) is) (pick (enters_statement signal) (enter n) (ret signal) >>= items (context_by L d) (renamed_items π ρ is))
   unfolding behind Unreached
-  item-same nothing is u p r signal = alike-bind (alike-pick (enters_statement signal) (same-enter h p) (alike-ret refl)) r
-  item-same (some word) is u p r next = forget h (some word) (alike-bind (alike-enter h.visible p) r)
-  item-same (some word) is u p r breaking = alike-after (passed-same is u breaking refl)
-  item-same (some word) is u p r continuing = alike-after (passed-same is u continuing refl)
-  item-same (some word) is u p r (seeking m) = alike-after (passed-same is u (seeking m) refl)
-  item-same (some word) is u p r (returning v) = alike-after (passed-same is u (returning v) refl)
+  item-same None is u p r signal = alike-bind (alike-pick (enters_statement signal) (same-enter h p) (alike-ret refl)) r
+  item-same (Some word) is u p r next = forget h (Some word) (alike-bind (alike-enter h.visible p) r)
+  item-same (Some word) is u p r breaking = alike-after (passed-same is u breaking refl)
+  item-same (Some word) is u p r continuing = alike-after (passed-same is u continuing refl)
+  item-same (Some word) is u p r (seeking m) = alike-after (passed-same is u (seeking m) refl)
+  item-same (Some word) is u p r (returning v) = alike-after (passed-same is u (returning v) refl)

@@ -6,11 +6,11 @@ use Rattle.std.proofs.Common.{inl, inr}
 use mathlib.Core.List.{List, [], ◌∷◌, map}
 use Prim.Native.Nat.{ℕ, zero, suc}
 use Rattle.words.specs.Layout.{Layout}
-use Rattle.computation.specs.Computation.{Computation, ret, ◌>>=◌, save}
+use Rattle.computation.specs.Computation.{ret}
 use Rattle.computation.specs.Agreement.{Words, ◌within◌}
 use Rattle.language.specs.Trees.{Items}
 use Rattle.language.specs.Meaning.{next, perform}
-use Rattle.language.specs.Functions.{Function, function_of, storing, invoke, context_by, call_by}
+use Rattle.language.specs.Functions.{Function, function_of, storing, invoke, call_by}
 use Rattle.language_renaming.specs.Renaming.{renamed_items}
 use Rattle.language_renaming.specs.Scoped.{ScopedItems}
 use Rattle.language_renaming.proofs.ScopedLaws.{items_more}

@@ -1,5 +1,5 @@
 -- Renamed parts of programs: expressions, a line for each kind; loops and arms over what they hold.
-use Rattle.std.specs.Prelude.{refl, List, [], ◌∷◌, ℕ, ℤ, pos}
+use Rattle.std.specs.Prelude.{refl, List, ℕ, ℤ, pos}
 use Rattle.words.specs.Layout.{Layout, array_base, array_length}
 use Rattle.words.specs.declared.Operator.{Operator}
 use Rattle.words.specs.declared.FaultSort.TheVariants.{Guard}
@@ -7,7 +7,7 @@ use Rattle.arithmetic.proofs.Laws.{element-inside}
 use Rattle.arithmetic.specs.Arithmetic.{is_true, apply, minus as minus_word, element as element_word}
 use Rattle.computation.specs.Computation.{Turn, again, leave, Computation, save}
 use Rattle.computation.specs.Agreement.{Words}
-use Rattle.language.specs.Trees.{Expression, constant, read, minus, not, binary, and, or, comma, conditional, assign, compound, prefix, postfix, call, Place, variable, element, Arguments, no_more, ◌also◌, Part, absent, present, for}
+use Rattle.language.specs.Trees.{Expression, constant, read, minus, not, binary, and, or, comma, conditional, assign, compound, prefix, postfix, call, Place, variable, element, Arguments, no_more, ◌also◌, Part, absent, present}
 use Rattle.language.specs.Meaning.{enter, update, evaluate, locate, given, value, value_of, Signal, next, breaking, continuing, seeking, returning, after_body, Choice, none_true, ran, after_choice, try_arm, rounds}
 use Rattle.language.specs.WellFormed.{NamedExpression, NamedPlace, NamedArguments, NamedPart}
 use Rattle.language.specs.Functions.{context_by}

@@ -1,18 +1,16 @@
 -- Laws of scope: what is in scope stays so where more words are known. By induction on the tree.
 use Rattle.std.proofs.Common.{inl, inr}
-use Rattle.std.proofs.Math.Option.{Option, none as nothing, some}
-use Rattle.std.specs.Prelude.{ℕ}
+use Rattle.std.specs.Prelude.{ℕ, None, Option, Some}
 use Rattle.computation.specs.Agreement.{Words, ◌within◌}
 use Rattle.language.specs.Trees.{Expression, constant, read, minus, not, binary, and, or, comma, conditional, assign, compound, prefix, postfix, call, Place, variable, element, Arguments, no_more, ◌also◌, Part, absent, present, Statement, empty, express, block, if_then, if_else, while, do_while, for, switch, break, continue, goto, guarded_if, guarded_do, abort, declare, give_back, Arms, no_arm, arm, Items, none, ◌then◌, ◌here◌, define}
 use Rattle.language.specs.WellFormed.{NamedExpression, NamedPlace, NamedArguments, NamedPart}
 use Rattle.language_renaming.specs.Scoped.{declared, behind, Scoped, ScopedArms, ScopedItems}
-use Rattle.language_renaming.specs.Twin.{◌with◌}
 
 behind_more : {P Q : Words} → P within Q → (own : Option ℕ) → behind P own within behind Q own
 unfolding behind
-behind_more h nothing i p = h i p
-behind_more h (some word) i (inl p) = inl (h i p)
-behind_more h (some word) i (inr e) = inr e
+behind_more h None i p = h i p
+behind_more h (Some word) i (inl p) = inl (h i p)
+behind_more h (Some word) i (inr e) = inr e
 
 module _ (arrays : ℕ) where
   mutual

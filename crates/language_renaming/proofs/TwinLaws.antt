@@ -1,5 +1,5 @@
 -- Laws of twins: a rule for each computation; how twin runs begin and end.
-use Rattle.std.specs.Prelude.{◌≡◌, Bool, true, false, List, ◌∷◌, ℕ, zero, suc, ◌-◌, ◌<◌, ltb, ℤ, pos, length, set}
+use Rattle.std.specs.Prelude.{◌≡◌, Bool, true, false, List, ◌∷◌, ℕ, zero, suc, ◌-◌, ◌<◌, ltb, ℤ, pos, length, set, Err, Ok, Result as Outcome}
 use Rattle.std.proofs.Math.Path.{refl, sym}
 use Rattle.std.proofs.Common.{◌∙◌, ap, length-set, get_or-set_same}
 use Rattle.std.proofs.Math.Decide.{ℕ_discrete}
@@ -7,7 +7,6 @@ use Rattle.std.proofs.Math.ListN.{get_or}
 use Rattle.std.proofs.Math.Seq.{get_or-set_other}
 use Rattle.words.specs.Word.{pick}
 use Rattle.words.specs.declared.FaultSort.{FaultSort}
-use Rattle.arithmetic.specs.Arithmetic.{Outcome, value as valued, fault as faulty}
 use Rattle.computation.specs.Computation.{Turn, again, leave, Computation, ret, ◌>>=◌, step, load, save, fail, loop, settle}
 use Rattle.computation.specs.Run.{Write, State, start, stepped, written, spent, fault, Result, ok, stopped, Limit, steps, rounds, and_then, has_room, run_step, rounds_from, after_turn, iterate, run, final, ending_of}
 use Rattle.computation.specs.Agreement.{Words, ◌within◌}
@@ -109,9 +108,9 @@ module _ {All : Words} {π : ℕ → ℕ} {Visible : Words} where
   unfolding run
   alike-fail sort v = record { goes = λ l σ τ t. twin-stopped (twin-fewer v t) }
 
-  pub alike-settle : {A : Type 0} {P : Words} {Val : A → A → Type 0} (o : Outcome A) → Visible within P → ((a : A) → o ≡ valued a → Val a a) → Alike All π Visible P P Val (settle o) (settle o)
-  alike-settle (valued a) v k = alike-ret (k a refl)
-  alike-settle (faulty sort) v k = alike-fail sort v
+  pub alike-settle : {A : Type 0} {P : Words} {Val : A → A → Type 0} (o : Outcome A FaultSort) → Visible within P → ((a : A) → o ≡ Ok a → Val a a) → Alike All π Visible P P Val (settle o) (settle o)
+  alike-settle (Ok a) v k = alike-ret (k a refl)
+  alike-settle (Err sort) v k = alike-fail sort v
 
   pub alike-pick : {A B : Type 0} {P Q : Words} {Val : A → B → Type 0} (b : Bool) {m m' : Computation A} {n n' : Computation B}
       → Alike All π Visible P Q Val m n → Alike All π Visible P Q Val m' n' → Alike All π Visible P Q Val (pick b m m') (pick b n n')

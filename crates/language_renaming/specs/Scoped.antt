@@ -1,6 +1,5 @@
 -- Scope: every name in a tree is known where it stands. A declaration makes its word known to the rest of its list.
-use Rattle.std.proofs.Math.Option.{Option, none as nothing, some}
-use Rattle.std.specs.Prelude.{ℕ}
+use Rattle.std.specs.Prelude.{ℕ, None, Option, Some}
 use Rattle.computation.specs.Agreement.{Words}
 use Rattle.language.specs.Trees.{Statement, empty, express, block, if_then, if_else, while, do_while, for, switch, break, continue, goto, guarded_if, guarded_do, abort, declare, give_back, Arms, no_arm, arm, Items, none, ◌then◌, ◌here◌, define}
 use Rattle.language.specs.WellFormed.{NamedExpression, NamedPart}
@@ -8,28 +7,28 @@ use Rattle.language_renaming.specs.Twin.{◌with◌}
 
 -- The word that a statement declares.
 unfoldable pub declared : Statement → Option ℕ
-declared empty = nothing
-declared (express e) = nothing
-declared (block is) = nothing
-declared (if_then e on_true) = nothing
-declared (if_else e on_true on_false) = nothing
-declared (while e body) = nothing
-declared (do_while body e) = nothing
-declared (for first test action body) = nothing
-declared (switch e is) = nothing
-declared break = nothing
-declared continue = nothing
-declared (goto l) = nothing
-declared (guarded_if arms) = nothing
-declared (guarded_do arms) = nothing
-declared abort = nothing
-declared (declare word e) = some word
-declared (give_back value) = nothing
+declared empty = None
+declared (express e) = None
+declared (block is) = None
+declared (if_then e on_true) = None
+declared (if_else e on_true on_false) = None
+declared (while e body) = None
+declared (do_while body e) = None
+declared (for first test action body) = None
+declared (switch e is) = None
+declared break = None
+declared continue = None
+declared (goto l) = None
+declared (guarded_if arms) = None
+declared (guarded_do arms) = None
+declared abort = None
+declared (declare word e) = Some word
+declared (give_back value) = None
 
 -- "From its next item to the block's end": what is known behind a statement.
 unfoldable pub behind : Words → Option ℕ → Words
-behind P nothing = P
-behind P (some word) = P with word
+behind P None = P
+behind P (Some word) = P with word
 
 unfoldable pub Unmarked : Items → Type 0
 Unmarked none = Unit {0}
@@ -39,8 +38,8 @@ Unmarked (define f words body is) = Unmarked is
 
 -- Behind a declaration stands no mark, so that a run that passes it over enters no item behind it.
 unfoldable pub Unreached : Option ℕ → Items → Type 0
-Unreached nothing is = Unit {0}
-Unreached (some word) is = Unmarked is
+Unreached None is = Unit {0}
+Unreached (Some word) is = Unmarked is
 
 -- All: every word that the program names anywhere. Words are known by a set that stands before the tree.
 module _ (All : Words) (arrays : ℕ) where

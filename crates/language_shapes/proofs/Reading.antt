@@ -1,4 +1,5 @@
 -- What the functions read at a row of a source, from the laws of shapes.
+use Rattle.std.specs.Prelude.{Option}
 use mathlib.Core.Path.{◌≡◌, sym, ap, subst, ◌∙◌}
 use mathlib.Core.List.{List}
 use Prim.Native.Nat.{ℕ, ◌<◌}
@@ -22,8 +23,6 @@ use Rattle.language_shapes.specs.declared.ExpressionShape.{ExpressionShape}
 use Rattle.language_shapes.specs.declared.StatementShape.{StatementShape}
 use Rattle.language_shapes.specs.declared.Shape.{Shape}
 use Rattle.language_shapes.specs.declared.Item.{Item}
-use Rattle.language_shapes.specs.declared.ArmShape.{ArmShape}
-use Rattle.language_shapes.specs.declared.ArgumentShape.{ArgumentShape}
 
 -- ---- the shape of a row, from the kind and the fields that were read
 
@@ -63,11 +62,11 @@ module _ {rows : List ℤ} {row : ℕ} (source : Source rows) (inside : row < ro
   pub item-read : {shape : Shape} {i : Item} → shape ≡ shape_at rows row → i ≡ item_in shape → ItemAt rows row (number_at rows row 5) i
   item-read {shape} {i} h g = subst (λ (x : Item). ItemAt rows row (number_at rows row 5) x) (sym (g ∙ ap item_in h)) (item-found source.sound inside)
 
-  pub arm_read : {shape : Shape} {i : ArmShape} → shape ≡ shape_at rows row → i ≡ arm_in shape → ArmAt rows row (number_at rows row 5) i
-  arm_read {shape} {i} h g = subst (λ (x : ArmShape). ArmAt rows row (number_at rows row 5) x) (sym (g ∙ ap arm_in h)) (arm-found source.sound inside)
+  pub arm_read : {shape : Shape} {i : (Option (ℕ × ℕ))} → shape ≡ shape_at rows row → i ≡ arm_in shape → ArmAt rows row (number_at rows row 5) i
+  arm_read {shape} {i} h g = subst (λ (x : Option (ℕ × ℕ)). ArmAt rows row (number_at rows row 5) x) (sym (g ∙ ap arm_in h)) (arm-found source.sound inside)
 
-  pub argument-read : {shape : Shape} {i : ArgumentShape} → shape ≡ shape_at rows row → i ≡ argument_in shape → ArgumentAt rows row (number_at rows row 5) i
-  argument-read {shape} {i} h g = subst (λ (x : ArgumentShape). ArgumentAt rows row (number_at rows row 5) x) (sym (g ∙ ap argument_in h)) (argument-found source.sound inside)
+  pub argument-read : {shape : Shape} {i : (Option ℕ)} → shape ≡ shape_at rows row → i ≡ argument_in shape → ArgumentAt rows row (number_at rows row 5) i
+  argument-read {shape} {i} h g = subst (λ (x : Option ℕ). ArgumentAt rows row (number_at rows row 5) x) (sym (g ∙ ap argument_in h)) (argument-found source.sound inside)
 
 -- what a row counts as that is no place
 first-name : {rows : List ℤ} → Name rows 0

@@ -1,5 +1,5 @@
 -- Laws of shapes: what stands at a row of a sound table, kind by kind, by the laws of decode; and what a match on a shape tells of a row.
-use Rattle.std.specs.Prelude.{◌≡◌, true, List, ℤ, pos, length}
+use Rattle.std.specs.Prelude.{◌≡◌, true, List, ℤ, pos, length, Option}
 use Rattle.std.proofs.Math.Path.{refl}
 use Rattle.std.proofs.Common.{sym, ap, subst, ◌∙◌, arith}
 use Prim.Native.Nat.{ℕ, zero, suc, ◌≤◌, ◌<◌}
@@ -33,8 +33,6 @@ use Rattle.language_shapes.specs.declared.StatementShape.TheVariants as statemen
 use Rattle.language_shapes.specs.declared.MarkShape.{MarkShape}
 use Rattle.language_shapes.specs.declared.Item.{Item}
 use Rattle.language_shapes.specs.declared.Item.TheVariants as item
-use Rattle.language_shapes.specs.declared.ArmShape.{ArmShape}
-use Rattle.language_shapes.specs.declared.ArgumentShape.{ArgumentShape}
 
 module _ {rows : List ℤ} {L : Layout} {words : ℕ} (sound : Sound rows L words) {row : ℕ} (inside : row < row_count rows) where
   whole : Whole rows
@@ -299,11 +297,11 @@ stated {rows} {row} {name} found e = subst (λ (s : StatementShape). StatementWi
 pub itemed : {rows : List ℤ} {row next : ℕ} {i j : Item} → ItemAt rows row next i → i ≡ j → ItemAt rows row next j
 itemed {rows} {row} {next} found e = subst (λ (i : Item). ItemAt rows row next i) e found
 
-pub armed : {rows : List ℤ} {row next : ℕ} {i j : ArmShape} → ArmAt rows row next i → i ≡ j → ArmAt rows row next j
-armed {rows} {row} {next} found e = subst (λ (i : ArmShape). ArmAt rows row next i) e found
+pub armed : {rows : List ℤ} {row next : ℕ} {i j : (Option (ℕ × ℕ))} → ArmAt rows row next i → i ≡ j → ArmAt rows row next j
+armed {rows} {row} {next} found e = subst (λ (i : Option (ℕ × ℕ)). ArmAt rows row next i) e found
 
-pub argued : {rows : List ℤ} {row next : ℕ} {i j : ArgumentShape} → ArgumentAt rows row next i → i ≡ j → ArgumentAt rows row next j
-argued {rows} {row} {next} found e = subst (λ (i : ArgumentShape). ArgumentAt rows row next i) e found
+pub argued : {rows : List ℤ} {row next : ℕ} {i j : (Option ℕ)} → ArgumentAt rows row next i → i ≡ j → ArgumentAt rows row next j
+argued {rows} {row} {next} found e = subst (λ (i : Option ℕ). ArgumentAt rows row next i) e found
 
 -- the row behind, as the code has it
 pub at_next : {rows : List ℤ} {row next read : ℕ} {i : Item} → read ≡ next → ItemAt rows row next i → ItemAt rows row read i

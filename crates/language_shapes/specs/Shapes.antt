@@ -1,6 +1,6 @@
 -- Shapes: what stands at a row, with its links. First the shape of a row of each kind, then the trees that shapes stand for, which are
 -- those of decode, and that the links of a shape lead on.
-use Rattle.std.specs.Prelude.{◌≡◌, List, ℕ, ◌<◌, ℤ, pos}
+use Rattle.std.specs.Prelude.{◌≡◌, List, ℕ, ◌<◌, ℤ, pos, None, Option, Some}
 use Rattle.words.specs.Table.{row_count, word_at, number_at}
 use Rattle.words.specs.Kinds.{kind_at}
 use Rattle.words.specs.declared.Kind.{Kind}
@@ -31,10 +31,6 @@ use Rattle.language_shapes.specs.declared.Shape.{Shape}
 use Rattle.language_shapes.specs.declared.Shape.TheVariants.{OfExpression, OfStatement, OfMark, OfArm, OfArgument, OfDefinition, Other}
 use Rattle.language_shapes.specs.declared.Item.{Item}
 use Rattle.language_shapes.specs.declared.Item.TheVariants.{Statement as StatementItem, Mark, Definition}
-use Rattle.language_shapes.specs.declared.ArmShape.{ArmShape}
-use Rattle.language_shapes.specs.declared.ArmShape.TheVariants.{Arm, NoArm}
-use Rattle.language_shapes.specs.declared.ArgumentShape.{ArgumentShape}
-use Rattle.language_shapes.specs.declared.ArgumentShape.TheVariants.{Argument, NoArgument}
 
 -- ---- the shape of a row of a kind; v, a, b, c, d are its fields, v the word of a
 
@@ -146,23 +142,23 @@ item_in (OfArgument e) = StatementItem
 item_in (OfDefinition f words body) = Definition f words body
 item_in Other = StatementItem
 
-abbrev pub arm_in : Shape → ArmShape
-arm_in (OfExpression e) = NoArm
-arm_in (OfStatement s) = NoArm
-arm_in (OfMark m) = NoArm
-arm_in (OfArm guard body) = Arm guard body
-arm_in (OfArgument e) = NoArm
-arm_in (OfDefinition f words body) = NoArm
-arm_in Other = NoArm
+abbrev pub arm_in : Shape → Option (ℕ × ℕ)
+arm_in (OfExpression e) = None
+arm_in (OfStatement s) = None
+arm_in (OfMark m) = None
+arm_in (OfArm guard body) = Some (guard, body)
+arm_in (OfArgument e) = None
+arm_in (OfDefinition f words body) = None
+arm_in Other = None
 
-abbrev pub argument_in : Shape → ArgumentShape
-argument_in (OfExpression e) = NoArgument
-argument_in (OfStatement s) = NoArgument
-argument_in (OfMark m) = NoArgument
-argument_in (OfArm guard body) = NoArgument
-argument_in (OfArgument e) = Argument e
-argument_in (OfDefinition f words body) = NoArgument
-argument_in Other = NoArgument
+abbrev pub argument_in : Shape → Option ℕ
+argument_in (OfExpression e) = None
+argument_in (OfStatement s) = None
+argument_in (OfMark m) = None
+argument_in (OfArm guard body) = None
+argument_in (OfArgument e) = Some e
+argument_in (OfDefinition f words body) = None
+argument_in Other = None
 
 -- ---- links
 
@@ -240,14 +236,14 @@ module _ (rows : List ℤ) where
   item_tree (Definition f words body) own behind = define f (parameter_list_at rows words) (block_items (statement_at rows body)) behind
 
   -- The arms from an arm on, with the arms behind it.
-  abbrev pub arm_tree : ArmShape → Arms → Arms
-  arm_tree (Arm guard body) behind = arm (expression_at rows guard) (statement_at rows body) behind
-  arm_tree NoArm behind = no_arm
+  abbrev pub arm_tree : Option (ℕ × ℕ) → Arms → Arms
+  arm_tree (Some (guard, body)) behind = arm (expression_at rows guard) (statement_at rows body) behind
+  arm_tree None behind = no_arm
 
   -- The arguments from an argument on, with the arguments behind it.
-  abbrev pub argument_tree : ArgumentShape → Arguments → Arguments
-  argument_tree (Argument e) behind = expression_at rows e also behind
-  argument_tree NoArgument behind = no_more
+  abbrev pub argument_tree : Option ℕ → Arguments → Arguments
+  argument_tree (Some e) behind = expression_at rows e also behind
+  argument_tree None behind = no_more
 
   module _ (row : ℕ) where
     -- ---- the links lead on
@@ -297,9 +293,9 @@ module _ (rows : List ℤ) where
     StatementOnward name (Declare i e) = name i × Initial rows row e
     StatementOnward name (Return value) = OptionalOnward rows row value
 
-    abbrev pub ArmOnward : ArmShape → Type 0
-    ArmOnward (Arm guard body) = Onward rows row guard × Onward rows row body
-    ArmOnward NoArm = Unit {0}
+    abbrev pub ArmOnward : Option (ℕ × ℕ) → Type 0
+    ArmOnward (Some (guard, body)) = Onward rows row guard × Onward rows row body
+    ArmOnward None = Unit {0}
 
     -- The number of a function is no link.
     abbrev pub ItemOnward : Item → Type 0
@@ -307,9 +303,9 @@ module _ (rows : List ℤ) where
     ItemOnward (Mark m) = Unit {0}
     ItemOnward (Definition f words body) = OptionalOnward rows row words × Onward rows row body
 
-    abbrev pub ArgumentOnward : ArgumentShape → Type 0
-    ArgumentOnward (Argument e) = Onward rows row e
-    ArgumentOnward NoArgument = Unit {0}
+    abbrev pub ArgumentOnward : Option ℕ → Type 0
+    ArgumentOnward (Some e) = Onward rows row e
+    ArgumentOnward None = Unit {0}
 
     -- ---- what stands at a row
 
@@ -331,12 +327,12 @@ module _ (rows : List ℤ) where
       pub onward : OptionalOnward rows row next
       pub parts : ItemOnward item
 
-    pub record ArmAt (next : ℕ) (shape : ArmShape) : Type 0 where
+    pub record ArmAt (next : ℕ) (shape : Option (ℕ × ℕ)) : Type 0 where
       pub is : arms_at rows row ≡ arm_tree shape (arm_list_at rows next)
       pub onward : ArmOnward shape
       pub behind : OptionalOnward rows row next
 
-    pub record ArgumentAt (next : ℕ) (shape : ArgumentShape) : Type 0 where
+    pub record ArgumentAt (next : ℕ) (shape : Option ℕ) : Type 0 where
       pub is : arguments_at rows row ≡ argument_tree shape (argument_list_at rows next)
       pub onward : ArgumentOnward shape
       pub behind : OptionalOnward rows row next

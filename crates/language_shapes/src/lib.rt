@@ -93,17 +93,3 @@ pub enum Item {
     Mark(MarkShape),
     Definition(usize, usize, usize),
 }
-
-// What a row is among arms: the rows of its guard and of its block.
-#[derive(Clone, Copy)]
-pub enum ArmShape {
-    Arm(usize, usize),
-    NoArm,
-}
-
-// What a row is among arguments: the row of its expression.
-#[derive(Clone, Copy)]
-pub enum ArgumentShape {
-    Argument(usize),
-    NoArgument,
-}

@@ -6,7 +6,7 @@ ghost use Rattle.language_shapes.specs.Source.{Source, PlaceAt, ExpressionAt, St
 ghost use Rattle.language_shapes.specs.Shapes.{shape_at, expression_in, place_in, statement_in, item_in, arm_in, argument_in, ItemAt, ArmAt, ArgumentAt};
 
 use super::kinds::{definition_shape, expression_shape, mark_shape, member_shape, statement_shape};
-use super::{ArgumentShape, ArmShape, ExpressionShape, Item, PlaceShape, Shape, StatementShape};
+use super::{ExpressionShape, Item, PlaceShape, Shape, StatementShape};
 use words::Kind;
 use words_kinds::kind_at;
 
@@ -30,12 +30,7 @@ fn expression_of(shape: Shape) -> ExpressionShape
 {
     match shape {
         Shape::OfExpression(expression) => expression,
-        Shape::OfStatement(_) => ExpressionShape::Number(0),
-        Shape::OfMark(_) => ExpressionShape::Number(0),
-        Shape::OfArm(_, _) => ExpressionShape::Number(0),
-        Shape::OfArgument(_) => ExpressionShape::Number(0),
-        Shape::OfDefinition(_, _, _) => ExpressionShape::Number(0),
-        Shape::Other => ExpressionShape::Number(0),
+        _ => ExpressionShape::Number(0),
     }
 }
 
@@ -44,11 +39,8 @@ fn place_of(expression: ExpressionShape) -> PlaceShape
     ensures { result ≡ place_in expression }
 {
     match expression {
-        ExpressionShape::Number(_) => PlaceShape::Variable(0),
         ExpressionShape::Read(place) => place,
-        ExpressionShape::Operation(_) => PlaceShape::Variable(0),
-        ExpressionShape::Choice(_) => PlaceShape::Variable(0),
-        ExpressionShape::Call(_, _) => PlaceShape::Variable(0),
+        _ => PlaceShape::Variable(0),
     }
 }
 
@@ -56,13 +48,8 @@ fn statement_of(shape: Shape) -> StatementShape
     ensures { result ≡ statement_in shape }
 {
     match shape {
-        Shape::OfExpression(_) => StatementShape::Empty,
         Shape::OfStatement(statement) => statement,
-        Shape::OfMark(_) => StatementShape::Empty,
-        Shape::OfArm(_, _) => StatementShape::Empty,
-        Shape::OfArgument(_) => StatementShape::Empty,
-        Shape::OfDefinition(_, _, _) => StatementShape::Empty,
-        Shape::Other => StatementShape::Empty,
+        _ => StatementShape::Empty,
     }
 }
 
@@ -70,41 +57,27 @@ fn item_of(shape: Shape) -> Item
     ensures { result ≡ item_in shape }
 {
     match shape {
-        Shape::OfExpression(_) => Item::Statement,
-        Shape::OfStatement(_) => Item::Statement,
         Shape::OfMark(mark) => Item::Mark(mark),
-        Shape::OfArm(_, _) => Item::Statement,
-        Shape::OfArgument(_) => Item::Statement,
         Shape::OfDefinition(number, parameters, body) => Item::Definition(number, parameters, body),
-        Shape::Other => Item::Statement,
+        _ => Item::Statement,
     }
 }
 
-fn arm_of(shape: Shape) -> ArmShape
+fn arm_of(shape: Shape) -> Option<(usize, usize)>
     ensures { result ≡ arm_in shape }
 {
     match shape {
-        Shape::OfExpression(_) => ArmShape::NoArm,
-        Shape::OfStatement(_) => ArmShape::NoArm,
-        Shape::OfMark(_) => ArmShape::NoArm,
-        Shape::OfArm(guard, body) => ArmShape::Arm(guard, body),
-        Shape::OfArgument(_) => ArmShape::NoArm,
-        Shape::OfDefinition(_, _, _) => ArmShape::NoArm,
-        Shape::Other => ArmShape::NoArm,
+        Shape::OfArm(guard, body) => Some((guard, body)),
+        _ => None,
     }
 }
 
-fn argument_of(shape: Shape) -> ArgumentShape
+fn argument_of(shape: Shape) -> Option<usize>
     ensures { result ≡ argument_in shape }
 {
     match shape {
-        Shape::OfExpression(_) => ArgumentShape::NoArgument,
-        Shape::OfStatement(_) => ArgumentShape::NoArgument,
-        Shape::OfMark(_) => ArgumentShape::NoArgument,
-        Shape::OfArm(_, _) => ArgumentShape::NoArgument,
-        Shape::OfArgument(expression) => ArgumentShape::Argument(expression),
-        Shape::OfDefinition(_, _, _) => ArgumentShape::NoArgument,
-        Shape::Other => ArgumentShape::NoArgument,
+        Shape::OfArgument(expression) => Some(expression),
+        _ => None,
     }
 }
 
@@ -136,14 +109,14 @@ pub fn item_at(rows: &[i32], row: usize) -> Item
     item_of(shape_at(rows, row))
 }
 
-pub fn arm_at(rows: &[i32], row: usize) -> ArmShape
+pub fn arm_at(rows: &[i32], row: usize) -> Option<(usize, usize)>
     requires { Source rows.now × (row < row_count rows.now) }
     ensures { ArmAt rows.now row (number_at rows.now row 5) result }
 {
     arm_of(shape_at(rows, row))
 }
 
-pub fn argument_at(rows: &[i32], row: usize) -> ArgumentShape
+pub fn argument_at(rows: &[i32], row: usize) -> Option<usize>
     requires { Source rows.now × (row < row_count rows.now) }
     ensures { ArgumentAt rows.now row (number_at rows.now row 5) result }
 {

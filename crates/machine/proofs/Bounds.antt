@@ -10,7 +10,7 @@ use lib.Seq.{drop-cons, take-suc-set, set_split, take-append_seam}
 use borrow.Rule.Slice.PartMut.{mid_of, post_of, put_mid, Post-is, mid_len}
 use Rattle.words.specs.Word.{natural}
 use Rattle.words.specs.Table.{row_count}
-use Rattle.words.specs.Laws.{back, HeaderFits, header_fits-facts, row_limit-most}
+use Rattle.words.specs.Laws.{back, HeaderFits, header_fits-facts}
 use Rattle.words.specs.Layout.{Layout, leading, layout_of, sum}
 use Rattle.words.specs.StoreLaws.{store-most, header-store-most}
 use Rattle.words.specs.declared.Form.{Form}

@@ -1,4 +1,5 @@
 -- Endings: why the run with an answer ended, by the tests that the code makes; and what a run's answer says of the run under the budget.
+use Rattle.std.specs.Prelude.{None, Option, Some}
 use mathlib.Core.Path.{◌≡◌, refl, sym, ap, ◌∙◌}
 use mathlib.Core.Bool.{Bool, true, false}
 use mathlib.Core.List.{List}
@@ -20,8 +21,6 @@ use Rattle.computation.proofs.RemainingLaws.{told, spend-is-run}
 use Rattle.language.specs.Meaning.{Signal}
 use Rattle.language.specs.Program.{Finished, finished}
 use Rattle.machine_operations.specs.Answers.{beyond, stop_of, is_return, operand_of}
-use Rattle.machine_operations.specs.declared.Operand.{Operand}
-use Rattle.machine_operations.specs.declared.Operand.TheVariants.{Value, Halted as Stopped}
 use Rattle.machine_operations.proofs.Decoding.{handed, handed-is}
 use Rattle.machine_flows.specs.Flows.{passing_of, flow_rest, ran}
 use Rattle.machine.specs.Whole.{ending_of_stop, ending_of_answer}
@@ -35,15 +34,15 @@ unfolding stop_of beyond
 unspent (pos n) p = rw (ne_eqb (n - 2147483647) 1 (λ e. p (ap pos (omega arith))))
 unspent (negsuc n) p = refl
 
-module _ (z : ℤ) (fits : mag z < 2 ^ 63) (o : Operand) (e : o ≡ operand_of (handed z)) where
+module _ (z : ℤ) (fits : mag z < 2 ^ 63) (o : Option ℤ) (e : o ≡ operand_of (handed z)) where
   operand-is : operand_of z ≡ o
   operand-is = ap operand_of (sym (handed-is z fits)) ∙ sym e
 
-  pub ending-plain : (v : ℤ) → o ≡ Value v → Plain ≡ ending_of_answer z
+  pub ending-plain : (v : ℤ) → o ≡ Some v → Plain ≡ ending_of_answer z
   unfolding ending_of_answer
   ending-plain v q = rw (operand-is, q)
 
-  module _ (q : o ≡ Stopped) where
+  module _ (q : o ≡ None) where
     stopped-is : ending_of_answer z ≡ ending_of_stop (stop_of z)
     unfolding ending_of_answer
     stopped-is = rw (operand-is, q)
@@ -96,13 +95,13 @@ ran-finished b z n s = by (operand_of z) refl
     passes Return q = refl
     passes Halted q = absurd (q refl)
 
-    value : (v : ℤ) → operand_of z ≡ Value v → (r : Bool) → is_return z ≡ r → record { ending = ending_of_answer z; count = b - n; store = s } ≡ finished_rest b (ran z n s)
+    value : (v : ℤ) → operand_of z ≡ Some v → (r : Bool) → is_return z ≡ r → record { ending = ending_of_answer z; count = b - n; store = s } ≡ finished_rest b (ran z n s)
     value v e true r = rw (flow-returns z r, e)
     value v e false r = rw (flow-passes z v r e, e) (passes (passing_of v) (passing-goes-on v))
 
-    by : (o : Operand) → operand_of z ≡ o → record { ending = ending_of_answer z; count = b - n; store = s } ≡ finished_rest b (ran z n s)
-    by (Value v) e = value v e (is_return z) refl
-    by Stopped e = rw (flow-stops z e, e)
+    by : (o : Option ℤ) → operand_of z ≡ o → record { ending = ending_of_answer z; count = b - n; store = s } ≡ finished_rest b (ran z n s)
+    by (Some v) e = value v e (is_return z) refl
+    by None e = rw (flow-stops z e, e)
 
 pub run-finished : (b : ℕ) (m : Computation Signal) (s : List ℤ) (z : ℤ) (n : ℕ) (t : List ℤ) → ran z n t ≡ spend m b s
     → record { ending = ending_of_answer z; count = b - n; store = t } ≡ finished (run (steps b) m (start s))

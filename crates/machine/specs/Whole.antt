@@ -1,5 +1,5 @@
 -- Whole: the run of a program: what it asks, and what its answer says.
-use Rattle.std.specs.Prelude.{◌≡◌, true, List, map, ◌++◌, ℕ, ◌+◌, ◌≤◌, ℤ, length}
+use Rattle.std.specs.Prelude.{◌≡◌, true, List, map, ◌++◌, ℕ, ◌+◌, ◌≤◌, ℤ, length, None, Option, Some}
 use Rattle.words.specs.Word.{natural}
 use Rattle.words.specs.Table.{row_count}
 use Rattle.words.specs.Layout.{layout_of, sum, store_words, header_fits}
@@ -19,8 +19,6 @@ use Rattle.machine_operations.specs.Bounds.{bounds_from, layout_from, layout_in}
 use Rattle.machine_operations.specs.Functions.{SoundCalls}
 use Rattle.machine_operations.specs.Ready.{Setting}
 use Rattle.machine_operations.specs.Rows.{context_in}
-use Rattle.machine_operations.specs.declared.Operand.{Operand}
-use Rattle.machine_operations.specs.declared.Operand.TheVariants.{Value, Halted}
 use Rattle.machine_flows.specs.FunctionRows.{InOrder, RowsOfFunctions}
 
 -- The ending of a run that stopped, and the ending that an answer says.
@@ -28,9 +26,9 @@ abbrev pub ending_of_stop : Stop → Ending
 ending_of_stop spent = Spent
 ending_of_stop (fault sort) = Fault sort
 
-abbrev pub ending_by : Operand → ℤ → Ending
-ending_by (Value v) answer = Plain
-ending_by Halted answer = ending_of_stop (stop_of answer)
+abbrev pub ending_by : Option ℤ → ℤ → Ending
+ending_by (Some v) answer = Plain
+ending_by None answer = ending_of_stop (stop_of answer)
 
 unfoldable pub ending_of_answer : ℤ → Ending
 ending_of_answer answer = ending_by (operand_of answer) answer

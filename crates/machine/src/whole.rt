@@ -11,14 +11,21 @@ ghost use Rattle.machine_operations.specs.Bounds.{bounds_from};
 ghost use Rattle.machine_flows.specs.Flows.{ran};
 ghost use Rattle.machine.specs.Whole.{ending_of_answer, finished_of, whole_at, Runnable, Startable, RoomFor};
 
-use machine_executor::cycle::exec;
+use machine_executor::statements::exec;
 use machine_flows::functions::{fill_functions, function_count};
+use machine_operations::SPENT;
 use machine_operations::answers::{beyond, operand};
-use machine_operations::{Operand, SPENT};
 use words::layout::leading;
 use words::table::natural;
 use words::{Ending, Form, RunAnswer};
 use words_endings::fault_numbered;
+
+// Rooms for 33 bounds and the rows of up to 64 functions, of as many as a source program has rows, and as a kernel program.
+const FEW: usize = 33 + 64;
+
+const SOME: usize = 33 + 2048;
+
+const MANY: usize = 33 + 40980;
 
 // The bounds of the arrays: where each begins, and where the last one ends.
 pub fn fill_bounds(lengths: &[i32], variables: usize, bounds: &mut [usize])
@@ -26,27 +33,22 @@ pub fn fill_bounds(lengths: &[i32], variables: usize, bounds: &mut [usize])
     ensures { bounds.new ≡ bounds_from variables (map natural_of lengths.now) }
 {
     let mut total = variables;
-    let mut i: usize = 0;
-    while i < lengths.len() {
+    for i in 0..lengths.len() {
         bounds[i] = total;
         total += natural(lengths[i]);
-        i += 1;
     }
-    bounds[i] = total;
+    bounds[lengths.len()] = total;
 }
 
 // Why the run with this answer ended.
 fn ending_of(answer: i64) -> Ending
     ensures { result ≡ ending_of_answer answer }
 {
-    let ended = operand(answer);
-    let Operand::Halted = ended else {
-        return Ending::Plain;
-    };
-    if answer == SPENT {
-        return Ending::Spent;
+    match operand(answer) {
+        Some(_) => Ending::Plain,
+        None if answer == SPENT => Ending::Spent,
+        None => Ending::Fault(fault_numbered(beyond(answer))),
     }
-    Ending::Fault(fault_numbered(beyond(answer)))
 }
 
 // The statement at row 0, with the bounds and the rows of the functions written into what is lent for them.
@@ -98,8 +100,8 @@ fn run_in(
     }
 }
 
-// Room for up to 64 functions.
-fn run_few(
+// The run in a room of N places, which stands in this frame: for so many functions less 33.
+fn run_within<const N: usize>(
     form: Form,
     header: &[i32],
     rows: &[i32],
@@ -107,42 +109,11 @@ fn run_few(
     budget: u32,
     functions: usize,
 ) -> RunAnswer
-    requires { Runnable form header.now rows.now store.old × (functions ≡ function_count (contents rows.now)) × (functions ≤ 64) }
+    requires room { RoomFor form header.now rows.now store.old functions N }
+    requires small { N ≤ 41013 }
     ensures { finished_of result store.new ≡ run_table form header.now rows.now budget store.old }
 {
-    let mut room: [usize; 97] = [0; 97];
-    run_in(form, header, rows, store, budget, functions, &mut room)
-}
-
-// For as many as a source program has rows.
-fn run_some(
-    form: Form,
-    header: &[i32],
-    rows: &[i32],
-    store: &mut [i32],
-    budget: u32,
-    functions: usize,
-) -> RunAnswer
-    requires { Runnable form header.now rows.now store.old × (functions ≡ function_count (contents rows.now)) × (functions ≤ 2048) }
-    ensures { finished_of result store.new ≡ run_table form header.now rows.now budget store.old }
-{
-    let mut room: [usize; 2081] = [0; 2081];
-    run_in(form, header, rows, store, budget, functions, &mut room)
-}
-
-// For as many as a kernel program has rows.
-fn run_many(
-    form: Form,
-    header: &[i32],
-    rows: &[i32],
-    store: &mut [i32],
-    budget: u32,
-    functions: usize,
-) -> RunAnswer
-    requires { Runnable form header.now rows.now store.old × (functions ≡ function_count (contents rows.now)) × (functions ≤ 40980) }
-    ensures { finished_of result store.new ≡ run_table form header.now rows.now budget store.old }
-{
-    let mut room: [usize; 41013] = [0; 41013];
+    let mut room: [usize; N] = [0; N];
     run_in(form, header, rows, store, budget, functions, &mut room)
 }
 
@@ -159,9 +130,9 @@ fn run_counted(
     ensures { finished_of result store.new ≡ run_table form header.now rows.now budget store.old }
 {
     if functions <= 64 {
-        return run_few(form, header, rows, store, budget, functions);
+        return run_within::<FEW>(form, header, rows, store, budget, functions);
     }
-    run_some(form, header, rows, store, budget, functions)
+    run_within::<SOME>(form, header, rows, store, budget, functions)
 }
 
 // The run of a source table. It stands apart from the kernel's, so that the largest room is in no frame of it.
@@ -183,7 +154,7 @@ pub fn run_kernel_table(header: &[i32], rows: &[i32], store: &mut [i32], budget:
     if functions <= 2048 {
         return run_counted(Form::Kernel, header, rows, store, budget, functions);
     }
-    run_many(Form::Kernel, header, rows, store, budget, functions)
+    run_within::<MANY>(Form::Kernel, header, rows, store, budget, functions)
 }
 
 // The run of a table of either form with a budget.
@@ -195,5 +166,5 @@ pub fn run(form: Form, header: &[i32], rows: &[i32], store: &mut [i32], budget: 
     if functions <= 2048 {
         return run_counted(form, header, rows, store, budget, functions);
     }
-    run_many(form, header, rows, store, budget, functions)
+    run_within::<MANY>(form, header, rows, store, budget, functions)
 }

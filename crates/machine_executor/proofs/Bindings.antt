@@ -1,4 +1,5 @@
 -- Bindings: the arguments of a call in turn, told by the steps left: from the last to the first, and then the parameters.
+use Rattle.std.specs.Prelude.{None, Option, Some}
 use mathlib.Core.Path.{◌≡◌, refl, sym, ap, ◌∙◌}
 use mathlib.Core.List.{List, [], ◌∷◌}
 use Prim.Native.Nat.{ℕ, zero, suc, ◌*◌, ◌-◌, ◌^◌, ◌<◌, ◌≤◌}
@@ -27,8 +28,6 @@ use Rattle.machine_operations.specs.Bounds.{layout_in, function_row_in}
 use Rattle.machine_operations.specs.Functions.{FunctionAt}
 use Rattle.machine_operations.specs.Ready.{Setting, Ready, Entered}
 use Rattle.machine_operations.specs.Rows.{context_at, value_at, evaluate_at}
-use Rattle.machine_operations.specs.declared.Operand.{Operand}
-use Rattle.machine_operations.specs.declared.Operand.TheVariants.{Value, Halted}
 use Rattle.machine_operations.proofs.Decoding.{handed, answered-spent, answered-word}
 use Rattle.machine_operations.proofs.Enter.{entered, not_entered, onward-same, onward-onward}
 use Rattle.machine_operations.proofs.Operands.{goes, hands-up}
@@ -192,11 +191,11 @@ module _ {rows : List ℤ} {bounds : List ℕ} {words first parameter count : �
           h ∙ ap (λ (x : ℕ). spend (value_at rows bounds x) (left - 1) store) (q ∙ ap (λ (x : ℕ). number_at rows x 1) p)
           ∙ sym (entered (value_at rows bounds (number_at rows (row_behind rows first k) 1)) store left z)
 
-      module _ (r : ℤ) (i : ℕ) (t : List ℤ) (fits : mag r < 2 ^ 63) (h : answered r i t ≡ spend (argument_at rows bounds (row_behind rows first k)) left store) (o : Operand) (p : o ≡ operand_of (handed r)) where
-        pub bind-stop : o ≡ Halted → answered (handed r) i t ≡ spend (bound_at rows bounds first parameter count) left store
+      module _ (r : ℤ) (i : ℕ) (t : List ℤ) (fits : mag r < 2 ^ 63) (h : answered r i t ≡ spend (argument_at rows bounds (row_behind rows first k)) left store) (o : Option ℤ) (p : o ≡ operand_of (handed r)) where
+        pub bind-stop : o ≡ None → answered (handed r) i t ≡ spend (bound_at rows bounds first parameter count) left store
         bind-stop q = hands-up r i t fits h o p q after-argument ∙ sym (down-one left store)
 
-        module _ (v : ℤ) (q : o ≡ Value v) (b : ℤ) (j : ℕ) (u : List ℤ) (small : mag b < 2 ^ 63) (w : answered b j u ≡ spend (bound_at rows bounds first parameter k) i t) (x : Operand) (y : x ≡ operand_of (handed b)) where
+        module _ (v : ℤ) (q : o ≡ Some v) (b : ℤ) (j : ℕ) (u : List ℤ) (small : mag b < 2 ^ 63) (w : answered b j u ≡ spend (bound_at rows bounds first parameter k) i t) (x : Option ℤ) (y : x ≡ operand_of (handed b)) where
           abbrev stored_last : ℤ → ℕ → List ℤ → Rest ℤ
           stored_last _ n s = gives (pos 0) n (set s (number_at rows (row_behind rows parameter k) 1) v)
 
@@ -204,10 +203,10 @@ module _ {rows : List ℤ} {bounds : List ℕ} {words first parameter count : �
           unfolding after-argument
           goes_on = down-one left store ∙ goes after-argument r i t fits h o p v q
 
-          pub bind-earlier-stop : x ≡ Halted → answered (handed b) j u ≡ spend (bound_at rows bounds first parameter count) left store
+          pub bind-earlier-stop : x ≡ None → answered (handed b) j u ≡ spend (bound_at rows bounds first parameter count) left store
           bind-earlier-stop e = hands-up b j u small w x y e stored_last ∙ sym goes_on
 
-          pub bind-stored : (z : ℤ) → x ≡ Value z → {at : ℕ} → at ≡ row_behind rows parameter k → {stored : List ℤ} → stored ≡ set u (number_at rows at 1) v → answered (pos 0) j stored ≡ spend (bound_at rows bounds first parameter count) left store
+          pub bind-stored : (z : ℤ) → x ≡ Some z → {at : ℕ} → at ≡ row_behind rows parameter k → {stored : List ℤ} → stored ≡ set u (number_at rows at 1) v → answered (pos 0) j stored ≡ spend (bound_at rows bounds first parameter count) left store
           bind-stored z e a d =
               answered-word (pos 0) (omega arith) j _ ∙ ap (gives (pos 0) j) (d ∙ ap (λ (l : ℕ). set u (number_at rows l 1) v) a)
               ∙ sym (goes_on ∙ goes stored_last b j u small w x y z e)

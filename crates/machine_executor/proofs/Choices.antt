@@ -1,5 +1,6 @@
 -- Choices: the arms of a guarded statement by the rows that hold them, told by the steps left: the arm at a row, the rounds of a guarded do, and
 -- what follows the block that an answer names.
+use Rattle.std.specs.Prelude.{None, Option, Some}
 use mathlib.Core.Path.{◌≡◌, refl, sym, ap, ◌∙◌}
 use mathlib.Core.Bool.{Bool, true, false}
 use mathlib.Core.List.{List}
@@ -32,10 +33,6 @@ use Rattle.machine_operations.specs.Answers.{operand_of, answered, position_of}
 use Rattle.machine_operations.specs.Bounds.{layout_in}
 use Rattle.machine_operations.specs.Ready.{Entered}
 use Rattle.machine_operations.specs.Rows.{context_at, value_at}
-use Rattle.machine_operations.specs.declared.Operand.{Operand}
-use Rattle.machine_operations.specs.declared.Operand.TheVariants.{Value, Halted}
-use Rattle.machine_operations.specs.declared.Position.{Position}
-use Rattle.machine_operations.specs.declared.Position.TheVariants.{At, Nowhere}
 use Rattle.machine_operations.proofs.Decoding.{handed, handed-is, operand-word, operand-other, no-return-below, placed-word, placed-position, placed-spent}
 use Rattle.machine_operations.proofs.Enter.{entered, not_entered, onward-same, onward-onward, forks}
 use Rattle.machine_operations.proofs.Operands.{answered-least, goes, stops, chosen-true, chosen-false}
@@ -44,7 +41,7 @@ use Rattle.machine_flows.specs.Flows.{ran}
 use Rattle.machine_executor.specs.Arms.{guard_at, arms_from, block_from, chosen, ReadyArms, Chooses}
 use Rattle.machine_executor.specs.Rows.{perform_at, exec_at}
 use Rattle.machine_flows.proofs.Answers.{flow-stops, ran-handed, rounded}
-use Rattle.machine_executor.proofs.Loops.{loop-round}
+use Rattle.machine_executor.proofs.LoopLaws.{loop-round}
 use Rattle.machine_executor.proofs.Rows.{known, table-row, optional}
 
 -- ---- the arm at a row
@@ -95,13 +92,13 @@ arms-ready here arm-link {first} e q = record {
 }
 
 -- equal positions
-at_same : {i j : ℕ} → At i ≡ At j → i ≡ j
+at_same : {i j : ℕ} → Some i ≡ Some j → i ≡ j
 at_same e = cc
 
 -- ---- the arms in turn
 
 -- a row, as an answer
-position_is : (i : ℕ) → i < 2 ^ 31 → position_of (operand_of (to_z w64 i)) ≡ At i
+position_is : (i : ℕ) → i < 2 ^ 31 → position_of (operand_of (to_z w64 i)) ≡ Some i
 unfolding natural
 position_is i h = ap (λ (z : ℤ). position_of (operand_of z)) (handed-is (pos i) (omega arith)) ∙ ap position_of (operand-word (pos i) (omega arith))
 
@@ -140,7 +137,7 @@ module _ {rows : List ℤ} {bounds : List ℕ} {words first n : ℕ} {s : List �
     chooses-spent e = record {
       runs = ap (λ (r : Rest ℕ). onward r (λ block n s. spend (block_from rows bounds block) n s)) (placed-spent left store) ∙ sym (tried ∙ ap (λ (r : Rest ℤ). onward r after_guard) (not_entered (value_at rows bounds (number_at rows at 1)) store left e));
       steps = trying.steps;
-      below = λ block g. absurd (let w : position_of Halted ≡ At block = rw (operand-other (pos 2147483648) (omega arith) (no-return-below 2147483648 (omega arith))) at g in let v : ◌≡◌ {A = ℕ} 0 1 = cc in omega arith);
+      below = λ block g. absurd (let w : position_of None ≡ Some block = rw (operand-other (pos 2147483648) (omega arith) (no-return-below 2147483648 (omega arith))) at g in let v : ◌≡◌ {A = ℕ} 0 1 = cc in omega arith);
     }
 
     -- the guard's answer, behind the step for the arm's row
@@ -149,18 +146,18 @@ module _ {rows : List ℤ} {bounds : List ℕ} {words first n : ℕ} {s : List �
     guard-answered z r k t p h = h ∙ ap (λ (l : ℕ). spend (value_at rows bounds l) (left - 1) store) p ∙ sym (entered (value_at rows bounds (number_at rows at 1)) store left z)
 
     -- the guard's answer
-    module _ (r : ℤ) (k : ℕ) (t : List ℤ) (fits : mag r < 2 ^ 63) (h : answered r k t ≡ spend (guard_at rows bounds at) left store) (o : Operand) (e : o ≡ operand_of (handed r)) where
+    module _ (r : ℤ) (k : ℕ) (t : List ℤ) (fits : mag r < 2 ^ 63) (h : answered r k t ≡ spend (guard_at rows bounds at) left store) (o : Option ℤ) (e : o ≡ operand_of (handed r)) where
       fewer : k ≤ n
       fewer = omega (arith, answered-least r k t left store (guard_at rows bounds at) h, trying.steps)
 
-      pub chooses-stop : o ≡ Halted → Chooses rows bounds first n s (handed r) k t
+      pub chooses-stop : o ≡ None → Chooses rows bounds first n s (handed r) k t
       chooses-stop q = record {
         runs = rw (← e, q, handed-is r fits) (sym (tried ∙ stops after_guard r k t fits h o e q));
         steps = fewer;
-        below = λ block g. absurd (let w : position_of Halted ≡ At block = rw (← e, q) at g in let v : ◌≡◌ {A = ℕ} 0 1 = cc in omega arith);
+        below = λ block g. absurd (let w : position_of None ≡ Some block = rw (← e, q) at g in let v : ◌≡◌ {A = ℕ} 0 1 = cc in omega arith);
       }
 
-      module _ (v : ℤ) (q : o ≡ Value v) where
+      module _ (v : ℤ) (q : o ≡ Some v) where
         pub chooses-block : is_true v ≡ true → {block : ℕ} → block ≡ number_at rows at 2 → Chooses rows bounds first n s (to_z w64 block) k t
         chooses-block true-is {block} b =
             let inside : block < row_count rows = rw b (arm-links arm-here).1.inside in
@@ -293,19 +290,19 @@ module _ {rows : List ℤ} {bounds : List ℕ} {words row : ℕ} where
 -- ---- the block that an answer names
 
 module _ {rows : List ℤ} {bounds : List ℕ} {first n : ℕ} {s : List ℤ} (r : ℤ) (k : ℕ) (t : List ℤ) (choice : Chooses rows bounds first n s r k t) (fits : mag r < 2 ^ 63)
-    (p : Position) (e : p ≡ position_of (operand_of (handed r))) where
+    (p : Option ℕ) (e : p ≡ position_of (operand_of (handed r))) where
   position-says : position_of (operand_of r) ≡ p
   position-says = ap (λ (z : ℤ). position_of (operand_of z)) (sym (handed-is r fits)) ∙ sym e
 
-  halted-at : (o : Operand) → position_of o ≡ Nowhere → o ≡ Halted
-  halted-at (Value v) q = absurd (let w : ◌≡◌ {A = ℕ} 0 1 = cc in omega arith)
-  halted-at Halted q = refl
+  halted-at : (o : Option ℤ) → position_of o ≡ None → o ≡ None
+  halted-at (Some v) q = absurd (let w : ◌≡◌ {A = ℕ} 0 1 = cc in omega arith)
+  halted-at None q = refl
 
   -- the run stops; `f` is what would follow the arms
-  pub choice-stops : p ≡ Nowhere → (f : Choice → ℕ → List ℤ → Rest Signal) → ran (handed r) k t ≡ onward (spend (arms_from rows bounds first) n s) f
+  pub choice-stops : p ≡ None → (f : Choice → ℕ → List ℤ → Rest Signal) → ran (handed r) k t ≡ onward (spend (arms_from rows bounds first) n s) f
   choice-stops q f = ran-handed r k t fits ∙ rw (flow-stops r (halted-at (operand_of r) (position-says ∙ q))) (rw (← choice.runs, position-says, q))
 
-  module _ (block : ℕ) (q : p ≡ At block) where
+  module _ (block : ℕ) (q : p ≡ Some block) where
     pub block-below : block < row_count rows
     block-below = choice.below block (position-says ∙ q)
 

@@ -1,6 +1,6 @@
 -- Arms: what the arms of a guarded statement come to, by the rows that hold them, and what an answer says of it: the row of the block that
 -- runs, or 0 where no guard is true.
-use Rattle.std.specs.Prelude.{◌≡◌, List, ℕ, zero, suc, ◌<◌, ◌≤◌, ℤ}
+use Rattle.std.specs.Prelude.{◌≡◌, List, ℕ, zero, suc, ◌<◌, ◌≤◌, ℤ, Some}
 use Rattle.words.specs.Table.{row_count, number_at}
 use Rattle.words.specs.Kinds.{kind_at}
 use Rattle.words.specs.declared.Kind.TheVariants.{OfMember}
@@ -12,7 +12,6 @@ use Rattle.language.specs.Meaning.{Choice, none_true, ran, enter, choose}
 use Rattle.machine_operations.specs.Answers.{operand_of, position_of, placed}
 use Rattle.machine_operations.specs.Ready.{Ready}
 use Rattle.machine_operations.specs.Rows.{context_at, value_at}
-use Rattle.machine_operations.specs.declared.Position.TheVariants.{At}
 use Rattle.machine_executor.specs.Rows.{exec_at}
 
 module _ (rows : List ℤ) (bounds : List ℕ) where
@@ -45,4 +44,4 @@ pub record ReadyArms (rows : List ℤ) (bounds : List ℕ) (words first : ℕ) :
 pub record Chooses (rows : List ℤ) (bounds : List ℕ) (first n : ℕ) (s : List ℤ) (answer : ℤ) (left : ℕ) (store : List ℤ) : Type 0 where
   pub runs : chosen rows bounds answer left store ≡ spend (arms_from rows bounds first) n s
   pub steps : left ≤ n
-  pub below : (block : ℕ) → position_of (operand_of answer) ≡ At block → block < row_count rows
+  pub below : (block : ℕ) → position_of (operand_of answer) ≡ Some block → block < row_count rows

@@ -1,4 +1,6 @@
 -- Answers: laws of the answers of statements and rounds: what the numbers say, how they are handed on, and that steps left never rise.
+use Rattle.std.specs.Prelude.{None, Option, Some}
+use Rattle.std.proofs.Common.{◌⊎◌, inl, inr}
 use mathlib.Core.Path.{◌≡◌, refl, sym, ap, ◌∙◌}
 use mathlib.Core.Bool.{Bool, true, false, ◌||◌, true≢false, false≢true}
 use mathlib.Core.List.{List, [], ◌∷◌}
@@ -27,8 +29,6 @@ use Rattle.language.specs.Trees.{label}
 use Rattle.language.specs.Meaning.{Signal, next, breaking, continuing, seeking, returning, enter, after_switch, after_body, Choice, ran as ran_with, after_arms}
 use Rattle.language.specs.Functions.{returned}
 use Rattle.machine_operations.specs.Answers.{beyond, stop_of, is_return, operand_of, answered}
-use Rattle.machine_operations.specs.declared.Operand.{Operand}
-use Rattle.machine_operations.specs.declared.Operand.TheVariants.{Value, Halted as Stopped}
 use Rattle.machine_operations.proofs.Decoding.{handed, handed-is, wide, wide_is, operand-word, word-no-return, answered-word}
 use Rattle.machine_operations.proofs.Enter.{entered, not_entered}
 use Rattle.machine_operations.proofs.Operands.{stops, handed-on}
@@ -122,20 +122,20 @@ module _ (z : ℤ) (h : mag z < 2 ^ 31) where
 -- ---- the flow of an answer
 
 -- a stop is no return
-stop-is-none : (z : ℤ) → operand_of z ≡ Stopped → is_return z ≡ false
+stop-is-none : (z : ℤ) → operand_of z ≡ None → is_return z ≡ false
 unfolding operand_of
 stop-is-none z e = by (is_word z) (is_return z) e
   where
-    by : (w r : Bool) → pick w (Value z) (pick r (Value (pos 0)) Stopped) ≡ Stopped → r ≡ false
+    by : (w r : Bool) → pick w (Some z) (pick r (Some (pos 0)) None) ≡ None → r ≡ false
     by true r e = absurd (let w : ◌≡◌ {A = ℕ} 0 1 = cc in omega arith)
     by false true e = absurd (let w : ◌≡◌ {A = ℕ} 0 1 = cc in omega arith)
     by false false e = refl
 
-pub flow-stops : (z : ℤ) → operand_of z ≡ Stopped → flow_of z ≡ Halted
+pub flow-stops : (z : ℤ) → operand_of z ≡ None → flow_of z ≡ Halted
 unfolding flow_of
 flow-stops z e = rw (stop-is-none z e, e)
 
-pub flow-passes : (z v : ℤ) → is_return z ≡ false → operand_of z ≡ Value v → flow_of z ≡ passing_of v
+pub flow-passes : (z v : ℤ) → is_return z ≡ false → operand_of z ≡ Some v → flow_of z ≡ passing_of v
 unfolding flow_of
 flow-passes z v r e = rw (r, e)
 
@@ -200,14 +200,14 @@ module _ (z : ℤ) (fits : mag z < 2 ^ 63) {b : Bool} (r : b ≡ is_return (hand
       ap (λ (x : ℤ). answered x n s) (handed-is (handed z -ℤ pos 8589934592) (call_fits t) ∙ ap (λ (x : ℤ). x -ℤ pos 8589934592) (handed-is z fits))
       ∙ answered-word (return_value z) (returned-word z (no_other ∙ t)) n s ∙ rw (flow-returns z (no_other ∙ t))
 
-  module _ (t : b ≡ false) (o : Operand) (e : o ≡ operand_of (handed z)) where
+  module _ (t : b ≡ false) (o : Option ℤ) (e : o ≡ operand_of (handed z)) where
     says-operand : operand_of z ≡ o
     says-operand = ap operand_of (sym (handed-is z fits)) ∙ sym e
 
-    pub call-stops : o ≡ Stopped → EndsCall z (handed z)
+    pub call-stops : o ≡ None → EndsCall z (handed z)
     call-stops q n s = rw (handed-is z fits, flow-stops z (says-operand ∙ q), says-operand, q)
 
-    pub call_ends : (v : ℤ) → o ≡ Value v → EndsCall z (pos 0)
+    pub call_ends : (v : ℤ) → o ≡ Some v → EndsCall z (pos 0)
     unfolding passing_of
     call_ends v q n s = answered-word (pos 0) (omega arith) n s ∙ sym (rw (flow-passes z v (no_other ∙ t) (says-operand ∙ q)) (by v))
       where
@@ -255,7 +255,7 @@ module _ (r : ℤ) (n : ℕ) (s : List ℤ) (fits : mag r < 2 ^ 63) where
   turned-handed = ap (λ (z : ℤ). turned z n s) (handed-is r fits)
 
 -- an evaluation's stop is handed up
-module _ {m : Rest ℤ} (r : ℤ) (n : ℕ) (s : List ℤ) (fits : mag r < 2 ^ 63) (h : answered r n s ≡ m) (o : Operand) (e : o ≡ operand_of (handed r)) (q : o ≡ Stopped) where
+module _ {m : Rest ℤ} (r : ℤ) (n : ℕ) (s : List ℤ) (fits : mag r < 2 ^ 63) (h : answered r n s ≡ m) (o : Option ℤ) (e : o ≡ operand_of (handed r)) (q : o ≡ None) where
   halted-flow : flow_of r ≡ Halted
   halted-flow = flow-stops r (ap operand_of (sym (handed-is r fits)) ∙ sym e ∙ q)
 
@@ -308,21 +308,13 @@ module _ (z : ℤ) (fits : mag z < 2 ^ 63) (f : Flow) (e : f ≡ flow_of (handed
   unfolding spend
   body-break q n s = turned-last n s ∙ rw (flow-is, q)
 
-  pub body-continue : f ≡ Continue → EndsBody z (handed z)
+  -- what is no next and no break is handed on
+  pub body-kept : (f ≡ Continue) ⊎ (((l : ℕ) × (f ≡ Goto l)) ⊎ ((f ≡ Return) ⊎ (f ≡ Halted))) → EndsBody z (handed z)
   unfolding spend
-  body-continue q n s = turned-handed z n s fits ∙ rw (flow-is, q)
-
-  pub body-goto : (l : ℕ) → f ≡ Goto l → EndsBody z (handed z)
-  unfolding spend
-  body-goto l q n s = turned-handed z n s fits ∙ rw (flow-is, q)
-
-  pub body-return : f ≡ Return → EndsBody z (handed z)
-  unfolding spend
-  body-return q n s = turned-handed z n s fits ∙ rw (flow-is, q)
-
-  pub body-halted : f ≡ Halted → EndsBody z (handed z)
-  unfolding spend
-  body-halted q n s = turned-handed z n s fits ∙ rw (flow-is, q)
+  body-kept (inl q) n s = turned-handed z n s fits ∙ rw (flow-is, q)
+  body-kept (inr (inl (l, q))) n s = turned-handed z n s fits ∙ rw (flow-is, q)
+  body-kept (inr (inr (inl q))) n s = turned-handed z n s fits ∙ rw (flow-is, q)
+  body-kept (inr (inr (inr q))) n s = turned-handed z n s fits ∙ rw (flow-is, q)
 
 -- ---- rounds
 

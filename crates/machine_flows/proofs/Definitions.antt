@@ -14,7 +14,7 @@ use Rattle.words.specs.Table.{row_count, number_at}
 use Rattle.words.specs.Kinds.{kinds, kind_in, kind_of, kind_at, is_link, is_required, kind_row, statement_fields, definition_fields, sort_in}
 use Rattle.words.specs.KindLaws.{kind-numbered}
 use Rattle.words.specs.declared.Kind.TheVariants.{Definition}
-use Rattle.language.specs.Trees.{Items, define}
+use Rattle.language.specs.Trees.{define}
 use Rattle.language.specs.Decode.{list_at, statement_at, block_items, parameter_list_at}
 use Rattle.language.specs.DecodeLaws.{at-definition}
 use Rattle.language.specs.Functions.{function_of, function_count}

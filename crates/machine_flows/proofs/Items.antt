@@ -1,4 +1,5 @@
 -- Items: the items of a list by the rows that hold them: the item at a row, the list behind it, and the search for a mark.
+use Rattle.std.proofs.Common.{◌⊎◌, inl, inr}
 use mathlib.Core.Path.{◌≡◌, refl, sym, ap, ◌∙◌}
 use mathlib.Core.Bool.{Bool, true, false, ◌||◌}
 use mathlib.Core.List.{List, []}
@@ -28,6 +29,7 @@ use Rattle.machine_operations.specs.Rows.{context_in}
 use Rattle.machine_operations.proofs.Decoding.{handed}
 use Rattle.machine_flows.specs.Flows.{flow_of, return_value, ran}
 use Rattle.machine_flows.specs.Lists.{marks, from, start_of, InTable, Finds, Starts, Resumes, item_of, continued}
+use Rattle.machine_flows.specs.declared.Flow.{Flow}
 use Rattle.machine_flows.specs.declared.Flow.TheVariants.{Next as FlowNext, Break as FlowBreak, Continue as FlowContinue, Goto as FlowGoto, Return as FlowReturn, Halted}
 use Rattle.machine_flows.proofs.Answers.{ran-handed}
 use Rattle.machine_flows.proofs.Enter.{list-none, list-then, list-here, list-define, past-breaking, past-continuing, past-returning, search-list}
@@ -340,17 +342,12 @@ module _ {rows : List ℤ} {row : ℕ} (item : InTable rows row) (answer : ℤ) 
   resumes-none : ((L : Layout) (n : ℕ) (s : List ℤ) → onward (ran answer n s) (λ signal n s. spend (items (context_in L rows) (list_at rows (number_at rows row 5)) signal) n s) ≡ ran answer n s) → Resumes rows row answer 0
   resumes-none f = record { goes_on = f; below = item.sound.some_rows; ahead = λ h. absurd (omega arith) }
 
-  pub resumes-break : flow_of answer ≡ FlowBreak → Resumes rows row answer 0
-  resumes-break f = resumes-none (λ L n s. after-break rows (context_in L rows) answer n s _ f)
-
-  pub resumes-continue : flow_of answer ≡ FlowContinue → Resumes rows row answer 0
-  resumes-continue f = resumes-none (λ L n s. after-continue rows (context_in L rows) answer n s _ f)
-
-  pub resumes-return : flow_of answer ≡ FlowReturn → Resumes rows row answer 0
-  resumes-return f = resumes-none (λ L n s. after-return rows (context_in L rows) answer n s _ f)
-
-  pub resumes-halted : flow_of answer ≡ Halted → Resumes rows row answer 0
-  resumes-halted f = resumes-none (λ L n s. after-halted rows (context_in L rows) answer n s _ f)
+  -- a break, a continue, a return and a stop leave the list
+  pub resumes-left : {f : Flow} → flow_of answer ≡ f → (f ≡ FlowBreak) ⊎ ((f ≡ FlowContinue) ⊎ ((f ≡ FlowReturn) ⊎ (f ≡ Halted))) → Resumes rows row answer 0
+  resumes-left e (inl q) = resumes-none (λ L n s. after-break rows (context_in L rows) answer n s _ (e ∙ q))
+  resumes-left e (inr (inl q)) = resumes-none (λ L n s. after-continue rows (context_in L rows) answer n s _ (e ∙ q))
+  resumes-left e (inr (inr (inl q))) = resumes-none (λ L n s. after-return rows (context_in L rows) answer n s _ (e ∙ q))
+  resumes-left e (inr (inr (inr q))) = resumes-none (λ L n s. after-halted rows (context_in L rows) answer n s _ (e ∙ q))
 
 -- ---- the steps of a list's run
 

@@ -1,32 +1,28 @@
 -- Walks along links: functions, arguments and parameters by the rows that hold them.
-use mathlib.Core.Path.{◌≡◌, refl, sym, ap, ◌∙◌, subst}
+use mathlib.Core.Path.{◌≡◌, refl, sym, ap, ◌∙◌}
 use mathlib.Core.Bool.{Bool, true, false, ◌&&◌, true≢false}
 use mathlib.Core.List.{List, [], ◌∷◌}
-use Prim.Native.Nat.{ℕ, zero, suc, ◌+◌, ◌*◌, ◌-◌, ◌<◌, ◌≤◌}
+use Prim.Native.Nat.{ℕ, zero, suc, ◌+◌, ◌-◌, ◌<◌, ◌≤◌}
 use native.Mathlib.Omega.{arith}
-use native.Mathlib.Decide.{dec_lt}
-use borrow.Author.Tests.{eq-eqb, ne_eqb, lt-ltb, eqb-true}
-use lib.Dec.{ltb, eqb}
-use lib.IntN.{ℤ, pos}
+use borrow.Author.Tests.{lt-ltb, eqb-true}
+use lib.Dec.{ltb}
+use lib.IntN.{ℤ}
 use lib.ListN.{length, drop}
-use Rattle.words.specs.Word.{pick}
 use Rattle.words.specs.Table.{row_count, number_at}
 use Rattle.words.specs.Declarations.{is_declaration}
-use Rattle.words.specs.Kinds.{kinds, kind_in, kind_of, kind_at, is_link, is_required, kind_row, definition_fields, member_fields, sort_in}
+use Rattle.words.specs.Kinds.{kinds, kind_in, kind_of, kind_at, is_required, kind_row, member_fields, sort_in}
 use Rattle.words.specs.KindLaws.{kind-numbered}
-use Rattle.words.specs.declared.Kind.TheVariants.{OfStatement, OfMember, Definition}
+use Rattle.words.specs.declared.Kind.TheVariants.{OfStatement, OfMember}
 use Rattle.words.specs.declared.StatementKind.TheVariants.{Declare}
 use Rattle.words.specs.declared.MemberKind.TheVariants.{Argument}
-use Rattle.language.specs.Trees.{Items, none, define, Arguments, ◌also◌}
-use Rattle.language.specs.Decode.{expression_at, statement_at, block_items, items_of, items_at, list_at, arguments_at, argument_list_at, parameters_at, parameter_list_at}
-use Rattle.language.specs.DecodeLaws.{kind-beyond, parameters-at, items-at, at-definition, at-parameter, at-argument}
-use Rattle.language.specs.Functions.{function_of, function_count}
-use Rattle.language.specs.Calls.{argument_count, Numbered, DefinitionsFirst}
-use Rattle.language.specs.Program.{contents}
-use Rattle.language.specs.SoundLaws.{link-of, optional-link-of}
+use Rattle.language.specs.Trees.{◌also◌}
+use Rattle.language.specs.Decode.{expression_at, arguments_at, argument_list_at, parameters_at, parameter_list_at}
+use Rattle.language.specs.DecodeLaws.{parameters-at, at-parameter, at-argument}
+use Rattle.language.specs.Calls.{argument_count}
+use Rattle.language.specs.SoundLaws.{link-of}
 use Rattle.machine_flows.specs.Calls.{ArgumentsAt, row_behind}
 use Rattle.machine_flows.specs.Lists.{InTable}
-use Rattle.machine_flows.proofs.Items.{at_row, next-later, next-below, next_is, by-item, list-at, ahead, ahead-falls}
+use Rattle.machine_flows.proofs.Items.{at_row, next-later, next-below, next_is, ahead, ahead-falls}
 
 -- ---- arguments
 

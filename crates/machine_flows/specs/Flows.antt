@@ -1,7 +1,7 @@
 -- Flows: what a statement's answer says of a run, in the words of `spend`. An answer is one number, so that it comes back in a
 -- register: a word says how the statement ended, and the numbers behind the words say why the run stopped, as an evaluation says it, or, from 2^33
 -- on both sides, the value that a return gives.
-use Rattle.std.specs.Prelude.{◌≡◌, Bool, List, ℕ, ℤ, pos, negsuc, ◌-ℤ◌, set}
+use Rattle.std.specs.Prelude.{◌≡◌, Bool, List, ℕ, ℤ, pos, negsuc, ◌-ℤ◌, set, None, Option, Some}
 use Rattle.words.specs.Word.{same_word, natural, pick}
 use Rattle.arithmetic.specs.Arithmetic.{is_true}
 use Rattle.computation.specs.Computation.{Turn, again, leave, ret}
@@ -12,8 +12,6 @@ use Rattle.language.specs.Trees.{label}
 use Rattle.language.specs.Meaning.{Signal, next, breaking, continuing, seeking, returning, after_switch, after_body}
 use Rattle.language.specs.Functions.{returned}
 use Rattle.machine_operations.specs.Answers.{stop_of, is_return, operand_of, answered}
-use Rattle.machine_operations.specs.declared.Operand.{Operand}
-use Rattle.machine_operations.specs.declared.Operand.TheVariants.{Value, Halted as Stopped}
 use Rattle.machine_flows.specs.declared.Flow.{Flow}
 use Rattle.machine_flows.specs.declared.Flow.TheVariants.{Next, Break, Continue, Goto, Return, Halted}
 
@@ -22,9 +20,9 @@ use Rattle.machine_flows.specs.declared.Flow.TheVariants.{Next, Break, Continue,
 unfoldable pub passing_of : ℤ → Flow
 passing_of z = pick (same_word z (negsuc 0)) Next (pick (same_word z (negsuc 1)) Break (pick (same_word z (negsuc 2)) Continue (Goto (natural z))))
 
-abbrev pub flow_by : Operand → Flow
-flow_by (Value z) = passing_of z
-flow_by Stopped = Halted
+abbrev pub flow_by : Option ℤ → Flow
+flow_by (Some z) = passing_of z
+flow_by None = Halted
 
 -- The flow that an answer says.
 unfoldable pub flow_of : ℤ → Flow

@@ -28,10 +28,8 @@ pub fn row_behind(rows: &[i32], first: usize, links: usize) -> usize
     ensures { result ≡ row_behind rows.now first links }
 {
     let mut at = first;
-    let mut k: usize = 0;
-    while k < links {
+    for _link in 0..links {
         at = link_at(rows, at, 5);
-        k += 1;
     }
     at
 }

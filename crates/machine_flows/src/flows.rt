@@ -10,9 +10,9 @@ ghost use Rattle.machine_flows.specs.Flows.{flow_of, passing_of, ran, EndsExpres
 
 use super::{CONTINUE, Flow, NEXT, NO_LABEL, RETURN};
 use arithmetic::is_true;
+use machine_operations::GUARD;
 use machine_operations::answers::{is_return, operand};
 use machine_operations::operations::link_at;
-use machine_operations::{GUARD, Operand};
 use words::table::natural;
 
 // How the statement with this answer ended.
@@ -22,8 +22,7 @@ pub fn flow(answer: i64) -> Flow
     if is_return(answer) {
         return Flow::Return;
     }
-    let word = operand(answer);
-    let Operand::Value(number) = word else {
+    let Some(number) = operand(answer) else {
         return Flow::Halted;
     };
     passing(number)
@@ -33,6 +32,7 @@ pub fn flow(answer: i64) -> Flow
 fn passing(number: i32) -> Flow
     ensures { result ≡ passing_of number }
 {
+    // Kept as tests: a match on a signed number tells a proof nothing of the number.
     if number == -1 {
         return Flow::Next;
     }
@@ -59,8 +59,7 @@ pub fn jump(label: i32) -> i64
 pub fn after_expression(answer: i64) -> i64
     ensures { EndsExpression answer result }
 {
-    let value = operand(answer);
-    let Operand::Value(_) = value else {
+    let Some(_) = operand(answer) else {
         return answer;
     };
     NEXT
@@ -71,8 +70,7 @@ pub fn after_initial(answer: i64, rows: &[i32], row: usize, store: &mut [i32]) -
     requires { (6 * row + 1 < length rows.now) × (number_at rows.now row 1 < length store.old) × (length store.old < 65536) }
     ensures { EndsDeclaration (number_at rows.now row 1) answer store.old result store.new }
 {
-    let first = operand(answer);
-    let Operand::Value(value) = first else {
+    let Some(value) = operand(answer) else {
         return answer;
     };
     let at = link_at(rows, row, 1);
@@ -84,8 +82,7 @@ pub fn after_initial(answer: i64, rows: &[i32], row: usize, store: &mut [i32]) -
 pub fn after_value(answer: i64) -> i64
     ensures { EndsReturn answer result }
 {
-    let first = operand(answer);
-    let Operand::Value(value) = first else {
+    let Some(value) = operand(answer) else {
         return answer;
     };
     RETURN + value as i64
@@ -98,8 +95,7 @@ pub fn after_call(answer: i64) -> i64
     if is_return(answer) {
         return answer - RETURN;
     }
-    let ended = operand(answer);
-    let Operand::Value(_) = ended else {
+    let Some(_) = operand(answer) else {
         return answer;
     };
     0
@@ -119,8 +115,7 @@ pub fn without_guard(repeats: bool) -> i64
 pub fn after_switch(answer: i64) -> i64
     ensures { EndsSwitch answer result }
 {
-    let ended = flow(answer);
-    let Flow::Break = ended else {
+    let Flow::Break = flow(answer) else {
         return answer;
     };
     NEXT
@@ -130,14 +125,10 @@ pub fn after_switch(answer: i64) -> i64
 pub fn after_body(answer: i64) -> i64
     ensures { EndsBody answer result }
 {
-    let ended = flow(answer);
-    match ended {
+    match flow(answer) {
         Flow::Next => CONTINUE,
         Flow::Break => NEXT,
-        Flow::Continue => answer,
-        Flow::Goto(_) => answer,
-        Flow::Return => answer,
-        Flow::Halted => answer,
+        Flow::Continue | Flow::Goto(_) | Flow::Return | Flow::Halted => answer,
     }
 }
 
@@ -145,11 +136,8 @@ pub fn after_body(answer: i64) -> i64
 pub fn after_last(decides: bool, value: i32) -> i64
     ensures { EndsRound decides value result }
 {
-    if !decides {
-        return CONTINUE;
+    if decides && !is_true(value) {
+        return NEXT;
     }
-    if is_true(value) {
-        return CONTINUE;
-    }
-    NEXT
+    CONTINUE
 }

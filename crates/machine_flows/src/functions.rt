@@ -15,10 +15,7 @@ fn is_definition(rows: &[i32], row: usize) -> bool
     requires { InTable rows.now row }
     ensures { result ≡ is_defined rows.now row }
 {
-    if row == 0 {
-        return false;
-    }
-    number_at(rows, row, 0) == 59
+    row != 0 && number_at(rows, row, 0) == 59
 }
 
 // How many functions the table defines: "definitions come first in row 0's list".
@@ -41,9 +38,7 @@ pub fn fill_functions(rows: &[i32], room: &mut [usize])
     ensures { RowsOfFunctions rows.now room.new }
 {
     let mut at = link_at(rows, 0, 1);
-    let mut k = room.len();
-    while k > 0 {
-        k -= 1;
+    for k in (0..room.len()).rev() {
         room[k] = at;
         at = link_at(rows, at, 5);
     }

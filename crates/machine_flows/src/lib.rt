@@ -1,5 +1,5 @@
-// What a statement's answer says, and where a list goes on. An answer is one number, so that it comes back in a register: flows.rt says
-// what it means.
+// What a statement's answer says, and where a list goes on. An answer is one number, since structs and enums come back through memory
+// (docs/PERFORMANCE.md): flows.rt says what it means.
 #![tactic(auto)]
 
 pub mod calls; // calls.rt: the rows of arguments and parameters

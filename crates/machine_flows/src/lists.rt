@@ -26,11 +26,7 @@ fn is_case(rows: &[i32], row: usize, value: i32) -> bool
     requires { InTable rows.now row }
     ensures { result ≡ marks (case_of value) (items_at rows.now row) }
 {
-    let number = number_at(rows, row, 0);
-    if number == 48 {
-        return value == word_at(rows, row, 1);
-    }
-    false
+    number_at(rows, row, 0) == 48 && value == word_at(rows, row, 1)
 }
 
 fn is_default(rows: &[i32], row: usize) -> bool
@@ -44,11 +40,7 @@ fn is_label(rows: &[i32], row: usize, label: usize) -> bool
     requires { InTable rows.now row }
     ensures { result ≡ marks (label_of label) (items_at rows.now row) }
 {
-    let number = number_at(rows, row, 0);
-    if number == 53 {
-        return label == number_at(rows, row, 1);
-    }
-    false
+    number_at(rows, row, 0) == 53 && label == number_at(rows, row, 1)
 }
 
 // The first item from `first` on that is the mark, or 0.
@@ -57,16 +49,10 @@ pub fn find_mark(rows: &[i32], first: usize, mark: SoughtMark) -> usize
     ensures { Finds rows.now first (mark_of mark) result }
 {
     let mut at = first;
-    let found = loop {
-        if at == 0 {
-            break at;
-        }
-        if is_mark(rows, at, mark) {
-            break at;
-        }
+    while at != 0 && !is_mark(rows, at, mark) {
         at = link_at(rows, at, 5);
-    };
-    found
+    }
+    at
 }
 
 // The item at which a switch begins: "the case of equal value, else .. default", or 0.
@@ -86,13 +72,9 @@ pub fn resume(rows: &[i32], row: usize, answer: i64) -> usize
     requires { InTable rows.now row }
     ensures { Resumes rows.now row answer result }
 {
-    let ended = flow(answer);
-    match ended {
+    match flow(answer) {
         Flow::Next => link_at(rows, row, 5),
         Flow::Goto(label) => find_mark(rows, link_at(rows, row, 5), SoughtMark::Label(label)),
-        Flow::Break => 0,
-        Flow::Continue => 0,
-        Flow::Return => 0,
-        Flow::Halted => 0,
+        Flow::Break | Flow::Continue | Flow::Return | Flow::Halted => 0,
     }
 }

@@ -1,4 +1,5 @@
 -- Decoding: answers as the code handles them: words cast to 64 bits, numbers handed on, stops.
+use Rattle.std.specs.Prelude.{Err, None, Ok, Option, Result, Some, ok_or}
 use mathlib.Core.Path.{◌≡◌, refl, sym, ap, ap₂, ◌∙◌}
 use mathlib.Core.Bool.{Bool, true, false, true≢false}
 use mathlib.Core.List.{List}
@@ -13,25 +14,19 @@ use mir.Facts.{to_z-of_z}
 use borrow.Author.Tests.{ltb-true, ltb-false, lt-ltb, le-ltb, ne_eqb}
 use Rattle.words.specs.Word.{is_word, natural, pick}
 use lib.ListN.{get_or, set}
-use Rattle.arithmetic.specs.Arithmetic.{Outcome, value, apply, element}
+use Rattle.arithmetic.specs.Arithmetic.{apply, element}
 use Rattle.words.specs.declared.Operator.{Operator}
 use Rattle.language.specs.Meaning.{update, old_value, new_value}
 use Rattle.words.specs.Answers.{fault_number}
-use Rattle.arithmetic.specs.Answers.{computed, located}
 use Rattle.words.specs.Laws.{back, below-least-word, above-greatest-word, between-words}
 use Rattle.arithmetic.proofs.Laws.{element-inside}
 use Rattle.words.specs.declared.FaultSort.{FaultSort}
 use Rattle.words.specs.declared.FaultSort.TheVariants.{Index}
 use Rattle.words.specs.AnswerLaws.{faults-apart}
-use Rattle.arithmetic.specs.declared.Computed.{Computed}
-use Rattle.arithmetic.specs.declared.Computed.TheVariants.{Value as Computes, Fails}
 use Rattle.computation.specs.Computation.{settle}
 use Rattle.computation.specs.Run.{Stop, spent, fault}
 use Rattle.computation.specs.Remaining.{gives, halts, spend, onward}
 use Rattle.machine_operations.specs.Answers.{stop_number, beyond, stop_of, is_return, operand_of, answered, placed, Settles, Places}
-use Rattle.machine_operations.specs.declared.Operand.TheVariants.{Value, Halted}
-use Rattle.arithmetic.specs.declared.Located.{Located}
-use Rattle.arithmetic.specs.declared.Located.TheVariants.{At, Outside}
 
 -- a word that was cast to 64 bits, and an answer that was handed on
 abbrev pub wide : ℤ → ℤ
@@ -51,15 +46,15 @@ wide_is z h = ap (λ (x : ℤ). to_z w64 (of_z w64 x)) (back z h) ∙ handed-is 
 
 -- ---- decoding
 
-pub operand-word : (z : ℤ) → mag z < 2 ^ 31 → operand_of z ≡ Value z
+pub operand-word : (z : ℤ) → mag z < 2 ^ 31 → operand_of z ≡ Some z
 unfolding operand_of is_word
 operand-word z h = rw (lt-ltb _ _ h)
 
-pub operand-other : (z : ℤ) → 2 ^ 31 ≤ mag z → is_return z ≡ false → operand_of z ≡ Halted
+pub operand-other : (z : ℤ) → 2 ^ 31 ≤ mag z → is_return z ≡ false → operand_of z ≡ None
 unfolding operand_of is_word
 operand-other z h e = rw (le-ltb _ _ h, e)
 
-pub operand-return : (z : ℤ) → 2 ^ 31 ≤ mag z → is_return z ≡ true → operand_of z ≡ Value (pos 0)
+pub operand-return : (z : ℤ) → 2 ^ 31 ≤ mag z → is_return z ≡ true → operand_of z ≡ Some (pos 0)
 unfolding operand_of is_word
 operand-return z h e = rw (le-ltb _ _ h, e)
 
@@ -94,22 +89,22 @@ module _ (z : ℤ) (h : SFits w64 z) where
   same = to_z-of_z {z = z} h
 
   module _ (e : lt_z (pos 2147483647) (handed z) ≡ true) {b : Bool} (r : b ≡ is_return (handed z)) where
-    pub operand_above : b ≡ false → Halted ≡ operand_of z
+    pub operand_above : b ≡ false → None ≡ operand_of z
     operand_above q = sym (operand-other z (above-greatest-word z (rw same at e)) (ap is_return (sym same) ∙ sym r ∙ q))
 
-    pub operand-returns : b ≡ true → Value (pos 0) ≡ operand_of z
+    pub operand-returns : b ≡ true → Some (pos 0) ≡ operand_of z
     operand-returns q = sym (operand-return z (above-greatest-word z (rw same at e)) (ap is_return (sym same) ∙ sym r ∙ q))
 
-  pub operand_below : lt_z (handed z) (negsuc 2147483647) ≡ true → Halted ≡ operand_of z
+  pub operand_below : lt_z (handed z) (negsuc 2147483647) ≡ true → None ≡ operand_of z
   operand_below e = let f = rw same at e in sym (operand-other z (below-least-word z f) (no-return-negative z f))
 
   module _ (e : lt_z (pos 2147483647) (handed z) ≡ false) (g : lt_z (handed z) (negsuc 2147483647) ≡ false) where
     pub operand-fits : SFits w32 (handed z)
     operand-fits = record { sfits = between-words (handed z) g e }
 
-    pub operand-is : Value (to_z w32 (of_z w32 (handed z))) ≡ operand_of z
+    pub operand-is : Some (to_z w32 (of_z w32 (handed z))) ≡ operand_of z
     operand-is =
-        ap Value (to_z-of_z operand-fits ∙ same) ∙ sym (operand-word z (rw same at operand-fits.sfits))
+        ap Some (to_z-of_z operand-fits ∙ same) ∙ sym (operand-word z (rw same at operand-fits.sfits))
 
 -- ---- what answers say
 
@@ -197,46 +192,46 @@ placed-wide z h n s = ap (λ (x : ℤ). placed x n s) (wide_is z h) ∙ placed-w
 -- ---- operations
 
 -- a word that went through a local, and was cast
-pub settles-word : (z : ℤ) (o : Outcome ℤ) → mag z < 2 ^ 31 → value (to_z w32 (of_z w32 z)) ≡ o → Settles (wide z) o
+pub settles-word : (z : ℤ) (o : Result ℤ FaultSort) → mag z < 2 ^ 31 → Ok (to_z w32 (of_z w32 z)) ≡ o → Settles (wide z) o
 unfolding spend
-settles-word z o h e n s = answered-wide z h n s ∙ ap (λ (x : ℤ). gives x n s) (sym (back z h)) ∙ ap (λ (x : Outcome ℤ). spend (settle x) n s) e
+settles-word z o h e n s = answered-wide z h n s ∙ ap (λ (x : ℤ). gives x n s) (sym (back z h)) ∙ ap (λ (x : Result ℤ FaultSort). spend (settle x) n s) e
 
-module _ (c : Computed) where
-  pub settles-value : (v : ℤ) → c ≡ Computes v → mag v < 2 ^ 31 → Settles (wide v) (computed c)
+module _ (c : Result ℤ FaultSort) where
+  pub settles-value : (v : ℤ) → c ≡ Ok v → mag v < 2 ^ 31 → Settles (wide v) c
   unfolding spend
   settles-value v e h n s = answered-wide v h n s ∙ rw e
 
-  pub settles-fault : (sort : FaultSort) (z : ℤ) → c ≡ Fails sort → z ≡ stop_number (fault sort) → mag z < 2 ^ 63 → Settles (handed z) (computed c)
+  pub settles-fault : (sort : FaultSort) (z : ℤ) → c ≡ Err sort → z ≡ stop_number (fault sort) → mag z < 2 ^ 63 → Settles (handed z) c
   unfolding spend
   settles-fault sort z e g h n s = rw (handed-is z h, g, answered-stop (fault sort) n s, e)
 
-pub settled-settles : (z : ℤ) (o : Outcome ℤ) → mag z < 2 ^ 63 → Settles z o → Settles (handed z) o
+pub settled-settles : (z : ℤ) (o : Result ℤ FaultSort) → mag z < 2 ^ 63 → Settles z o → Settles (handed z) o
 settled-settles z o h p = rw (handed-is z h) p
 
 -- ---- read, operate, store
 
-module _ (o : Operator) (i : ℕ) (right : ℤ) (s : List ℤ) (c : Computed) (e : computed c ≡ apply o (to_z w32 (of_z w32 (get_or s i (pos 0)))) (to_z w32 (of_z w32 right)))
+module _ (o : Operator) (i : ℕ) (right : ℤ) (s : List ℤ) (c : Result ℤ FaultSort) (e : c ≡ apply o (to_z w32 (of_z w32 (get_or s i (pos 0)))) (to_z w32 (of_z w32 right)))
     (g : mag (get_or s i (pos 0)) < 2 ^ 31) (h : mag right < 2 ^ 31) (result : ℤ → ℤ → ℤ) (n : ℕ) where
-  computes : computed c ≡ apply o (get_or s i (pos 0)) right
+  computes : c ≡ apply o (get_or s i (pos 0)) right
   computes = e ∙ ap₂ (apply o) (back (get_or s i (pos 0)) g) (back right h)
 
-  update-is : spend (update o i right result) n s ≡ onward (spend (settle (computed c)) n s) (λ new n t. gives (result (get_or s i (pos 0)) new) n (set t i new))
+  update-is : spend (update o i right result) n s ≡ onward (spend (settle c) n s) (λ new n t. gives (result (get_or s i (pos 0)) new) n (set t i new))
   unfolding spend
-  update-is = ap (λ (x : Outcome ℤ). onward (spend (settle x) n s) (λ new n t. gives (result (get_or s i (pos 0)) new) n (set t i new))) (sym computes)
+  update-is = ap (λ (x : Result ℤ FaultSort). onward (spend (settle x) n s) (λ new n t. gives (result (get_or s i (pos 0)) new) n (set t i new))) (sym computes)
 
-  pub update-fails : (sort : FaultSort) (z : ℤ) → c ≡ Fails sort → Settles z (computed c) → answered z n s ≡ spend (update o i right result) n s
+  pub update-fails : (sort : FaultSort) (z : ℤ) → c ≡ Err sort → Settles z c → answered z n s ≡ spend (update o i right result) n s
   unfolding spend
   update-fails sort z f p = p n s ∙ same ∙ sym update-is
     where
-      same : spend (settle (computed c)) n s ≡ onward (spend (settle (computed c)) n s) (λ new n t. gives (result (get_or s i (pos 0)) new) n (set t i new))
+      same : spend (settle c) n s ≡ onward (spend (settle c) n s) (λ new n t. gives (result (get_or s i (pos 0)) new) n (set t i new))
       same = rw f
 
-  pub update-gives : (v : ℤ) → c ≡ Computes v → spend (update o i right result) n s ≡ gives (result (get_or s i (pos 0)) v) n (set s i v)
+  pub update-gives : (v : ℤ) → c ≡ Ok v → spend (update o i right result) n s ≡ gives (result (get_or s i (pos 0)) v) n (set s i v)
   unfolding spend
   update-gives v f = update-is ∙ rw f
 
-module _ (o : Operator) (i : ℕ) (right : ℤ) (s : List ℤ) (c : Computed) (e : computed c ≡ apply o (to_z w32 (of_z w32 (get_or s i (pos 0)))) (to_z w32 (of_z w32 right)))
-    (g : mag (get_or s i (pos 0)) < 2 ^ 31) (h : mag right < 2 ^ 31) (v : ℤ) (f : c ≡ Computes v) (k : mag v < 2 ^ 31) (old : Bool) (n : ℕ) where
+module _ (o : Operator) (i : ℕ) (right : ℤ) (s : List ℤ) (c : Result ℤ FaultSort) (e : c ≡ apply o (to_z w32 (of_z w32 (get_or s i (pos 0)))) (to_z w32 (of_z w32 right)))
+    (g : mag (get_or s i (pos 0)) < 2 ^ 31) (h : mag right < 2 ^ 31) (v : ℤ) (f : c ≡ Ok v) (k : mag v < 2 ^ 31) (old : Bool) (n : ℕ) where
   stored : gives (pick old old_value new_value (get_or s i (pos 0)) v) n (set s i (to_z w32 (of_z w32 v))) ≡ spend (update o i right (pick old old_value new_value)) n s
   stored = rw (back v k) (sym (update-gives o i right s c e g h (pick old old_value new_value) n v f))
 
@@ -265,17 +260,17 @@ unfolding natural
 placed-position i h n s = ap (λ (z : ℤ). placed z n s) (handed-is (pos i) (omega arith)) ∙ placed-word (pos i) (omega arith) n s
 
 -- the bounds test, handed on
-module _ (base length : ℕ) (index : ℤ) (l : Located) (e : located l ≡ element base length (to_z w32 (of_z w32 index))) (g : mag index < 2 ^ 31) where
-  tested : located l ≡ element base length index
+module _ (base length : ℕ) (index : ℤ) (l : Option ℕ) (e : ok_or l Index ≡ element base length (to_z w32 (of_z w32 index))) (g : mag index < 2 ^ 31) where
+  tested : ok_or l Index ≡ element base length index
   tested = e ∙ ap (element base length) (back index g)
 
-  pub within-small : (i : ℕ) → l ≡ At i → base + length < 65536 → i < 65536
-  within-small i f small = let here = element-inside base length index i (sym tested ∙ ap located f) in omega (arith, here.most)
+  pub within-small : (i : ℕ) → l ≡ Some i → base + length < 65536 → i < 65536
+  within-small i f small = let here = element-inside base length index i (sym tested ∙ ap (λ (l : Option ℕ). ok_or l Index) f) in omega (arith, here.most)
 
-  pub within-at : (i : ℕ) → l ≡ At i → base + length < 65536 → Places (to_z w64 i) (element base length index)
+  pub within-at : (i : ℕ) → l ≡ Some i → base + length < 65536 → Places (to_z w64 i) (element base length index)
   unfolding spend
   within-at i f small n s = placed-position i (omega (arith, within-small i f small)) n s ∙ rw (← tested, f)
 
-  pub within-outside : (z : ℤ) → l ≡ Outside → z ≡ stop_number (fault Index) → mag z < 2 ^ 63 → Places (handed z) (element base length index)
+  pub within-outside : (z : ℤ) → l ≡ None → z ≡ stop_number (fault Index) → mag z < 2 ^ 63 → Places (handed z) (element base length index)
   unfolding spend
   within-outside z f q h n s = ap (λ (x : ℤ). placed x n s) (handed-is z h ∙ q) ∙ placed-stop (fault Index) n s ∙ rw (← tested, f)

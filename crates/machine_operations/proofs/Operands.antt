@@ -1,5 +1,7 @@
 -- What a call's answer says of the run that asked for it: an operand's value goes on, its stop goes up; and what a call down a link
 -- asks.
+use Rattle.std.specs.Prelude.{None, Option, Result, Some}
+use Rattle.words.specs.declared.FaultSort.{FaultSort}
 use mathlib.Core.Path.{◌≡◌, refl, sym, ap, ◌∙◌}
 use mathlib.Core.Bool.{Bool, true, false, not}
 use mathlib.Core.List.{List}
@@ -12,10 +14,8 @@ use mir.Syntax.{w32}
 use mir.Val.{to_z, of_z}
 use Rattle.words.specs.Word.{pick}
 use Rattle.words.specs.Table.{number_at}
-use Rattle.arithmetic.specs.Arithmetic.{Outcome, is_true, bit, truth, logical_not, apply, minus, element}
-use Rattle.arithmetic.specs.Answers.{computed}
+use Rattle.arithmetic.specs.Arithmetic.{is_true, bit, truth, logical_not, apply, minus, element}
 use Rattle.words.specs.Laws.{back}
-use Rattle.arithmetic.specs.declared.Computed.{Computed}
 use Rattle.words.specs.declared.Operator.{Operator}
 use Rattle.computation.specs.Computation.{Computation, settle}
 use Rattle.computation.specs.Remaining.{Rest, gives, halts, onward, spend}
@@ -24,10 +24,6 @@ use Rattle.language.specs.Sound.{Link, PlaceLink}
 use Rattle.machine_operations.specs.Answers.{stop_of, operand_of, operand_rest, answered, position_of, placed, Settles, Fetches, Negates}
 use Rattle.machine_operations.specs.Bounds.{layout_in}
 use Rattle.machine_operations.specs.Ready.{Setting, Ready, ReadyPlace, Entered}
-use Rattle.machine_operations.specs.declared.Operand.{Operand}
-use Rattle.machine_operations.specs.declared.Operand.TheVariants.{Value, Halted}
-use Rattle.machine_operations.specs.declared.Position.{Position}
-use Rattle.machine_operations.specs.declared.Position.TheVariants.{At, Nowhere}
 use Rattle.words.specs.declared.Kind.TheVariants.{OfExpression}
 use Rattle.words.specs.declared.ExpressionKind.TheVariants.{Element}
 use Rattle.machine_operations.proofs.Decoding.{handed, handed-is}
@@ -36,39 +32,39 @@ use Rattle.machine_operations.proofs.Rows.{field-inside, element-array}
 -- ---- answers: `m` is the part of the run that the call did, `f` the rest of it
 
 module _ {A : Type 0} {m : Rest ℤ} (f : ℤ → ℕ → List ℤ → Rest A) (r : ℤ) (n : ℕ) (s : List ℤ) (fits : mag r < 2 ^ 63) (h : answered r n s ≡ m)
-    (o : Operand) (e : o ≡ operand_of (handed r)) where
+    (o : Option ℤ) (e : o ≡ operand_of (handed r)) where
   says : operand_of r ≡ o
   says = ap operand_of (sym (handed-is r fits)) ∙ sym e
 
-  pub goes : (v : ℤ) → o ≡ Value v → onward m f ≡ f v n s
+  pub goes : (v : ℤ) → o ≡ Some v → onward m f ≡ f v n s
   goes v q = rw (← h, says, q)
 
-  pub stops : o ≡ Halted → onward m f ≡ halts (stop_of r) n s
+  pub stops : o ≡ None → onward m f ≡ halts (stop_of r) n s
   stops q = rw (← h, says, q)
 
-module _ {m : Rest ℤ} (r : ℤ) (n : ℕ) (s : List ℤ) (fits : mag r < 2 ^ 63) (h : answered r n s ≡ m) (o : Operand) (e : o ≡ operand_of (handed r)) (q : o ≡ Halted) where
+module _ {m : Rest ℤ} (r : ℤ) (n : ℕ) (s : List ℤ) (fits : mag r < 2 ^ 63) (h : answered r n s ≡ m) (o : Option ℤ) (e : o ≡ operand_of (handed r)) (q : o ≡ None) where
   pub hands-up : (f : ℤ → ℕ → List ℤ → Rest ℤ) → answered (handed r) n s ≡ onward m f
   hands-up f = rw (← e, q, handed-is r fits) (sym (stops f r n s fits h o e q))
 
   pub hands-placed : (f : ℤ → ℕ → List ℤ → Rest ℕ) → placed (handed r) n s ≡ onward m f
   hands-placed f = rw (← e, q, handed-is r fits) (sym (stops f r n s fits h o e q))
 
-module _ {m : Rest ℕ} (r : ℤ) (n : ℕ) (s : List ℤ) (fits : mag r < 2 ^ 63) (h : placed r n s ≡ m) (p : Position) (e : p ≡ position_of (operand_of (handed r))) where
+module _ {m : Rest ℕ} (r : ℤ) (n : ℕ) (s : List ℤ) (fits : mag r < 2 ^ 63) (h : placed r n s ≡ m) (p : Option ℕ) (e : p ≡ position_of (operand_of (handed r))) where
   lies : position_of (operand_of r) ≡ p
   lies = ap (λ (z : ℤ). position_of (operand_of z)) (sym (handed-is r fits)) ∙ sym e
 
-  pub found : {A : Type 0} (f : ℕ → ℕ → List ℤ → Rest A) (i : ℕ) → p ≡ At i → onward m f ≡ f i n s
+  pub found : {A : Type 0} (f : ℕ → ℕ → List ℤ → Rest A) (i : ℕ) → p ≡ Some i → onward m f ≡ f i n s
   found f i q = rw (← h, lies, q)
 
-  at_value : (o : Operand) → position_of o ≡ Nowhere → o ≡ Halted
-  at_value (Value v) q = absurd (let z : ◌≡◌ {A = ℕ} 0 1 = cc in omega arith)
-  at_value Halted q = refl
+  at_value : (o : Option ℤ) → position_of o ≡ None → o ≡ None
+  at_value (Some v) q = absurd (let z : ◌≡◌ {A = ℕ} 0 1 = cc in omega arith)
+  at_value None q = refl
 
-  pub lost : (f : ℕ → ℕ → List ℤ → Rest ℤ) → p ≡ Nowhere → answered (handed r) n s ≡ onward m f
+  pub lost : (f : ℕ → ℕ → List ℤ → Rest ℤ) → p ≡ None → answered (handed r) n s ≡ onward m f
   lost f q = rw (at_value (operand_of (handed r)) (sym e ∙ q), handed-is r fits) (rw (← h, lies, q))
 
 -- an operand's answer, handed on
-pub handed-value : (r : ℤ) (n : ℕ) (s : List ℤ) (o : Operand) → o ≡ operand_of (handed r) → (v : ℤ) → o ≡ Value v → answered (handed r) n s ≡ gives v n s
+pub handed-value : (r : ℤ) (n : ℕ) (s : List ℤ) (o : Option ℤ) → o ≡ operand_of (handed r) → (v : ℤ) → o ≡ Some v → answered (handed r) n s ≡ gives v n s
 handed-value r n s o e v q = rw (← e, q)
 
 -- the bounds test of a word that was handed on
@@ -99,17 +95,17 @@ pub operands-handed : (o : Operator) (left right : ℤ) → mag left < 2 ^ 31 �
 operands-handed o left right h g n s = rw (back left h, back right g)
 
 -- an operation's answer
-pub settled_is : (r : ℤ) (c : Computed) (o : Outcome ℤ) → mag r < 2 ^ 63 → Settles r (computed c) → computed c ≡ o → (n : ℕ) (s : List ℤ) → answered (handed r) n s ≡ spend (settle o) n s
-settled_is r c o fits p e n s = handed-on r n s fits ∙ p n s ∙ ap (λ (x : Outcome ℤ). spend (settle x) n s) e
+pub settled_is : (r : ℤ) (c : Result ℤ FaultSort) (o : Result ℤ FaultSort) → mag r < 2 ^ 63 → Settles r c → c ≡ o → (n : ℕ) (s : List ℤ) → answered (handed r) n s ≡ spend (settle o) n s
+settled_is r c o fits p e n s = handed-on r n s fits ∙ p n s ∙ ap (λ (x : Result ℤ FaultSort). spend (settle x) n s) e
 
 -- ---- the steps left never rise
 
 answered-left : (r : ℤ) (n : ℕ) (s : List ℤ) → left_of (answered r n s) ≡ n
 answered-left r n s = by (operand_of r)
   where
-    by : (o : Operand) → left_of (operand_rest o r n s) ≡ n
-    by (Value v) = refl
-    by Halted = refl
+    by : (o : Option ℤ) → left_of (operand_rest o r n s) ≡ n
+    by (Some v) = refl
+    by None = refl
 
 pub answered-least : (r : ℤ) (n : ℕ) (s : List ℤ) (k : ℕ) (t : List ℤ) (m : Computation ℤ) → answered r n s ≡ spend m k t → n ≤ k
 answered-least r n s k t m h = let l : n ≡ left_of (spend m k t) = sym (answered-left r n s) ∙ ap left_of h in omega (arith, left-never-rises m k t)

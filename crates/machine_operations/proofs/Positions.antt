@@ -1,7 +1,9 @@
 -- Positions that a place's answer gives lie in the store, since the table is sound.
+use Rattle.std.specs.Prelude.{Option, Some, Err, Ok, Result}
+use Rattle.words.specs.declared.FaultSort.{FaultSort}
 use mathlib.Core.Path.{◌≡◌, refl, sym, ap, ◌∙◌}
 use mathlib.Core.List.{List}
-use Prim.Native.Nat.{ℕ, zero, suc, ◌-◌, ◌^◌, ◌<◌}
+use Prim.Native.Nat.{ℕ, zero, suc, ◌^◌, ◌<◌}
 use native.Mathlib.Omega.{arith}
 use lib.IntN.{ℤ}
 use lib.Signed.{mag}
@@ -9,7 +11,7 @@ use Rattle.words.specs.Table.{number_at}
 use Rattle.words.specs.Kinds.{kinds, kind_in, kind_of, kind_at}
 use Rattle.words.specs.KindLaws.{kind-numbered, place-cases}
 use Rattle.words.specs.Layout.{array_base, array_length}
-use Rattle.arithmetic.specs.Arithmetic.{Outcome, value, fault, element}
+use Rattle.arithmetic.specs.Arithmetic.{element}
 use Rattle.words.specs.Laws.{array-in-store}
 use Rattle.arithmetic.proofs.Laws.{element-inside}
 use Rattle.words.specs.declared.Kind.TheVariants.{OfExpression}
@@ -20,16 +22,14 @@ use Rattle.machine_operations.specs.Answers.{operand_of, position_of, placed}
 use Rattle.machine_operations.specs.Bounds.{layout_in}
 use Rattle.machine_operations.specs.Ready.{ReadyPlace, Entered}
 use Rattle.machine_operations.specs.Rows.{value_at, locate_at, place_at}
-use Rattle.machine_operations.specs.declared.Position.{Position}
-use Rattle.machine_operations.specs.declared.Position.TheVariants.{At}
 use Rattle.machine_operations.proofs.Decoding.{handed, handed-is}
 use Rattle.machine_operations.proofs.Enter.{entered, not_entered}
 use Rattle.machine_operations.proofs.Rows.{variable-inside, place-variable-row, element-array, locate-row}
 
 -- the run of the place that this answer is of
-pub given-at : {m : Rest ℕ} (r : ℤ) (n : ℕ) (s : List ℤ) → mag r < 2 ^ 63 → placed r n s ≡ m → (p : Position) → p ≡ position_of (operand_of (handed r)) → (i : ℕ) → p ≡ At i → m ≡ gives i n s
+pub given-at : {m : Rest ℕ} (r : ℤ) (n : ℕ) (s : List ℤ) → mag r < 2 ^ 63 → placed r n s ≡ m → (p : Option ℕ) → p ≡ position_of (operand_of (handed r)) → (i : ℕ) → p ≡ Some i → m ≡ gives i n s
 given-at r n s fits h p e i q =
-    let lies : position_of (operand_of r) ≡ At i = ap (λ (z : ℤ). position_of (operand_of z)) (sym (handed-is r fits)) ∙ sym e ∙ q in
+    let lies : position_of (operand_of r) ≡ Some i = ap (λ (z : ℤ). position_of (operand_of z)) (sym (handed-is r fits)) ∙ sym e ∙ q in
     sym h ∙ rw lies
 
 same-position : {i j : ℕ} {n k : ℕ} {s t : List ℤ} → gives i n s ≡ gives j k t → i ≡ j
@@ -43,12 +43,12 @@ module _ {rows : List ℤ} {bounds : List ℕ} {words row : ℕ} where
       array : ℕ
       array = number_at rows row 1
 
-      position : (o : Outcome ℕ) (v : ℤ) (n : ℕ) (s : List ℤ) → o ≡ element (array_base (layout_in rows bounds) array) (array_length (layout_in rows bounds) array) v → spend (settle o) n s ≡ gives i k t → i < words
-      position (value j) v n s q e =
+      position : (o : Result ℕ FaultSort) (v : ℤ) (n : ℕ) (s : List ℤ) → o ≡ element (array_base (layout_in rows bounds) array) (array_length (layout_in rows bounds) array) v → spend (settle o) n s ≡ gives i k t → i < words
+      position (Ok j) v n s q e =
           let same : j ≡ i = cc in
           let inside = element-inside _ _ v j (sym q) in
           omega (arith, inside.most, array-in-store (layout_in rows bounds) array (element-array here), here.ready.setting.sound.store_fits)
-      position (fault sort) v n s q e = let z : ◌≡◌ {A = ℕ} 0 1 = cc in omega arith
+      position (Err sort) v n s q e = let z : ◌≡◌ {A = ℕ} 0 1 = cc in omega arith
 
       index : (m : Rest ℤ) → onward m (λ v n s. spend (settle (element (array_base (layout_in rows bounds) array) (array_length (layout_in rows bounds) array) v)) n s) ≡ gives i k t → i < words
       index (gives v n s) e = position (element (array_base (layout_in rows bounds) array) (array_length (layout_in rows bounds) array) v) v n s refl e

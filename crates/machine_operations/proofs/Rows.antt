@@ -18,7 +18,7 @@ use Rattle.words.specs.declared.Operator.{Operator}
 use Rattle.words.specs.declared.Kind.{Kind}
 use Rattle.words.specs.declared.Kind.TheVariants.{OfExpression}
 use Rattle.words.specs.declared.ExpressionKind.TheVariants.{Constant, Variable, Element, Minus, Not, Binary, And, Or, Conditional, Comma, Assign, Compound, Prefix, Postfix}
-use Rattle.computation.specs.Computation.{Computation, ret, ◌>>=◌, settle}
+use Rattle.computation.specs.Computation.{ret, ◌>>=◌, settle}
 use Rattle.computation.specs.Remaining.{gives, onward, spend}
 use Rattle.language.specs.Trees.{Expression, read, minus, not, binary, and, or, comma, conditional, assign, compound, prefix, postfix, variable, element}
 use Rattle.language.specs.Decode.{place_of, expression_at}

@@ -1,11 +1,9 @@
 // What an answer says: a word is a value, and the numbers behind the words say why the run stops.
 ghost use Rattle.std.specs.Prelude.{◌≡◌};
-ghost use Rattle.arithmetic.specs.Answers.{computed as computed_of};
 ghost use Rattle.computation.specs.Run.{fault as fault_of};
 ghost use Rattle.machine_operations.specs.Answers.{is_return as is_return_of, operand_of, position_of, stop_number, beyond as beyond_of, Settles};
 
-use super::{GREATEST_WORD, Operand, Position};
-use arithmetic::Computed;
+use super::GREATEST_WORD;
 use words::FaultSort;
 use words::table::natural;
 use words_endings::fault_number;
@@ -21,30 +19,26 @@ pub fn is_return(answer: i64) -> bool
 }
 
 // The operand that an answer gives.
-pub fn operand(answer: i64) -> Operand
+pub fn operand(answer: i64) -> Option<i32>
     ensures { result ≡ operand_of answer }
 {
     if answer > GREATEST_WORD {
         if is_return(answer) {
-            return Operand::Value(0);
+            return Some(0);
         }
-        return Operand::Halted;
+        return None;
     }
     if answer < -2147483648 {
-        return Operand::Halted;
+        return None;
     }
-    Operand::Value(answer as i32)
+    Some(answer as i32)
 }
 
 // The position that an answer gives: a place's, or the row of a block.
-pub fn position(answer: i64) -> Position
+pub fn position(answer: i64) -> Option<usize>
     ensures { result ≡ position_of (operand_of answer) }
 {
-    let found = operand(answer);
-    let Operand::Value(word) = found else {
-        return Position::Nowhere;
-    };
-    Position::At(natural(word))
+    Some(natural(operand(answer)?))
 }
 
 // The answer for a run that a fault stops.
@@ -65,11 +59,11 @@ pub fn beyond(answer: i64) -> u64
 }
 
 // The answer for what an operation gives.
-pub fn settled(computed: Computed) -> i64
-    ensures { Settles result (computed_of computed) }
+pub fn settled(computed: Result<i32, FaultSort>) -> i64
+    ensures { Settles result computed }
 {
     match computed {
-        Computed::Value(value) => value as i64,
-        Computed::Fails(sort) => fault(sort),
+        Ok(value) => value as i64,
+        Err(sort) => fault(sort),
     }
 }

@@ -1,5 +1,6 @@
-// What an evaluation does without entering a row. An answer is one number, so that it comes back in a register: a word is the value, and
-// the numbers behind the words say why the run stops: the greatest word and the ending's number.
+// What an evaluation does without entering a row. An answer is one number, so that it comes back in a register, since structs and enums come
+// back through memory (docs/PERFORMANCE.md): a word is the value, and the numbers behind the words say why the run stops: the greatest word and
+// the ending's number.
 #![tactic(auto)]
 
 pub mod answers; // answers.rt: what an answer says
@@ -12,17 +13,3 @@ pub const SPENT: i64 = GREATEST_WORD + 1;
 
 // The answer for a run in which no guard is true: that fault's number, as a constant.
 pub const GUARD: i64 = GREATEST_WORD + 5;
-
-// What an operand comes to: its value, or the run stops there.
-#[derive(Clone, Copy)]
-pub enum Operand {
-    Value(i32),
-    Halted,
-}
-
-// Where an answer points: a place's position in the store, or a row of the table; or the run stops there.
-#[derive(Clone, Copy)]
-pub enum Position {
-    At(usize),
-    Nowhere,
-}

@@ -11,13 +11,10 @@ ghost use Rattle.language.specs.Meaning.{update as update_of, old_value, new_val
 ghost use Rattle.machine_operations.specs.Answers.{operand_of, answered, position_of, Settles, Places, Fetches, Negates};
 ghost use Rattle.machine_operations.specs.Ready.{Bounded, Entered};
 ghost use Rattle.machine_operations.specs.Rows.{evaluate_at};
-ghost use Rattle.machine_operations.specs.declared.Position.TheVariants.{At};
 
 use super::answers::{fault, operand, position, settled};
-use super::{Operand, Position};
 use arithmetic::{
-    Computed, Located, add, apply, bit, divide, element, is_true, logical_not, minus, multiply,
-    remainder, subtract,
+    add, apply, bit, divide, element, is_true, logical_not, minus, multiply, remainder, subtract,
 };
 use words::table::word_at;
 use words::{FaultSort, Operator};
@@ -49,11 +46,10 @@ pub fn variable(rows: &[i32], bounds: &[usize], row: usize, store: &[i32]) -> i6
 
 // The word at the position that a place's answer gives; a stop is handed on.
 pub fn fetch(answer: i64, store: &[i32]) -> i64
-    requires { (length store.now < 65536) × ((i : ℕ) → position_of (operand_of answer) ≡ At i → i < length store.now) }
+    requires { (length store.now < 65536) × ((i : ℕ) → position_of (operand_of answer) ≡ Some i → i < length store.now) }
     ensures { Fetches answer store.now result }
 {
-    let place = position(answer);
-    let Position::At(at) = place else {
+    let Some(at) = position(answer) else {
         return answer;
     };
     store[at] as i64
@@ -63,8 +59,7 @@ pub fn fetch(answer: i64, store: &[i32]) -> i64
 pub fn negate(answer: i64, truth: bool) -> i64
     ensures { Negates truth answer result }
 {
-    let first = operand(answer);
-    let Operand::Value(value) = first else {
+    let Some(value) = operand(answer) else {
         return answer;
     };
     if truth {
@@ -77,10 +72,7 @@ pub fn negate(answer: i64, truth: bool) -> i64
 pub fn is_binary(number: usize) -> bool
     ensures { result ≡ between 6 16 number }
 {
-    if number < 6 {
-        return false;
-    }
-    number <= 16
+    number >= 6 && number <= 16
 }
 
 // Whether the left operand of an and (false) or an or (true) decides its value.
@@ -100,10 +92,9 @@ pub fn within(bounds: &[usize], array: usize, index: i32) -> i64
 {
     let base = bounds[array];
     let end = bounds[array + 1];
-    let located = element(base, end - base, index);
-    match located {
-        Located::At(at) => at as i64,
-        Located::Outside => fault(FaultSort::Index),
+    match element(base, end - base, index) {
+        Some(at) => at as i64,
+        None => fault(FaultSort::Index),
     }
 }
 
@@ -134,7 +125,7 @@ pub fn update(operator: Operator, at: usize, right: i32, old: bool, store: &mut 
 {
     let before = store[at];
     let result = apply(operator, before, right);
-    let Computed::Value(after) = result else {
+    let Ok(after) = result else {
         return settled(result);
     };
     store[at] = after;

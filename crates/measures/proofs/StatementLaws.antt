@@ -1,4 +1,5 @@
 -- A statement's and a list's measures, from those of the rows that their links lead to: shape by shape.
+use Rattle.std.specs.Prelude.{None, Option, Some}
 use mathlib.Core.Path.{◌≡◌, refl, sym, ap, ap₂, subst, ◌∙◌}
 use mathlib.Core.Bool.{Bool, true, false}
 use mathlib.Core.List.{List}
@@ -22,8 +23,6 @@ use Rattle.language_shapes.specs.declared.StatementShape.{StatementShape}
 use Rattle.language_shapes.specs.declared.StatementShape.TheVariants.{Express, Block, If, While, Do, For, Switch, GuardedIf, GuardedDo, Declare, Return}
 use Rattle.language_shapes.specs.declared.MarkShape.TheVariants.{Case, Default, Label}
 use Rattle.language_shapes.specs.declared.Item.TheVariants as item
-use Rattle.language_shapes.specs.declared.ArmShape.{ArmShape}
-use Rattle.language_shapes.specs.declared.ArmShape.TheVariants.{Arm, NoArm}
 use Rattle.measures_table.specs.Parts.{called_in}
 use Rattle.measures_table.specs.Measures.{limited, past_labels, default_place, rows_slot, levels_slot, dropped_rows_slot, dropped_levels_slot, rows_for, levels_for, statement_rows_slot, statement_levels_slot, statement_labels_slot, list_rows_slot, list_levels_slot, list_labels_slot, list_cases_slot, list_default_slot, arms_rows_slot, arms_levels_slot, arms_labels_slot, slot_at, test_slots, MeasuredFrom, StatementMeasured, ListMeasured, ArmsMeasured, mark_measures, statement_measures, plain_measures, no_measures, around_arms, express_measures, block_measures, if_measures, loop_measures, switch_measures, guarded_measures, rounds_measures, declare_measures, return_measures, arm_measures}
 use Rattle.measures_table.specs.declared.StatementMeasures.{StatementMeasures}
@@ -240,7 +239,7 @@ module _ {rows : List ℤ} {table : List ℕ} {row : ℕ} (m : MeasuredFrom rows
 
   -- ---- arms
 
-  pub arm-measured : {guard body next : ℕ} {r : StatementMeasures} → ArmAt rows row next (Arm guard body) → r ≡ arm_measures table guard body next → ArmsMeasured (called_in rows) (arms_at rows row) r
+  pub arm-measured : {guard body next : ℕ} {r : StatementMeasures} → ArmAt rows row next (Some (guard, body)) → r ≡ arm_measures table guard body next → ArmsMeasured (called_in rows) (arms_at rows row) r
   unfolding arms_size arms_levels arms_labels
   arm-measured {guard} {body} {next} f h =
       let o = f.onward in
@@ -250,7 +249,7 @@ module _ {rows : List ℤ} {table : List ℕ} {row : ℕ} (m : MeasuredFrom rows
         labels_are = sum _ _ _ _ (body-labels rows table m body o.1) (arms-labels rows table m next f.behind);
       })
 
-  pub no-arm-measured : {next : ℕ} {r : StatementMeasures} → ArmAt rows row next NoArm → r ≡ no_measures → ArmsMeasured (called_in rows) (arms_at rows row) r
+  pub no-arm-measured : {next : ℕ} {r : StatementMeasures} → ArmAt rows row next None → r ≡ no_measures → ArmsMeasured (called_in rows) (arms_at rows row) r
   unfolding arms_size arms_levels arms_labels
   no-arm-measured f h = rw (h, f.is) (record { rows_are = small 0 (omega arith); levels_are = small 0 (omega arith); labels_are = small 0 (omega arith) })
 
@@ -366,7 +365,7 @@ module _ (table : List ℕ) where
   switch-words held e list pa pb pc px py pv = rw (pa, pb, pc, px, py, pv)
 
 -- the row behind an arm, as it was read
-pub at-behind : {rows : List ℤ} {row next read : ℕ} {s : ArmShape} → read ≡ next → ArmAt rows row next s → ArmAt rows row read s
+pub at-behind : {rows : List ℤ} {row next read : ℕ} {s : (Option (ℕ × ℕ))} → read ≡ next → ArmAt rows row next s → ArmAt rows row read s
 at-behind {rows} {row} {next} {read} {s} e f = subst (λ (n : ℕ). ArmAt rows row n s) (sym e) f
 
 -- a link that is absent

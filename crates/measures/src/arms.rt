@@ -5,9 +5,8 @@ ghost use Rattle.language.specs.Decode.{arms_at};
 ghost use Rattle.measures_table.specs.Parts.{called_in};
 ghost use Rattle.measures_table.specs.Measures.{arm_measures, LinkMeasured, MeasuredFrom, ArmsMeasured};
 
-use language_shapes::ArmShape;
 use language_shapes::rows::arm_at;
-use measures_table::table::{larger, limited, measure_at};
+use measures_table::table::{limited, measure_at};
 use measures_table::{
     ARMS_LABELS, ARMS_LEVELS, ARMS_ROWS, LEVELS, ROWS, STATEMENT_LABELS, STATEMENT_LEVELS,
     STATEMENT_ROWS, StatementMeasures,
@@ -22,14 +21,15 @@ fn arm_measures(table: &[usize], guard: usize, body: usize, next: usize) -> Stat
     let test = measure_at(table, guard, ROWS);
     let onward = measure_at(table, body, STATEMENT_ROWS);
     let other = measure_at(table, next, ARMS_ROWS);
-    let levels = larger(
-        measure_at(table, body, STATEMENT_LEVELS),
-        measure_at(table, next, ARMS_LEVELS),
-    );
+    let levels = measure_at(table, body, STATEMENT_LEVELS).max(measure_at(
+        table,
+        next,
+        ARMS_LEVELS,
+    ));
     let labels = measure_at(table, body, STATEMENT_LABELS);
     StatementMeasures {
         rows: limited(5 + test + onward + other),
-        levels: larger(measure_at(table, guard, LEVELS), levels),
+        levels: measure_at(table, guard, LEVELS).max(levels),
         labels: limited(labels + measure_at(table, next, ARMS_LABELS)),
     }
 }
@@ -42,8 +42,8 @@ pub fn measured_arms(rows: &[i32], table: &[usize], row: usize) -> StatementMeas
     let next = number_at(rows, row, 5);
     let shape = arm_at(rows, row);
     match shape {
-        ArmShape::Arm(guard, body) => arm_measures(table, guard, body, next),
-        ArmShape::NoArm => StatementMeasures {
+        Some((guard, body)) => arm_measures(table, guard, body, next),
+        None => StatementMeasures {
             rows: 0,
             levels: 0,
             labels: 0,

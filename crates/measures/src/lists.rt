@@ -9,7 +9,7 @@ ghost use Rattle.measures_table.specs.Measures.{limited as limited_to, past_labe
 
 use language_shapes::rows::item_at;
 use language_shapes::{Item, MarkShape};
-use measures_table::table::{larger, limited, measure_at};
+use measures_table::table::{limited, measure_at};
 use measures_table::{
     LIST_CASES, LIST_DEFAULT, LIST_LABELS, LIST_LEVELS, LIST_ROWS, ListMeasures, StatementMeasures,
 };
@@ -47,7 +47,7 @@ fn behind_statement(table: &[usize], next: usize, s: StatementMeasures) -> ListM
 {
     ListMeasures {
         rows: limited(s.rows + measure_at(table, next, LIST_ROWS)),
-        levels: larger(s.levels, measure_at(table, next, LIST_LEVELS)),
+        levels: s.levels.max(measure_at(table, next, LIST_LEVELS)),
         labels: limited(s.labels + measure_at(table, next, LIST_LABELS)),
         cases: measure_at(table, next, LIST_CASES),
         default: past_labels(s.labels, measure_at(table, next, LIST_DEFAULT)),

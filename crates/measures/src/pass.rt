@@ -11,9 +11,10 @@ use super::statements::measured_statement;
 use measures_expressions::expressions::measured_expression;
 use measures_table::table::set_measures;
 use write_sets_functions::functions::gather_functions;
+use write_sets_rows::WriteSet;
 use write_sets_rows::writes::fill_sets;
 
-fn measure_row(store: usize, rows: &[i32], sets: &[u64], table: &mut [usize], row: usize)
+fn measure_row(store: usize, rows: &[i32], sets: &[WriteSet], table: &mut [usize], row: usize)
     requires { Sets store rows.now sets.now × MeasuredFrom rows.now table.old (row + 1) × (row < row_count rows.now) }
     ensures { MeasuredFrom rows.now table.new row }
 {
@@ -24,13 +25,11 @@ fn measure_row(store: usize, rows: &[i32], sets: &[u64], table: &mut [usize], ro
     set_measures(table, row, expression, statement, list, arms);
 }
 
-fn measure_rows(store: usize, rows: &[i32], sets: &[u64], table: &mut [usize])
+fn measure_rows(store: usize, rows: &[i32], sets: &[WriteSet], table: &mut [usize])
     requires { Sets store rows.now sets.now × (width * row_count rows.now ≤ length table.old) }
     ensures { Measured rows.now table.new }
 {
-    let mut row = rows.len() / 6;
-    while row > 0 {
-        row -= 1;
+    for row in (0..rows.len() / 6).rev() {
         measure_row(store, rows, sets, table, row);
     }
 }
@@ -40,7 +39,7 @@ pub fn measure(store: usize, rows: &[i32], table: &mut [usize])
     requires { Source rows.now × NamesFrom store rows.now × (width * row_count rows.now ≤ length table.old) }
     ensures { Measured rows.now table.new }
 {
-    let mut sets = [0u64; 10240];
+    let mut sets = [WriteSet::nothing(); 2048];
     gather_functions(store, rows, &mut sets);
     fill_sets(store, rows, &mut sets);
     measure_rows(store, rows, &sets, table);

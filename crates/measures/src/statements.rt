@@ -8,7 +8,7 @@ ghost use Rattle.measures_table.specs.Measures.{plain_measures, express_measures
 use language_shapes::StatementShape;
 use language_shapes::rows::statement_at;
 use measures_expressions::holders::{store_rows, taken_at};
-use measures_table::table::{larger, limited, measure_at};
+use measures_table::table::{limited, measure_at};
 use measures_table::{
     ARMS_LABELS, ARMS_LEVELS, ARMS_ROWS, DROPPED_LEVELS, DROPPED_ROWS, LEVELS, LIST_CASES,
     LIST_LABELS, LIST_LEVELS, LIST_ROWS, ROWS, STATEMENT_LABELS, STATEMENT_LEVELS, STATEMENT_ROWS,
@@ -42,7 +42,7 @@ fn express_measures(table: &[usize], e: usize) -> StatementMeasures
     ensures { result ≡ express_measures table.now e }
 {
     StatementMeasures {
-        rows: larger(1, measure_at(table, e, DROPPED_ROWS)),
+        rows: measure_at(table, e, DROPPED_ROWS).max(1),
         levels: measure_at(table, e, DROPPED_LEVELS),
         labels: 0,
     }
@@ -66,14 +66,15 @@ fn if_measures(table: &[usize], e: usize, yes: usize, no: usize) -> StatementMea
     let test = measure_at(table, e, ROWS);
     let onward = measure_at(table, yes, STATEMENT_ROWS);
     let other = measure_at(table, no, STATEMENT_ROWS);
-    let levels = larger(
-        measure_at(table, yes, STATEMENT_LEVELS),
-        measure_at(table, no, STATEMENT_LEVELS),
-    );
+    let levels = measure_at(table, yes, STATEMENT_LEVELS).max(measure_at(
+        table,
+        no,
+        STATEMENT_LEVELS,
+    ));
     let labels = measure_at(table, yes, STATEMENT_LABELS);
     StatementMeasures {
         rows: limited(4 + test + onward + other),
-        levels: larger(measure_at(table, e, LEVELS), levels),
+        levels: measure_at(table, e, LEVELS).max(levels),
         labels: limited(labels + measure_at(table, no, STATEMENT_LABELS)),
     }
 }
@@ -91,17 +92,15 @@ fn loop_measures(
 {
     let before = measure_at(table, first, DROPPED_ROWS) + test_rows(table, test);
     let round = measure_at(table, step, DROPPED_ROWS) + measure_at(table, body, STATEMENT_ROWS);
-    let outer = larger(
-        measure_at(table, first, DROPPED_LEVELS),
-        measure_at(table, test, LEVELS),
-    );
-    let inner = larger(
-        measure_at(table, step, DROPPED_LEVELS),
-        measure_at(table, body, STATEMENT_LEVELS),
-    );
+    let outer = measure_at(table, first, DROPPED_LEVELS).max(measure_at(table, test, LEVELS));
+    let inner = measure_at(table, step, DROPPED_LEVELS).max(measure_at(
+        table,
+        body,
+        STATEMENT_LEVELS,
+    ));
     StatementMeasures {
         rows: limited(5 + before + round),
-        levels: larger(outer, inner),
+        levels: outer.max(inner),
         labels: limited(2 + measure_at(table, body, STATEMENT_LABELS)),
     }
 }
@@ -114,13 +113,10 @@ fn switch_measures(table: &[usize], taken: usize, e: usize, list: usize) -> Stat
     let selector = measure_at(table, e, ROWS);
     let tests = 11 * measure_at(table, list, LIST_CASES);
     let items = measure_at(table, list, LIST_ROWS);
-    let levels = larger(
-        measure_at(table, e, LEVELS),
-        measure_at(table, list, LIST_LEVELS),
-    );
+    let levels = measure_at(table, e, LEVELS).max(measure_at(table, list, LIST_LEVELS));
     StatementMeasures {
         rows: limited(2 + selector + tests + items),
-        levels: larger(taken + 1, levels),
+        levels: (taken + 1).max(levels),
         labels: limited(1 + measure_at(table, list, LIST_LABELS)),
     }
 }

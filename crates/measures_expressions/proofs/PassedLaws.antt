@@ -1,4 +1,5 @@
 -- The measures of a call's arguments, from those of the first and of the arguments behind it; and those of a call.
+use Rattle.std.specs.Prelude.{None, Some}
 use mathlib.Core.Path.{◌≡◌, refl, sym, ap, ap₂, subst, ◌∙◌}
 use mathlib.Core.Bool.{Bool, false, true≢false}
 use mathlib.Core.List.{List}
@@ -27,7 +28,6 @@ use Rattle.language_shapes.specs.declared.ChoiceShape.{ChoiceShape}
 use Rattle.language_shapes.specs.declared.ChoiceShape.TheVariants.{And, Or, Conditional}
 use Rattle.language_shapes.specs.declared.ExpressionShape.TheVariants.{Number, Read, Operation, Choice, Call}
 use Rattle.language_shapes.specs.declared.PlaceShape.{PlaceShape}
-use Rattle.language_shapes.specs.declared.ArgumentShape.TheVariants.{Argument, NoArgument}
 use Rattle.write_sets.specs.Sets.{join}
 use Rattle.write_sets.specs.declared.WriteSet.{WriteSet}
 use Rattle.measures_table.specs.Parts.{called_in}
@@ -95,12 +95,12 @@ none_passed {S} {rows} {link} {before} e em = subst (λ (m : Passed). PassedAt S
 pub absent-passed : {S : ℕ} {rows : List ℤ} (link : ℕ) {before : WriteSet} {m : Passed} → link ≡ 0 → m ≡ no_passed → PassedAt S rows link before m
 absent-passed {S} {rows} link e em = none_passed (ap (argument_list_at rows) e) em
 
-pub ended-passed : {S : ℕ} {rows : List ℤ} (link : ℕ) {next : ℕ} {before : WriteSet} {m : Passed} → 0 < link → ArgumentAt rows link next NoArgument → m ≡ no_passed → PassedAt S rows link before m
+pub ended-passed : {S : ℕ} {rows : List ℤ} (link : ℕ) {next : ℕ} {before : WriteSet} {m : Passed} → 0 < link → ArgumentAt rows link next None → m ≡ no_passed → PassedAt S rows link before m
 ended-passed {S} {rows} link h f em = none_passed (list-some rows link h ∙ f.is) em
 
 -- ---- an argument before others
 
-module _ {rows : List ℤ} {link next e : ℕ} (f : ArgumentAt rows link next (Argument e)) (there : 0 < link) where
+module _ {rows : List ℤ} {link next e : ℕ} (f : ArgumentAt rows link next (Some e)) (there : 0 < link) where
   list-is : argument_list_at rows link ≡ expression_at rows e also argument_list_at rows next
   list-is = list-some rows link there ∙ f.is
 
@@ -112,7 +112,7 @@ module _ {rows : List ℤ} {link next e : ℕ} (f : ArgumentAt rows link next (A
   pub behind-fits : {S : ℕ} {written : WriteSet} {b : Passed} → argument_count (argument_list_at rows link) ≤ 64 → PassedAt S rows next written b → PassedFits b
   behind-fits few at = record { rows_small = at.rows_small; levels_small = at.levels_small; few = omega (arith, few, count-behind, at.count_is); taken_most = at.taken_most; copies_small = at.copies_small }
 
-module _ {rows : List ℤ} {table : List ℕ} {link next e : ℕ} (f : ArgumentAt rows link next (Argument e)) (there : 0 < link) (measured-row : MeasuredRow rows table e) where
+module _ {rows : List ℤ} {table : List ℕ} {link next e : ℕ} (f : ArgumentAt rows link next (Some e)) (there : 0 < link) (measured-row : MeasuredRow rows table e) where
   abbrev called : ℕ → ℕ → Bool
   called = called_in rows
 
@@ -157,10 +157,10 @@ module _ {rows : List ℤ} {table : List ℕ} {link next e : ℕ} (f : ArgumentA
   })
 
 -- the row behind, as the code reads it
-pub read_next : {rows : List ℤ} {link next read e : ℕ} → read ≡ next → ArgumentAt rows link next (Argument e) → ArgumentAt rows link read (Argument e)
-read_next {rows} {link} {e = e} h f = subst (λ (n : ℕ). ArgumentAt rows link n (Argument e)) (sym h) f
+pub read_next : {rows : List ℤ} {link next read e : ℕ} → read ≡ next → ArgumentAt rows link next (Some e) → ArgumentAt rows link read (Some e)
+read_next {rows} {link} {e = e} h f = subst (λ (n : ℕ). ArgumentAt rows link n (Some e)) (sym h) f
 
-pub taken-small : {rows : List ℤ} {link next e t : ℕ} → ArgumentAt rows link next (Argument e) → t ≡ taken (atom_of (called_in rows) (expression_at rows e)) → t ≤ 1
+pub taken-small : {rows : List ℤ} {link next e t : ℕ} → ArgumentAt rows link next (Some e) → t ≡ taken (atom_of (called_in rows) (expression_at rows e)) → t ≤ 1
 taken-small {rows} {e = e} f h = omega (arith, taken_most (atom_of (called_in rows) (expression_at rows e)))
 
 -- as the code puts it together

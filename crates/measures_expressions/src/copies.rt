@@ -18,14 +18,14 @@ use super::holders::holder_at;
 use language_shapes::rows::{expression_at, place_at};
 use language_shapes::{ExpressionShape, OperationShape, PlaceShape};
 use measures_table::Holder;
-use write_sets::{WriteSet, has};
+use write_sets::WriteSet;
 use write_sets_rows::table::set_at;
 
 // 1 where the set has the variable, else 0.
 fn written(store: usize, set: WriteSet, variable: usize) -> usize
     ensures { (result ≡ pick (member store set variable) 1 0) × (result ≤ 1) }
 {
-    if has(store, set, variable) {
+    if set.has(store, variable) {
         return 1;
     }
     0
@@ -54,7 +54,7 @@ pub fn copied_against(
 fn copied_over(
     store: usize,
     rows: &[i32],
-    sets: &[u64],
+    sets: &[WriteSet],
     table: &[usize],
     row: usize,
     meanwhile: usize,
@@ -81,7 +81,7 @@ fn index_at(rows: &[i32], row: usize) -> usize
 fn copied_operation(
     store: usize,
     rows: &[i32],
-    sets: &[u64],
+    sets: &[WriteSet],
     table: &[usize],
     row: usize,
     operation: OperationShape,
@@ -106,7 +106,13 @@ fn copied_operation(
 }
 
 // 1 where the expression at a row copies the value of its first operand, else 0.
-pub fn copied_at(store: usize, rows: &[i32], sets: &[u64], table: &[usize], row: usize) -> usize
+pub fn copied_at(
+    store: usize,
+    rows: &[i32],
+    sets: &[WriteSet],
+    table: &[usize],
+    row: usize,
+) -> usize
     requires { Sets store rows.now sets.now × MeasuredFrom rows.now table.now (row + 1) × (row < row_count rows.now) }
     ensures { result ≡ first_copied (called_in rows.now) (expression_at rows.now row) }
 {

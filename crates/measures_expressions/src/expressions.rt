@@ -15,11 +15,11 @@ use super::parts::own_at;
 use super::passed::passed_measures;
 use language_shapes::ExpressionShape;
 use language_shapes::rows::expression_at;
-use measures_table::table::{larger, limited, measure_at};
+use measures_table::table::{limited, measure_at};
 use measures_table::uses::{levels_by, levels_for, rows_by, rows_for, second_use};
 use measures_table::{ExpressionMeasures, LEVELS, Own, Passed, ROWS};
 use translation::Use;
-use write_sets::nothing;
+use write_sets::WriteSet;
 
 // The kernel rows of the expression at a row, where its value has this use, from those of its operands.
 fn expression_rows(rows: &[i32], table: &[usize], row: usize, own: Own, usage: Use) -> usize
@@ -46,17 +46,14 @@ fn expression_levels(rows: &[i32], table: &[usize], row: usize, own: Own, usage:
     let second = own.above + measure_at(table, own.second, levels_for(second_use));
     let third = measure_at(table, own.third, LEVELS);
     let fourth = measure_at(table, own.fourth, LEVELS);
-    limited(larger(
-        levels_by(own, usage),
-        larger(larger(first, second), larger(third, fourth)),
-    ))
+    limited(levels_by(own, usage).max(first.max(second).max(third.max(fourth))))
 }
 
 // An expression that is no call.
 fn measured_plain(
     store: usize,
     rows: &[i32],
-    sets: &[u64],
+    sets: &[WriteSet],
     table: &[usize],
     row: usize,
 ) -> ExpressionMeasures
@@ -83,7 +80,7 @@ fn call_measures(row: usize, passed: Passed) -> ExpressionMeasures
     ensures { result ≡ call_measures row passed }
 {
     let rows = limited(4 + 2 * passed.count + passed.rows);
-    let levels = larger(1, passed.levels);
+    let levels = passed.levels.max(1);
     ExpressionMeasures {
         rows,
         levels,
@@ -99,7 +96,7 @@ fn call_measures(row: usize, passed: Passed) -> ExpressionMeasures
 pub fn measured_expression(
     store: usize,
     rows: &[i32],
-    sets: &[u64],
+    sets: &[WriteSet],
     table: &[usize],
     row: usize,
 ) -> ExpressionMeasures
@@ -113,7 +110,7 @@ pub fn measured_expression(
         ExpressionShape::Operation(_) => measured_plain(store, rows, sets, table, row),
         ExpressionShape::Choice(_) => measured_plain(store, rows, sets, table, row),
         ExpressionShape::Call(_, first) => {
-            let passed = passed_measures(store, rows, sets, table, first, nothing());
+            let passed = passed_measures(store, rows, sets, table, first, WriteSet::nothing());
             call_measures(row, passed)
         }
     }

@@ -90,16 +90,10 @@ pub fn taken_at(rows: &[i32], table: &[usize], row: usize) -> usize
 fn direct_operation(operation: OperationShape) -> bool
     ensures { result ≡ direct_operation operation }
 {
-    match operation {
-        OperationShape::Minus(_) => true,
-        OperationShape::Not(_) => true,
-        OperationShape::Binary(_, _, _) => true,
-        OperationShape::Comma(_, _) => false,
-        OperationShape::Assign(_, _) => false,
-        OperationShape::Compound(_, _, _) => false,
-        OperationShape::Prefix(_, _) => false,
-        OperationShape::Postfix(_, _) => false,
-    }
+    matches!(
+        operation,
+        OperationShape::Minus(_) | OperationShape::Not(_) | OperationShape::Binary(_, _, _)
+    )
 }
 
 // Whether the value of the expression at a row is an element or the result of an operation, which goes straight into a variable that stores it.

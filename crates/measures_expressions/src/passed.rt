@@ -10,12 +10,11 @@ ghost use Rattle.measures_expressions.specs.Passed.{no_passed, PassedFits, passe
 
 use super::copies::copied_against;
 use super::holders::taken_at;
-use language_shapes::ArgumentShape;
 use language_shapes::rows::argument_at;
-use measures_table::table::{larger, limited, measure_at};
+use measures_table::table::{limited, measure_at};
 use measures_table::{LEVELS, Passed, ROWS};
 use words::table::number_at;
-use write_sets::{WriteSet, join};
+use write_sets::WriteSet;
 use write_sets_rows::table::set_at;
 
 fn no_passed() -> Passed
@@ -36,10 +35,10 @@ fn with_argument(table: &[usize], e: usize, taken: usize, copied: usize, behind:
     ensures { result ≡ passed_with table.now e taken copied behind }
 {
     let held = taken + copied;
-    let own = larger(measure_at(table, e, LEVELS), held);
+    let own = measure_at(table, e, LEVELS).max(held);
     Passed {
         rows: limited(4 * copied + measure_at(table, e, ROWS) + behind.rows),
-        levels: limited(larger(behind.levels, behind.taken + own)),
+        levels: limited(behind.levels.max(behind.taken + own)),
         taken: behind.taken + held,
         count: behind.count + 1,
         copies: copied + 2 * behind.copies,
@@ -50,7 +49,7 @@ fn with_argument(table: &[usize], e: usize, taken: usize, copied: usize, behind:
 pub fn passed_measures(
     store: usize,
     rows: &[i32],
-    sets: &[u64],
+    sets: &[WriteSet],
     table: &[usize],
     link: usize,
     before: WriteSet,
@@ -64,13 +63,13 @@ pub fn passed_measures(
     let next = number_at(rows, link, 5);
     let shape = argument_at(rows, link);
     match shape {
-        ArgumentShape::Argument(e) => {
+        Some(e) => {
             let copied = copied_against(store, rows, table, e, before);
             let taken = taken_at(rows, table, e);
-            let written = join(set_at(sets, e), before);
+            let written = set_at(sets, e).join(before);
             let behind = passed_measures(store, &*rows, &*sets, &*table, next, written);
             with_argument(table, e, taken, copied, behind)
         }
-        ArgumentShape::NoArgument => no_passed(),
+        None => no_passed(),
     }
 }

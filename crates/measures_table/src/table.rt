@@ -1,5 +1,5 @@
 // The words of the table of measures.
-ghost use Rattle.std.specs.Prelude.{◌≡◌, ◌++◌, ◌+◌, ◌*◌, ◌≤◌, max, length, take, drop};
+ghost use Rattle.std.specs.Prelude.{◌≡◌, ◌++◌, ◌+◌, ◌*◌, ◌≤◌, length, take, drop};
 ghost use Rattle.measures_table.specs.Measures.{limited as limited_to, width, SlotAsks, SlotIs, row_words};
 
 use super::{
@@ -13,19 +13,7 @@ use super::{
 pub fn limited(sum: usize) -> usize
     ensures { result ≡ limited_to sum }
 {
-    if sum > 65536 {
-        return 65536;
-    }
-    sum
-}
-
-pub fn larger(left: usize, right: usize) -> usize
-    ensures { result ≡ max left right }
-{
-    if left < right {
-        return right;
-    }
-    left
+    sum.min(65536)
 }
 
 // A measure of the row that a link leads to; an absent link measures nothing.

@@ -13,8 +13,7 @@ pub fn rows_for(usage: Use) -> usize
 {
     match usage {
         Use::Dropped => DROPPED_ROWS,
-        Use::Wanted => ROWS,
-        Use::Stored(_) => ROWS,
+        Use::Wanted | Use::Stored(_) => ROWS,
     }
 }
 
@@ -35,8 +34,7 @@ fn passed_on(usage: Use) -> Use
 {
     match usage {
         Use::Dropped => Use::Dropped,
-        Use::Wanted => Use::Wanted,
-        Use::Stored(_) => Use::Wanted,
+        Use::Wanted | Use::Stored(_) => Use::Wanted,
     }
 }
 
@@ -56,8 +54,7 @@ pub fn rows_by(own: Own, usage: Use) -> usize
 {
     match usage {
         Use::Dropped => own.dropped_rows,
-        Use::Wanted => own.rows,
-        Use::Stored(_) => own.rows,
+        Use::Wanted | Use::Stored(_) => own.rows,
     }
 }
 

@@ -1,8 +1,8 @@
 -- Laws of parameters: where nothing hides it, the number of a parameter means that parameter, at every row of its function. The search comes to the
 -- parameter before it has passed as many as there are declarations.
-use Rattle.std.specs.Prelude.{◌≡◌, true, false, ◌⊎◌, List, ℤ}
+use Rattle.std.specs.Prelude.{◌≡◌, true, false, List, ℤ}
 use Rattle.std.proofs.Math.Path.{refl}
-use Rattle.std.proofs.Common.{ap, ◌∙◌, inl, inr, arith}
+use Rattle.std.proofs.Common.{◌∙◌, inl, inr, arith}
 use Prim.Native.Nat.{ℕ, zero, suc, ◌+◌, ◌≤◌, ◌<◌}
 use Rattle.std.proofs.Math.Decide.{ℕ_discrete}
 use borrow.Author.Tests.{eq-eqb, ne_eqb}
@@ -12,7 +12,6 @@ use Rattle.words.specs.Declarations.{is_declaration, declarations_before, declar
 use Rattle.check_structure.specs.Structured.{Tree}
 use Rattle.check_structure.specs.Lists.{Before, adjacent, further}
 use Rattle.words_roles.specs.Roles.{is_definition}
-use Rattle.check_function_causes.specs.Functions.{function_around}
 use Rattle.check_function_causes.specs.Demands.{Within, DefinedInOrder}
 use Rattle.check_function_causes.proofs.FrontLaws.{definition-some}
 use Rattle.check_function_causes.proofs.AroundLaws.{within-defines, within-is}

@@ -1,7 +1,7 @@
 -- The resolved table is structured as the table is: its declarations and names name words of a store with D words behind the first S.
-use Rattle.std.specs.Prelude.{◌≡◌, Bool, false, ◌⊎◌, List, ltb, leb, eqb, ℤ}
+use Rattle.std.specs.Prelude.{◌≡◌, Bool, false, List, ltb, leb, eqb, ℤ}
 use Rattle.std.proofs.Math.Path.{refl}
-use Rattle.std.proofs.Common.{sym, ◌∙◌, true≢false, inl, inr, arith}
+use Rattle.std.proofs.Common.{sym, ◌∙◌, true≢false, arith}
 use Rattle.std.proofs.Math.Bool.{true}
 use Rattle.std.proofs.Math.Logic.{⊎_elim}
 use Prim.Native.Nat.{ℕ, zero, suc, ◌+◌, ◌≤◌, ◌<◌}
@@ -12,10 +12,10 @@ use Rattle.words.specs.Table.{row_count, number_at}
 use Rattle.words.specs.Laws.{by_cases, both}
 use Rattle.words.specs.Layout.{Layout, store_size}
 use Rattle.words.specs.declared.Form.{Form}
-use Rattle.words.specs.Kinds.{kinds, kind_in, kind_of, variable, declared_number, unused, is_link, is_required, sort_at, sort_of, sort_in, kind_row, expression_fields, statement_fields, mark_fields, definition_fields, member_fields}
+use Rattle.words.specs.Kinds.{kinds, kind_in, kind_of, variable, declared_number, unused, sort_at, sort_of, sort_in, kind_row, expression_fields, statement_fields, mark_fields, definition_fields, member_fields}
 use Rattle.words.specs.KindLaws.{every_line, every-number}
 use Rattle.words.specs.declared.Kind.{Kind}
-use Rattle.words.specs.Links.{link, is_expression, is_place, is_statement, is_block, is_arm, is_argument, fits}
+use Rattle.words.specs.Links.{is_expression, is_place, is_statement, is_block, is_arm, is_argument, fits}
 use Rattle.check_grammar.specs.GrammarLaws.{no-kind-has}
 use Rattle.check_fields.specs.Fields.{source_bounds, resolved_bounds, variable_fits, declared_fits, number_fits}
 use Rattle.check_fields.specs.declared.Bounds.{Bounds}
@@ -26,7 +26,7 @@ use Rattle.names.specs.Names.{is_name, resolved}
 use Rattle.names.specs.SameLinks.{same-role}
 use Rattle.words.specs.Declarations.{is_declaration, declaration_count}
 use Rattle.names.proofs.ResolvedLaws.{resolved-length, resolved-kept, resolved-other, resolved-kind, resolved-sort, resolved-link, resolved-count, resolved-leads, resolved-tree}
-use Rattle.names.proofs.ResolvedNames.{DeclaredWord, declaration-word, name-word}
+use Rattle.names.proofs.ResolvedNames.{declaration-word, name-word}
 
 -- ---- what field a of a declaration and of a name holds
 

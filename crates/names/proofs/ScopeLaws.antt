@@ -1,7 +1,7 @@
 -- Laws of scope: what a row's scope and a number's meaning are; a declaration's word is its own.
 use Rattle.std.proofs.Math.Path.{◌≡◌, refl, sym}
 use Rattle.std.proofs.Common.{◌∙◌}
-use Rattle.std.specs.Prelude.{Bool, ◌&&◌, ◌||◌, ◌⊎◌, List, ℤ, length}
+use Rattle.std.specs.Prelude.{Bool, ◌&&◌, ◌||◌, ◌⊎◌, List, ℤ, length, None, Option, Some}
 use Rattle.std.proofs.Math.Bool.{true, false}
 use Rattle.std.proofs.Math.Logic.{inl, inr}
 use Prim.Native.Nat.{ℕ, zero, suc, ◌+◌, ◌*◌, ◌-◌, ◌≤◌, ◌<◌}
@@ -13,8 +13,6 @@ use Rattle.words.specs.Word.{pick, natural}
 use Rattle.words.specs.Table.{row_count, number_at}
 use Rattle.words.specs.Laws.{by_cases, both}
 use Rattle.words.specs.Links.{link, linker, received, note_by, note}
-use Rattle.words.specs.declared.Found.{Found}
-use Rattle.words.specs.declared.Found.TheVariants.{At, Nothing}
 use Rattle.check_structure.specs.Structured.{Tree}
 use Rattle.check_structure.specs.LinkLaws.{by-owner, part-inside}
 use Rattle.check_structure.specs.NoteLaws.{note-root, note-link}
@@ -31,9 +29,9 @@ noted : (P : ℕ → Type 0) (hand : ℕ → ℕ → ℕ → ℕ) (first : ℕ) 
 unfolding note note_by received
 noted P hand first rows start on row = go row row
   where
-    handed : (note_of : ℕ → ℕ) → ((row : ℕ) → P (note_of row)) → (found : Found) → P (received hand first note_of found)
-    handed note_of h Nothing = start
-    handed note_of h (At word) = on _ _ _ (h _)
+    handed : (note_of : ℕ → ℕ) → ((row : ℕ) → P (note_of row)) → (found : Option ℕ) → P (received hand first note_of found)
+    handed note_of h None = start
+    handed note_of h (Some word) = on _ _ _ (h _)
 
     go : (links row : ℕ) → P (note_by links hand first rows row)
     go zero row = start

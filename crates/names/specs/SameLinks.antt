@@ -1,5 +1,5 @@
 -- Laws of two tables with the same links: what is said along the links of one holds of the other; so do the roles of rows.
-use Rattle.std.specs.Prelude.{◌≡◌, true, false, List, ℤ, eqb, length}
+use Rattle.std.specs.Prelude.{◌≡◌, List, ℤ, eqb, length}
 use Rattle.std.proofs.Math.Path.{refl}
 use Rattle.std.proofs.Common.{sym, ap, subst, ◌∙◌, true≢false, arith}
 use Prim.Native.Nat.{ℕ, zero, suc, ◌+◌, ◌*◌, ◌/◌, ◌%◌, ◌<◌}

@@ -5,7 +5,6 @@ use Rattle.std.proofs.Math.Decide.{ℕ_discrete}
 use Rattle.std.proofs.Math.Arith.{lt_of_le-ne}
 use Rattle.words.specs.Word.{one}
 use Rattle.words.specs.Table.{row_count}
-use Rattle.check_structure.specs.Structured.{Tree}
 use Rattle.check_structure.specs.Passes.{Notes}
 use Rattle.check_notes.specs.RowNotes.{handed, note_at}
 use Rattle.check_notes.specs.RowNoteLaws.{same-notes}

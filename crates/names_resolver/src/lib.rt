@@ -8,50 +8,18 @@ pub mod scopes; // scopes.rt: the scope of each row, and its function
 
 ghost use Rattle.std.specs.Prelude.{◌≡◌, ◌/◌, ◌≤◌, length};
 ghost use Rattle.words.specs.Over.{over};
-ghost use Rattle.check_grammar.specs.Grammar.{grammar};
 ghost use Rattle.check_structure.specs.Structured.{Tree};
 ghost use Rattle.names.specs.Names.{resolved};
-ghost use Rattle.names_resolver.specs.Passes.{Scanned};
 
-use check_grammar::KindTable;
-use check_grammar::kinds::kind_table;
+use check_grammar::kinds::KindTable;
 use counts::write_counts;
 use scopes::{write_around, write_scopes};
-use store_words::resolved_word;
-
-// Writes every word of the resolved table.
-fn put_resolved(
-    kinds: &KindTable,
-    store: usize,
-    rows: &[i32],
-    scopes: &[u16],
-    around: &[u16],
-    counts: &[u16],
-    out: &mut [i32],
-)
-    requires { Scanned rows.now scopes.now around.now counts.now × (store ≤ 8192) × (length rows.now ≤ length out.old) × (kinds.now ≡ grammar) }
-    ensures { out.new ≡ over (resolved store rows.now) out.old }
-{
-    let mut word: usize = 0;
-    while word < rows.len() {
-        out[word] = resolved_word(
-            kinds,
-            store,
-            rows,
-            scopes,
-            around,
-            counts,
-            word / 6,
-            word % 6,
-        );
-        word += 1;
-    }
-}
+use store_words::ScannedRows;
 
 // Writes the resolved table of a source program, with the table of kinds. `store` is the number of words of the header's variables and
 // arrays.
 fn resolve_by(kinds: &KindTable, store: usize, rows: &[i32], out: &mut [i32])
-    requires { Tree rows.now × (length rows.now / 6 ≤ 2048) × (store ≤ 8192) × (length rows.now ≤ length out.old) × (kinds.now ≡ grammar) }
+    requires { Tree rows.now × (length rows.now / 6 ≤ 2048) × (store ≤ 8192) × (length rows.now ≤ length out.old) }
     ensures { out.new ≡ over (resolved store rows.now) out.old }
 {
     let mut scopes = [0u16; 2048];
@@ -60,7 +28,15 @@ fn resolve_by(kinds: &KindTable, store: usize, rows: &[i32], out: &mut [i32])
     write_scopes(kinds, rows, &mut scopes);
     write_around(kinds, rows, &mut around);
     write_counts(rows, &mut counts);
-    put_resolved(kinds, store, rows, &scopes, &around, &counts, out);
+    let scanned = ScannedRows {
+        kinds: kinds,
+        store: store,
+        rows: rows,
+        scopes: &scopes,
+        around: &around,
+        counts: &counts,
+    };
+    scanned.put_resolved(out);
 }
 
 // The same: the table of kinds is built here, once, and lent on.
@@ -68,6 +44,6 @@ pub fn resolve(store: usize, rows: &[i32], out: &mut [i32])
     requires { Tree rows.now × (length rows.now / 6 ≤ 2048) × (store ≤ 8192) × (length rows.now ≤ length out.old) }
     ensures { out.new ≡ over (resolved store rows.now) out.old }
 {
-    let kinds = kind_table();
+    let kinds = KindTable::new();
     resolve_by(&kinds, store, rows, out)
 }

@@ -1,7 +1,6 @@
 -- Examples: the page of document 01's program in kernel form, one with every statement, and pages that are none. By computation.
-use Rattle.std.specs.Prelude.{◌≡◌, refl, List, [], ◌∷◌, pos, negsuc}
+use Rattle.std.specs.Prelude.{◌≡◌, refl, List, [], ◌∷◌, pos, negsuc, None, Some}
 use Rattle.std.proofs.Common.{ap, ◌∙◌}
-use Rattle.std.proofs.Math.Option.{none, some}
 use Prim.Native.String.{String}
 use Rattle.words.specs.Word.{is_word}
 use Rattle.words.specs.Layout.{Layout, store_size}
@@ -99,7 +98,7 @@ pub every-page : page_bytes five every ≡ quoted every_lines
 unfolding quoted bytes_of digits digits_within number_bytes statement_lines ended name blanks parted right_set padded line_bytes lines_bytes page_bytes
 every-page = refl
 
-pub every-read : read_page five (quoted every_lines) ≡ some every
+pub every-read : read_page five (quoted every_lines) ≡ Some every
 unfolding quoted bytes_of digits digits_within number_bytes is_digit decimal natural_of word positive negative number_of is_word together lines_of statement_lines read_before read_lines ended name blanks parted right_set padded line_bytes lines_bytes page_bytes same pieces filled without read_operator read_name read_atom read_place page_lines read_page
 every-read = refl
 
@@ -136,7 +135,7 @@ pub functions-page : page_bytes five functions ≡ quoted function_lines
 unfolding quoted bytes_of digits digits_within number_bytes argument_lines parameter_lines statement_lines ended name blanks parted right_set padded line_bytes lines_bytes page_bytes
 functions-page = refl
 
-pub functions-read : read_page five (quoted function_lines) ≡ some functions
+pub functions-read : read_page five (quoted function_lines) ≡ Some functions
 unfolding quoted bytes_of digits digits_within number_bytes is_digit decimal natural_of word positive negative number_of is_word together lines_of argument_lines parameter_lines statement_lines read_before read_lines ended name blanks parted right_set padded line_bytes lines_bytes page_bytes same pieces filled without read_operator read_name read_atom read_place page_lines read_page
 functions-read = refl
 
@@ -157,10 +156,10 @@ shifted = "    1  v0 = 2;                                                       
 abbrev unclosed : List String
 unclosed = "    1 {                                                                         " ∷ []
 
-pub shifted-refused : read_page four (quoted shifted) ≡ none
+pub shifted-refused : read_page four (quoted shifted) ≡ None
 unfolding quoted bytes_of digits digits_within number_bytes is_digit decimal natural_of word positive negative number_of is_word together lines_of statement_lines read_before read_lines ended name blanks parted right_set padded line_bytes lines_bytes page_bytes same pieces filled without read_operator read_name read_atom read_place page_lines read_page
 shifted-refused = refl
 
-pub unclosed-refused : read_page four (quoted unclosed) ≡ none
+pub unclosed-refused : read_page four (quoted unclosed) ≡ None
 unfolding quoted bytes_of is_digit decimal natural_of together lines_of read_before read_lines same pieces filled without read_place page_lines read_page
 unclosed-refused = refl

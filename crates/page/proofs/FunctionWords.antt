@@ -1,7 +1,6 @@
 -- Laws of the words of calls and definitions: what a word does not end in, and what it begins with.
-use Rattle.std.specs.Prelude.{◌≡◌, refl, List, [], ◌∷◌, ◌++◌, ℕ, ◌≤◌, ℤ, length}
+use Rattle.std.specs.Prelude.{◌≡◌, refl, List, [], ◌∷◌, ◌++◌, ℕ, ◌≤◌, ℤ, length, None}
 use Rattle.std.proofs.Common.{ap, arith, ne_eqb}
-use Rattle.std.proofs.Math.Option.{none}
 use Rattle.text_numbers.specs.Number.{digits, number_bytes, is_digit, decimal, natural_of, positive, number_of}
 use Rattle.page.specs.declared.Sizes.{Sizes}
 use Rattle.page.specs.Page.{ended_by, function_word, opened_word, called_word, name}
@@ -21,7 +20,7 @@ called-word f = ended-word 41 (opened_word f) (omega arith) (opened-word f)
 
 -- ---- ends
 
-pub without_other : (last byte : ℕ) (bytes : List ℕ) → (byte ≡ last → ⊥) → without last (ended_by byte bytes) ≡ none
+pub without_other : (last byte : ℕ) (bytes : List ℕ) → (byte ≡ last → ⊥) → without last (ended_by byte bytes) ≡ None
 unfolding without
 without_other last byte [] f = rw (ne_eqb byte last f)
 without_other last byte (x ∷ []) f = rw (ne_eqb byte last f)
@@ -30,7 +29,7 @@ without_other last byte (x ∷ (y ∷ bytes)) f = rw (without_other last byte (y
 -- ---- first bytes
 
 -- No number begins with f.
-pub no_number : (bytes : List ℕ) → number_of (102 ∷ bytes) ≡ none
+pub no_number : (bytes : List ℕ) → number_of (102 ∷ bytes) ≡ None
 unfolding number_of natural_of decimal is_digit positive
 no_number [] = refl
 no_number (x ∷ bytes) = refl

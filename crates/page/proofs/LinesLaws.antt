@@ -1,8 +1,7 @@
 -- Laws of lines: what a line comes to, by what it stands before; a kernel program's lines are read back as its items; a row has at most two
 -- lines. The last two by induction over kernel form.
-use Rattle.std.specs.Prelude.{◌≡◌, refl, Bool, List, [], ◌∷◌, ◌++◌, ℕ, ◌+◌, ◌*◌, ◌≤◌, length}
+use Rattle.std.specs.Prelude.{◌≡◌, refl, Bool, List, [], ◌∷◌, ◌++◌, ℕ, ◌+◌, ◌*◌, ◌≤◌, length, Some}
 use Rattle.std.proofs.Common.{ap, arith, length-append}
-use Rattle.std.proofs.Math.Option.{some}
 use Rattle.language.specs.Trees.{Expression, Arguments, no_more, ◌also◌, Statement, express, block, if_else, Items, none as no_item, ◌then◌, ◌here◌, define, ◌⧺◌}
 use Rattle.language.specs.Sizes.{expression_rows, arguments_rows, statement_rows, items_rows}
 use Rattle.translation.specs.KernelForm.{constant-atom, variable_atom, no_more_atoms, more_atoms, Assigns, assigns_atom, assigns_minus, assigns_operation, assigns_element, assigns_call, assigns_to_element, KernelStatement, kernel-empty, kernel-assign, kernel-block, kernel-if, kernel-while, kernel-goto, kernel-abort, kernel-return, KernelItems, kernel-none, kernel-then, kernel-label, KernelProgram, kernel_main, kernel_define}
@@ -142,7 +141,7 @@ program-read level (kernel_define {is} {body} {f} {words} b k) later waiting =
       append-none body,
     ) (definition-read level f words body (is ⧺ later) waiting)
 
-pub lines-read-back : {is : Items} → KernelProgram is → (level : ℕ) → read_lines (plain (items_lines level is)) ≡ some is
+pub lines-read-back : {is : Items} → KernelProgram is → (level : ℕ) → read_lines (plain (items_lines level is)) ≡ Some is
 unfolding read_lines
 lines-read-back {is} h level = rw (program-read level h no_item outermost, append-none is)
 

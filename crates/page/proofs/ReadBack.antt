@@ -1,9 +1,8 @@
 -- Read-back: what is printed is read back, word by word, line by line, then the page.
-use Rattle.std.specs.Prelude.{◌≡◌, true, false, ℕ, zero, suc, ◌+◌, ◌-◌, length, eqb}
+use Rattle.std.specs.Prelude.{◌≡◌, true, false, ℕ, zero, suc, ◌+◌, ◌-◌, length, eqb, None, Option, Some}
 use Rattle.std.proofs.Math.Path.{refl, ap, ap₂}
 use Rattle.std.proofs.Common.{sym, subst, ◌∙◌, inr, eq-eqb, ne_eqb, eqb-true}
 use mathlib.Core.List.{List, [], ◌∷◌, ◌++◌, append_assoc}
-use Rattle.std.proofs.Math.Option.{Option, none, some}
 use native.Mathlib.Omega.{arith}
 use Rattle.words.specs.Laws.{by_cases}
 use Rattle.text_numbers.specs.Number.{digits, number_bytes}
@@ -21,30 +20,30 @@ use Rattle.page.proofs.Fits.{AtomFits, fits-constant, fits-variable, ValueFits, 
 use Rattle.page.proofs.WordLaws.{between-free, digits_between, number-between, name_free, pieces_more, pieces-last, IsWord, AreWords, digits-word, number_word, name-word, inside, spelt, operator-word, led-word, joined_word, ended-word, label-word, line-words, without-last, number-no-name, number-no-place, name-shows, variable-shows, operator-shows}
 use Rattle.page.proofs.FunctionWords.{opened-word, called-word, without_other, no_number, Begins, begins-ended, number-begins, name-begins}
 
-assigned : (sizes : Sizes) (w : List ℕ) (words : List (List ℕ)) {p : Place} {e : Expression} → read_place sizes w ≡ some p → read_value sizes words ≡ some e → line_of sizes (w ∷ (equals_word ∷ words)) ≡ some (single (express (assign p e)))
+assigned : (sizes : Sizes) (w : List ℕ) (words : List (List ℕ)) {p : Place} {e : Expression} → read_place sizes w ≡ Some p → read_value sizes words ≡ Some e → line_of sizes (w ∷ (equals_word ∷ words)) ≡ Some (single (express (assign p e)))
 unfolding same
 assigned sizes w [] q r = not_some r
 assigned sizes w (y ∷ ys) q r = rw (q, r)
 
 -- A line of one word that begins as no fixed word does.
-one_word : (sizes : Sizes) (word : List ℕ) (line : PageLine) → Begins word → or_else (read_mark sizes word) (read_argument sizes word) ≡ some line → line_of sizes (word ∷ []) ≡ some line
+one_word : (sizes : Sizes) (word : List ℕ) (line : PageLine) → Begins word → or_else (read_mark sizes word) (read_argument sizes word) ≡ Some line → line_of sizes (word ∷ []) ≡ Some line
 unfolding same
 one_word sizes word line b e =
-    subst (λ (w : List ℕ). line_of sizes (w ∷ []) ≡ some line) (sym b.is)
-    (go b.first b.rest b.no_semicolon b.no_a b.no_opening b.no_closing (subst (λ (w : List ℕ). or_else (read_mark sizes w) (read_argument sizes w) ≡ some line) b.is e))
+    subst (λ (w : List ℕ). line_of sizes (w ∷ []) ≡ Some line) (sym b.is)
+    (go b.first b.rest b.no_semicolon b.no_a b.no_opening b.no_closing (subst (λ (w : List ℕ). or_else (read_mark sizes w) (read_argument sizes w) ≡ Some line) b.is e))
   where
     go : (first : ℕ) (rest : List ℕ) → (first ≡ 59 → ⊥) → (first ≡ 97 → ⊥) → (first ≡ 123 → ⊥) → (first ≡ 125 → ⊥)
-        → or_else (read_mark sizes (first ∷ rest)) (read_argument sizes (first ∷ rest)) ≡ some line → line_of sizes ((first ∷ rest) ∷ []) ≡ some line
+        → or_else (read_mark sizes (first ∷ rest)) (read_argument sizes (first ∷ rest)) ≡ Some line → line_of sizes ((first ∷ rest) ∷ []) ≡ Some line
     go first rest a b c d e = rw (ne_eqb first 59 a, ne_eqb first 123 c, ne_eqb first 125 d, ne_eqb first 97 b) e
 
 -- A line of three words, the first of which is `int`, the second no equals sign.
-three-words : (sizes : Sizes) (word : List ℕ) (line : PageLine) → Begins word → read_last_parameter sizes word ≡ some line → line_of sizes (int_word ∷ (word ∷ (opening_word ∷ []))) ≡ some line
+three-words : (sizes : Sizes) (word : List ℕ) (line : PageLine) → Begins word → read_last_parameter sizes word ≡ Some line → line_of sizes (int_word ∷ (word ∷ (opening_word ∷ []))) ≡ Some line
 unfolding same
 three-words sizes word line b e =
-    subst (λ (w : List ℕ). line_of sizes (int_word ∷ (w ∷ (opening_word ∷ []))) ≡ some line) (sym b.is)
-    (go b.first b.rest b.no_equals (subst (λ (w : List ℕ). read_last_parameter sizes w ≡ some line) b.is e))
+    subst (λ (w : List ℕ). line_of sizes (int_word ∷ (w ∷ (opening_word ∷ []))) ≡ Some line) (sym b.is)
+    (go b.first b.rest b.no_equals (subst (λ (w : List ℕ). read_last_parameter sizes w ≡ Some line) b.is e))
   where
-    go : (first : ℕ) (rest : List ℕ) → (first ≡ 61 → ⊥) → read_last_parameter sizes (first ∷ rest) ≡ some line → line_of sizes (int_word ∷ ((first ∷ rest) ∷ (opening_word ∷ []))) ≡ some line
+    go : (first : ℕ) (rest : List ℕ) → (first ≡ 61 → ⊥) → read_last_parameter sizes (first ∷ rest) ≡ Some line → line_of sizes (int_word ∷ ((first ∷ rest) ∷ (opening_word ∷ []))) ≡ Some line
     go first rest a e = rw (ne_eqb first 61 a) e
 
 blanks-free : (n : ℕ) → Free 10 (blanks n)
@@ -80,43 +79,43 @@ same-equal (x ∷ xs) (y ∷ ys) e =
     by_cases (eqb x y) (λ t. ap₂ (λ z zs. z ∷ zs) (eqb-true x y t) (same-equal xs ys (rw t at e))) (λ f. absurd (let g : false ≡ true = rw f at e in let z : ◌≡◌ {A = ℕ} 0 1 = cc in omega arith))
 
 -- Only pages are read: what a page was read as, printed again, gives the same bytes.
-pub read-prints : (sizes : Sizes) (page : List ℕ) (contents : Items) → read_page sizes page ≡ some contents → page_bytes sizes contents ≡ page
+pub read-prints : (sizes : Sizes) (page : List ℕ) (contents : Items) → read_page sizes page ≡ Some contents → page_bytes sizes contents ≡ page
 unfolding read_page
 read-prints sizes page contents = from-lines (page_lines sizes (lines_of page))
   where
-    from-items : (items : Option Items) → bind items (printed_again sizes page) ≡ some contents → page_bytes sizes contents ≡ page
-    from-items none e = not_some e
-    from-items (some is) e =
+    from-items : (items : Option Items) → bind items (printed_again sizes page) ≡ Some contents → page_bytes sizes contents ≡ page
+    from-items None e = not_some e
+    from-items (Some is) e =
         by_cases (same (page_bytes sizes is) page)
-        (λ t. let found : some is ≡ some contents = rw t at e in let equal : is ≡ contents = cc in rw (← equal) (same-equal (page_bytes sizes is) page t))
+        (λ t. let found : Some is ≡ Some contents = rw t at e in let equal : is ≡ contents = cc in rw (← equal) (same-equal (page_bytes sizes is) page t))
         (λ f. not_some (rw f at e))
 
-    from-lines : (lines : Option (List PageLine)) → bind lines (λ found. bind (read_lines found) (printed_again sizes page)) ≡ some contents → page_bytes sizes contents ≡ page
-    from-lines none e = not_some e
-    from-lines (some lines) e = from-items (read_lines lines) e
+    from-lines : (lines : Option (List PageLine)) → bind lines (λ found. bind (read_lines found) (printed_again sizes page)) ≡ Some contents → page_bytes sizes contents ≡ page
+    from-lines None e = not_some e
+    from-lines (Some lines) e = from-items (read_lines lines) e
 
 -- A line without its newline.
 abbrev body : Sizes → ℕ → ℕ → PageLine → List ℕ
 body sizes number level line = padded 80 (right_set 5 (digits number) ++ (blank ∷ (blanks (indent level) ++ parted (line_words sizes line))))
 
 module _ (sizes : Sizes) where
-  called-shows : (f : ℕ) → read_value sizes (ended_by 59 (called_word f) ∷ []) ≡ some (call f no_more)
+  called-shows : (f : ℕ) → read_value sizes (ended_by 59 (called_word f) ∷ []) ≡ Some (call f no_more)
   unfolding read_atom read_name read_place
   called-shows f =
       rw (without-last 59 (called_word f), no_number ((digits f ++ (40 ∷ [])) ++ (41 ∷ [])), without-last 41 (opened_word f), without-last 40 (function_word f), natural-shows f)
 
-  function-shows : (f : ℕ) → line_of sizes (int_word ∷ (called_word f ∷ (opening_word ∷ []))) ≡ some (opens_function f)
+  function-shows : (f : ℕ) → line_of sizes (int_word ∷ (called_word f ∷ (opening_word ∷ []))) ≡ Some (opens_function f)
   unfolding same read_name
   function-shows f = rw (without-last 41 (opened_word f), without-last 40 (function_word f), natural-shows f)
 
-  call-shows : (i f : ℕ) → line_of sizes (name sizes i ∷ (equals_word ∷ (opened_word f ∷ []))) ≡ some (opens_call (variable i) f)
+  call-shows : (i f : ℕ) → line_of sizes (name sizes i ∷ (equals_word ∷ (opened_word f ∷ []))) ≡ Some (opens_call (variable i) f)
   unfolding same
   call-shows i f = rw (variable-shows sizes i, without_other 59 40 (function_word f) (λ q. omega arith), without-last 40 (function_word f), natural-shows f)
 
 module _ {Names : ℕ → Type 0} {arrays : ℕ} (sizes : Sizes) where
   -- ---- atoms, elements, values
 
-  atom-shows : (e : Expression) → AtomFits Names arrays e → read_atom sizes (atom_word sizes e) ≡ some e
+  atom-shows : (e : Expression) → AtomFits Names arrays e → read_atom sizes (atom_word sizes e) ≡ Some e
   unfolding read_atom
   atom-shows (constant v) (fits-constant h) = rw (number-no-name sizes (number_bytes v) (number-between v), number-shows v h)
   atom-shows (read (variable i)) (fits-variable n) = rw (name-shows sizes i)
@@ -168,7 +167,7 @@ module _ {Names : ℕ → Type 0} {arrays : ℕ} (sizes : Sizes) where
   atom-free (postfix _ _) x14 = elim x14 [ ]
   atom-free (call _ _) x15 = elim x15 [ ]
 
-  element-shows : (array : ℕ) (e : Expression) → AtomFits Names arrays e → read_place sizes (place_word sizes (element array e)) ≡ some (element array e)
+  element-shows : (array : ℕ) (e : Expression) → AtomFits Names arrays e → read_place sizes (place_word sizes (element array e)) ≡ Some (element array e)
   unfolding read_place Free
   element-shows array e h =
       rw (
@@ -184,7 +183,7 @@ module _ {Names : ℕ → Type 0} {arrays : ℕ} (sizes : Sizes) where
       led-word 97 (digits array ++ (91 ∷ ended_by 93 (atom_word sizes e))) (omega arith)
       (joined_word (digits array) (91 ∷ ended_by 93 (atom_word sizes e)) (digits-word array) (led-word 91 (ended_by 93 (atom_word sizes e)) (omega arith) (ended-word 93 (atom_word sizes e) (omega arith) (atom-word e h))))
 
-  ended-shows : (e : Expression) → AtomFits Names arrays e → read_value sizes (ended (value_words sizes e)) ≡ some e
+  ended-shows : (e : Expression) → AtomFits Names arrays e → read_value sizes (ended (value_words sizes e)) ≡ Some e
   unfolding ended read_atom
   ended-shows (constant v) (fits-constant h) =
       rw (without-last 59 (number_bytes v), number-no-place sizes (number_bytes v) (number-between v), number-no-name sizes (number_bytes v) (number-between v), number-shows v h)
@@ -203,7 +202,7 @@ module _ {Names : ℕ → Type 0} {arrays : ℕ} (sizes : Sizes) where
   ended-shows (postfix _ _) x14 = elim x14 [ ]
   ended-shows (call _ _) x15 = elim x15 [ ]
 
-  value-shows : (e : Expression) → ValueFits Names arrays e → read_value sizes (ended (value_words sizes e)) ≡ some e
+  value-shows : (e : Expression) → ValueFits Names arrays e → read_value sizes (ended (value_words sizes e)) ≡ Some e
   unfolding ended same
   value-shows e (value-atom h) = ended-shows e h
   value-shows (read (element array e)) (value-element b h) = rw (without-last 59 (place_word sizes (element array e)), element-shows array e h)
@@ -256,13 +255,13 @@ module _ {Names : ℕ → Type 0} {arrays : ℕ} (sizes : Sizes) where
   atom-begins (postfix _ _) x14 = elim x14 [ ]
   atom-begins (call _ _) x15 = elim x15 [ ]
 
-  argument-shows : (e : Expression) → AtomFits Names arrays e → line_of sizes (ended_by 44 (atom_word sizes e) ∷ []) ≡ some (argument e)
+  argument-shows : (e : Expression) → AtomFits Names arrays e → line_of sizes (ended_by 44 (atom_word sizes e) ∷ []) ≡ Some (argument e)
   argument-shows e h =
       let word = atom_word sizes e in
       one_word sizes (ended_by 44 word) (argument e) (begins-ended 44 word (atom-begins e h))
       (rw (without_other 59 44 word (λ q. omega arith), without-last 44 word, atom-shows e h))
 
-  last-argument-shows : (e : Expression) → AtomFits Names arrays e → line_of sizes (ended_by 59 (ended_by 41 (atom_word sizes e)) ∷ []) ≡ some (last_argument e)
+  last-argument-shows : (e : Expression) → AtomFits Names arrays e → line_of sizes (ended_by 59 (ended_by 41 (atom_word sizes e)) ∷ []) ≡ Some (last_argument e)
   last-argument-shows e h =
       let word = atom_word sizes e in
       one_word sizes (ended_by 59 (ended_by 41 word)) (last_argument e) (begins-ended 59 (ended_by 41 word) (begins-ended 41 word (atom-begins e h)))
@@ -274,7 +273,7 @@ module _ {Names : ℕ → Type 0} {arrays : ℕ} (sizes : Sizes) where
   module _ {Parameters : ℕ → Type 0} where
     -- ---- lines
 
-    line-shows : (line : PageLine) → LineFits Names arrays Parameters line → line_of sizes (line_words sizes line) ≡ some line
+    line-shows : (line : PageLine) → LineFits Names arrays Parameters line → line_of sizes (line_words sizes line) ≡ Some line
     unfolding same
     line-shows (single empty) fits-empty = refl
     line-shows (single abort) fits-abort = refl
@@ -388,11 +387,11 @@ module _ {Names : ℕ → Type 0} {arrays : ℕ} (sizes : Sizes) where
         (free-append 10 (right_set 5 (digits number)) (blank ∷ (blanks (indent level) ++ parted (line_words sizes line))) (set_free 5 (digits number) (digits-word number).no_newline)
         (λ e. omega arith, free-append 10 (blanks (indent level)) (parted (line_words sizes line)) (blanks-free (indent level)) (parted-free (line_words sizes line) (line-has-words line h))))
 
-    body-shows : (number level : ℕ) (line : PageLine) → LineFits Names arrays Parameters line → numbered sizes (words_of (body sizes number level line)) ≡ some line
+    body-shows : (number level : ℕ) (line : PageLine) → LineFits Names arrays Parameters line → numbered sizes (words_of (body sizes number level line)) ≡ Some line
     unfolding padded right_set
     body-shows number level line h = ap (numbered sizes) (line-words _ _ _ number (line_words sizes line) (line-has-words line h)) ∙ line-shows line h
 
-    lines-shown : (number : ℕ) (lines : List Indented) → AllFit Names arrays Parameters lines → page_lines sizes (lines_of (lines_bytes sizes number lines)) ≡ some (plain lines)
+    lines-shown : (number : ℕ) (lines : List Indented) → AllFit Names arrays Parameters lines → page_lines sizes (lines_of (lines_bytes sizes number lines)) ≡ Some (plain lines)
     unfolding lines_bytes line_bytes plain lines_of page_lines together
     lines-shown number [] all_none = refl
     lines-shown number (indented level line ∷ lines) (all_more f h) =
@@ -401,12 +400,12 @@ module _ {Names : ℕ → Type 0} {arrays : ℕ} (sizes : Sizes) where
         ∙ ap₂ together (body-shows number level line f) (lines-shown (number + 1) lines h)
 
     -- The bytes of lines that fit are read as the program whose page they are.
-    pub lines-read-page : (lines : List Indented) (contents : Items) → AllFit Names arrays Parameters lines → read_lines (plain lines) ≡ some contents → page_bytes sizes contents ≡ lines_bytes sizes 1 lines
-        → read_page sizes (lines_bytes sizes 1 lines) ≡ some contents
+    pub lines-read-page : (lines : List Indented) (contents : Items) → AllFit Names arrays Parameters lines → read_lines (plain lines) ≡ Some contents → page_bytes sizes contents ≡ lines_bytes sizes 1 lines
+        → read_page sizes (lines_bytes sizes 1 lines) ≡ Some contents
     unfolding read_page
     lines-read-page lines contents h r p = rw (lines-shown 1 lines h, r, p, same-all (lines_bytes sizes 1 lines))
 
     -- "Read with the header by docs/, the lines give back" the program, of which the names and constants are within any bounds.
-    pub page-read-back : {contents : Items} → KernelProgram contents → AllFit Names arrays Parameters (items_lines 0 contents) → read_page sizes (page_bytes sizes contents) ≡ some contents
+    pub page-read-back : {contents : Items} → KernelProgram contents → AllFit Names arrays Parameters (items_lines 0 contents) → read_page sizes (page_bytes sizes contents) ≡ Some contents
     unfolding page_bytes
     page-read-back {contents} k h = lines-read-page (items_lines 0 contents) contents h (lines-read-back k 0) refl

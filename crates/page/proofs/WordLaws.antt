@@ -1,7 +1,6 @@
 -- Laws of words: printed bytes fall into the words that were printed, and numbers, names and operators are read back.
-use Rattle.std.specs.Prelude.{◌≡◌, refl, Bool, true, false, ◌&&◌, List, [], ◌∷◌, ◌++◌, ◌⊎◌, ℕ, zero, suc, ◌+◌, ◌-◌, ◌/◌, ◌≤◌, ◌<◌, ltb, leb, ℤ, pos, negsuc, length}
+use Rattle.std.specs.Prelude.{◌≡◌, refl, Bool, true, false, ◌&&◌, List, [], ◌∷◌, ◌++◌, ◌⊎◌, ℕ, zero, suc, ◌+◌, ◌-◌, ◌/◌, ◌≤◌, ◌<◌, ltb, leb, ℤ, pos, negsuc, length, None, Some}
 use Rattle.std.proofs.Common.{ap, ◌∙◌, append_assoc, append-nil, inl, inr, arith, length-append, eq-eqb, ne_eqb, ltb-false, ltb-true, leb-true}
-use Rattle.std.proofs.Math.Option.{none, some}
 use Rattle.words.specs.Word.{pick}
 use Rattle.words.specs.Laws.{by_cases}
 use Rattle.words.specs.declared.Operator.{Operator}
@@ -220,42 +219,42 @@ line-words a i c n words h =
 
 -- ---- what one word says
 
-pub without-last : (last : ℕ) (bytes : List ℕ) → without last (ended_by last bytes) ≡ some bytes
+pub without-last : (last : ℕ) (bytes : List ℕ) → without last (ended_by last bytes) ≡ Some bytes
 unfolding without
 without-last last [] = rw (eq-eqb last last refl)
 without-last last (byte ∷ []) = rw (eq-eqb last last refl)
 without-last last (byte ∷ (second ∷ bytes)) = rw (without-last last (second ∷ bytes))
 
-not-name : (sizes : Sizes) (first : ℕ) (bytes : List ℕ) → first ≤ 57 → read_name sizes (first ∷ bytes) ≡ none
+not-name : (sizes : Sizes) (first : ℕ) (bytes : List ℕ) → first ≤ 57 → read_name sizes (first ∷ bytes) ≡ None
 unfolding read_name
 not-name sizes first bytes h = rw (ne_eqb first 118 (λ e. omega arith), ne_eqb first 108 (λ e. omega arith), ne_eqb first 116 (λ e. omega arith))
 
-pub number-no-name : (sizes : Sizes) (bytes : List ℕ) → Between 45 57 bytes → read_name sizes bytes ≡ none
+pub number-no-name : (sizes : Sizes) (bytes : List ℕ) → Between 45 57 bytes → read_name sizes bytes ≡ None
 unfolding Between read_name
 number-no-name sizes [] h = refl
 number-no-name sizes (byte ∷ bytes) h = not-name sizes byte bytes h.1
 
-pub number-no-place : (sizes : Sizes) (bytes : List ℕ) → Between 45 57 bytes → read_place sizes bytes ≡ none
+pub number-no-place : (sizes : Sizes) (bytes : List ℕ) → Between 45 57 bytes → read_place sizes bytes ≡ None
 unfolding Between read_place
 number-no-place sizes [] h = refl
 number-no-place sizes (byte ∷ bytes) h = rw (ne_eqb byte 97 (λ e. omega (arith, h.1)), not-name sizes byte bytes h.1)
 
-pub name-shows : (sizes : Sizes) (i : ℕ) → read_name sizes (name sizes i) ≡ some i
+pub name-shows : (sizes : Sizes) (i : ℕ) → read_name sizes (name sizes i) ≡ Some i
 unfolding read_name
-name-shows sizes i = each-name (λ word. read_name sizes word ≡ some i) sizes i
+name-shows sizes i = each-name (λ word. read_name sizes word ≡ Some i) sizes i
     (λ h. natural-shows i)
     (λ h. let back : sizes.store + (i - sizes.store) ≡ i = omega arith in rw (natural-shows (i - sizes.store), back))
     (λ h. let back : first_temporary sizes + (i - first_temporary sizes) ≡ i = omega arith in rw (natural-shows (i - first_temporary sizes), back))
 
 -- A name is no element.
-pub variable-shows : (sizes : Sizes) (i : ℕ) → read_place sizes (name sizes i) ≡ some (variable i)
+pub variable-shows : (sizes : Sizes) (i : ℕ) → read_place sizes (name sizes i) ≡ Some (variable i)
 unfolding read_name read_place
-variable-shows sizes i = each-name (λ word. read_place sizes word ≡ some (variable i)) sizes i
+variable-shows sizes i = each-name (λ word. read_place sizes word ≡ Some (variable i)) sizes i
     (λ h. rw (natural-shows i))
     (λ h. let back : sizes.store + (i - sizes.store) ≡ i = omega arith in rw (natural-shows (i - sizes.store), back))
     (λ h. let back : first_temporary sizes + (i - first_temporary sizes) ≡ i = omega arith in rw (natural-shows (i - first_temporary sizes), back))
 
-pub operator-shows : (o : Operator) → read_operator (operator_word o) ≡ some o
+pub operator-shows : (o : Operator) → read_operator (operator_word o) ≡ Some o
 unfolding read_operator same
 operator-shows Add = refl
 operator-shows Subtract = refl

@@ -1,6 +1,5 @@
 -- Lines: a kernel program as lines, and the program that lines are. Structure only: what stands in a line is in Page.
-use Rattle.std.specs.Prelude.{List, [], ◌∷◌, ◌++◌, ℕ, ◌+◌}
-use Rattle.std.proofs.Math.Option.{Option, none, some}
+use Rattle.std.specs.Prelude.{List, [], ◌∷◌, ◌++◌, ℕ, ◌+◌, None, Option, Some}
 use Rattle.language.specs.Trees.{Expression, constant, read, minus, not, binary, and, or, comma, conditional, assign, compound, prefix, postfix, call, Place, Arguments, no_more, ◌also◌, Mark, Statement, empty, express, block, if_then, if_else, while, do_while, for, switch, break, continue, goto, guarded_if, guarded_do, abort, declare, give_back, Items, none as no_item, ◌then◌, ◌here◌, define}
 
 -- What a line says. Blocks end in a line of their own, so that their ends do not hang on the indent; "pages give each argument a line", and
@@ -203,12 +202,12 @@ read_before (line ∷ lines) r = read_line line (read_before lines r)
 
 -- Every block that was closed has been opened.
 abbrev pub whole : Reading → Option Items
-whole (reading is outermost) = some is
-whole (reading is (closed later waiting)) = none
-whole (reading is (turned later waiting)) = none
-whole (passing e arguments is waiting) = none
-whole (taking word words body later waiting) = none
-whole malformed = none
+whole (reading is outermost) = Some is
+whole (reading is (closed later waiting)) = None
+whole (reading is (turned later waiting)) = None
+whole (passing e arguments is waiting) = None
+whole (taking word words body later waiting) = None
+whole malformed = None
 
 -- The items that lines are.
 unfoldable pub read_lines : List PageLine → Option Items

@@ -1,6 +1,5 @@
 -- Tables: the page of a kernel table, and the rows that a page is read as with the table's header.
-use Rattle.std.specs.Prelude.{List, ◌≡◌, false, ℕ, ◌<◌, ℤ}
-use Rattle.std.proofs.Math.Option.{Option, some}
+use Rattle.std.specs.Prelude.{List, ◌≡◌, false, ℕ, ◌<◌, ℤ, Option, Some}
 use Rattle.words.specs.Table.{row_count, word_at, number_at}
 use Rattle.words.specs.Kinds.{is_link, sort_at}
 use Rattle.words.specs.Links.{link}
@@ -29,7 +28,7 @@ table_page header rows = page_bytes (sizes_of header) (contents rows)
 
 -- The rows are numbered in the order of the page: each statement's row, then those of its parts.
 unfoldable pub read_table : List ℤ → List ℕ → Option (List ℤ)
-read_table header page = bind (read_page (sizes_of header) page) (λ items. some (emit (block items)))
+read_table header page = bind (read_page (sizes_of header) page) (λ items. Some (emit (block items)))
 
 -- "The same rows, up to numbering", twice: the same tree, in as many rows;
 pub record SameProgram (rows other : List ℤ) : Type 0 where
@@ -54,6 +53,6 @@ pub record Renumbered (rows other : List ℤ) : Type 0 where
 -- What a page gives back.
 pub record GivenBack (header rows : List ℤ) (page : List ℕ) : Type 0 where
   pub given : List ℤ
-  pub read : read_table header page ≡ some given
+  pub read : read_table header page ≡ Some given
   pub same_program : SameProgram rows given
   pub renumbered : Renumbered rows given

@@ -1,130 +1,75 @@
 // Numbers, atoms and elements by their bytes.
 ghost use Rattle.std.specs.Prelude.{◌≡◌};
-ghost use Rattle.text_numbers.specs.Reader.{field_number};
-ghost use Rattle.page_words.specs.Reads.{number_read, variable_of, declared_word_of, temporary_of, constant_of, atom_read, name_of, element_of, element_in, element_read};
+ghost use Rattle.page_words.specs.Reads.{number_read, atom_read, name_of, element_in, element_read};
 
 use super::compare::is_framed;
-use page_words::{AtomRead, ElementRead, Names, NumberRead, PageAtom};
+use page_words::{Names, PageAtom};
 use text_lines::line::piece_end;
-use text_numbers::number::{Digits, Field, natural_of, number};
+use text_numbers::number::{natural_of, number};
 
 // A number below a bound.
-pub fn number_below(word: &[u8], bound: u32) -> NumberRead
+pub fn number_below(word: &[u8], bound: u32) -> Option<u32>
     ensures { result ≡ number_read bound word.now }
 {
-    let digits = natural_of(word, bound);
-    let Digits::Value(value) = digits else {
-        return NumberRead::Malformed;
-    };
+    let value = natural_of(word, bound)?;
     if value < bound {
-        return NumberRead::Number(value);
+        return Some(value);
     }
-    NumberRead::Malformed
-}
-
-fn variable_of(number: NumberRead) -> AtomRead
-    ensures { result ≡ variable_of number }
-{
-    match number {
-        NumberRead::Number(value) => AtomRead::Read(PageAtom::Variable(value)),
-        NumberRead::Malformed => AtomRead::Malformed,
-    }
-}
-
-fn declared_of(number: NumberRead) -> AtomRead
-    ensures { result ≡ declared_word_of number }
-{
-    match number {
-        NumberRead::Number(value) => AtomRead::Read(PageAtom::Declared(value)),
-        NumberRead::Malformed => AtomRead::Malformed,
-    }
-}
-
-fn temporary_of(number: NumberRead) -> AtomRead
-    ensures { result ≡ temporary_of number }
-{
-    match number {
-        NumberRead::Number(value) => AtomRead::Read(PageAtom::Temporary(value)),
-        NumberRead::Malformed => AtomRead::Malformed,
-    }
-}
-
-fn constant_of(field: Field) -> AtomRead
-    ensures { result ≡ constant_of (field_number field) }
-{
-    match field {
-        Field::Number(value) => AtomRead::Read(PageAtom::Constant(value)),
-        Field::Malformed => AtomRead::Malformed,
-    }
+    None
 }
 
 // `v7`, `l7`, `t7`, `-7`
-pub fn atom(names: Names, word: &[u8]) -> AtomRead
+pub fn atom(names: Names, word: &[u8]) -> Option<PageAtom>
     ensures { result ≡ atom_read names word.now }
 {
     if word.len() == 0 {
-        return AtomRead::Malformed;
+        return None;
     }
     let first = word[0];
     if first == b'v' {
-        return variable_of(number_below(&word[1..], names.variables));
+        return number_below(&word[1..], names.variables).map(PageAtom::Variable);
     }
     if first == b'l' {
-        return declared_of(number_below(&word[1..], names.declared));
+        return number_below(&word[1..], names.declared).map(PageAtom::Declared);
     }
     if first == b't' {
-        return temporary_of(number_below(&word[1..], names.temporaries));
+        return number_below(&word[1..], names.temporaries).map(PageAtom::Temporary);
     }
-    constant_of(number(word))
+    number(word).map(PageAtom::Constant)
 }
 
 // An atom that is a name.
-pub fn name_of(atom: AtomRead) -> AtomRead
+pub fn name_of(atom: Option<PageAtom>) -> Option<PageAtom>
     ensures { result ≡ name_of atom }
 {
-    let AtomRead::Read(named) = atom else {
-        return AtomRead::Malformed;
-    };
-    match named {
-        PageAtom::Constant(_) => AtomRead::Malformed,
-        PageAtom::Variable(number) => AtomRead::Read(PageAtom::Variable(number)),
-        PageAtom::Declared(number) => AtomRead::Read(PageAtom::Declared(number)),
-        PageAtom::Temporary(number) => AtomRead::Read(PageAtom::Temporary(number)),
+    match atom? {
+        PageAtom::Constant(_) => None,
+        PageAtom::Variable(number) => Some(PageAtom::Variable(number)),
+        PageAtom::Declared(number) => Some(PageAtom::Declared(number)),
+        PageAtom::Temporary(number) => Some(PageAtom::Temporary(number)),
     }
 }
 
-fn element_of(array: NumberRead, index: AtomRead) -> ElementRead
-    ensures { result ≡ element_of array index }
-{
-    let NumberRead::Number(number) = array else {
-        return ElementRead::Malformed;
-    };
-    let AtomRead::Read(atom) = index else {
-        return ElementRead::Malformed;
-    };
-    ElementRead::Read(number, atom)
-}
-
 // An element without its letter and its last bracket.
-fn element_in(names: Names, inner: &[u8]) -> ElementRead
+fn element_in(names: Names, inner: &[u8]) -> Option<(u32, PageAtom)>
     ensures { result ≡ element_in names inner.now }
 {
     let end = piece_end(inner, 0, b'[');
     if end == inner.len() {
-        return ElementRead::Malformed;
+        return None;
     }
     let next = end + 1;
-    let array = number_below(&inner[0..end], names.arrays);
-    let index = atom(names, &inner[next..]);
-    element_of(array, index)
+    let array = number_below(&inner[0..end], names.arrays)?;
+    let index = atom(names, &inner[next..])?;
+    Some((array, index))
 }
 
 // `a7[X]`
-pub fn element(names: Names, word: &[u8]) -> ElementRead
+pub fn element(names: Names, word: &[u8]) -> Option<(u32, PageAtom)>
     ensures { result ≡ element_read names word.now }
 {
     if !is_framed(b"a", b"]", word) {
-        return ElementRead::Malformed;
+        return None;
     }
     let end = word.len() - 1;
     element_in(names, &word[1..end])

@@ -1,8 +1,7 @@
 -- Laws of blocks: lines whose blocks close are the lines of a program, at their levels. Each law follows the lines from the last to the
 -- first, as page/Lines reads them: the lists that wait there are the blocks that are open here.
-use Rattle.std.specs.Prelude.{◌≡◌, refl, true, false, List, [], ◌∷◌, ℕ}
+use Rattle.std.specs.Prelude.{◌≡◌, refl, true, false, List, [], ◌∷◌, ℕ, None, Option, Some}
 use Rattle.std.proofs.Common.{sym, ◌∙◌, append-nil, arith}
-use Rattle.std.proofs.Math.Option.{Option, none, some}
 use Rattle.text_numbers.specs.NumberLaws.{not_some}
 use Rattle.language.specs.Trees.{Items, none as no_item}
 use Rattle.page.specs.declared.Sizes.{Sizes}
@@ -31,8 +30,8 @@ balanced-fits sizes (line ∷ lines) around = after (λ a. balanced-fits sizes l
   where
     after : ((a : Open) → balanced lines a ≡ fits a (read_before (trees sizes lines) start)) → (b : Option Open)
         → onward false (λ a. balanced lines a) b ≡ fits_after b (read_before (trees sizes lines) start)
-    after ih none = refl
-    after ih (some a) = ih a
+    after ih None = refl
+    after ih (Some a) = ih a
 
 levels-lined : (sizes : Sizes) (lines : List LineContent) (around : Open) → Lined around (read_before (trees sizes lines) start) (levels sizes lines around)
 unfolding Lined LinedAfter matches waiting_lines statement_lines read_before levels
@@ -45,15 +44,15 @@ levels-lined sizes (line ∷ lines) around =
     (line_step sizes (onward [] (λ a. levels sizes lines a) (behind line around)) line around (read_before (trees sizes lines) start)).1 (after (λ a. levels-lined sizes lines a) (behind line around))
   where
     after : ((a : Open) → Lined a (read_before (trees sizes lines) start) (levels sizes lines a)) → (b : Option Open) → LinedAfter b (read_before (trees sizes lines) start) (onward [] (λ a. levels sizes lines a) b)
-    after ih none = tt
-    after ih (some a) = ih a
+    after ih None = tt
+    after ih (Some a) = ih a
 
 -- ---- the program
 
 -- What balanced lines are: items, read from them by page/Lines, whose lines they are.
 pub record IsProgram (sizes : Sizes) (lines : List LineContent) : Type 0 where
   pub items : Items
-  pub read : read_lines (trees sizes lines) ≡ some items
+  pub read : read_lines (trees sizes lines) ≡ Some items
   pub printed : levels sizes lines (outside []) ≡ items_lines 0 items
 
 pub balanced-program : (sizes : Sizes) (lines : List LineContent) → balanced lines (outside []) ≡ true → IsProgram sizes lines
@@ -70,11 +69,11 @@ balanced-program sizes lines e =
     from (reading is (else_waiting on_false waiting)) all f l q p = never f
 
 -- Lines that are read are balanced.
-pub read-balanced : (sizes : Sizes) (lines : List LineContent) (items : Items) → read_lines (trees sizes lines) ≡ some items → balanced lines (outside []) ≡ true
+pub read-balanced : (sizes : Sizes) (lines : List LineContent) (items : Items) → read_lines (trees sizes lines) ≡ Some items → balanced lines (outside []) ≡ true
 unfolding read_lines fits matches
 read-balanced sizes lines items e = balanced-fits sizes lines (outside []) ∙ from (read_before (trees sizes lines) start) e
   where
-    from : (r : Reading) → whole r ≡ some items → fits (outside []) r ≡ true
+    from : (r : Reading) → whole r ≡ Some items → fits (outside []) r ≡ true
     from malformed q = not_some q
     from (passing e arguments is waiting) q = not_some q
     from (taking word words body later waiting) q = not_some q

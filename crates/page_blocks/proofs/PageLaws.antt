@@ -1,8 +1,7 @@
 -- Laws of pages: a page without a wrong line is read by page/Reading as the program that its lines are read as by page/Lines.
-use Rattle.std.specs.Prelude.{◌≡◌, refl, Bool, true, false, ℕ, ◌+◌, ◌≤◌}
+use Rattle.std.specs.Prelude.{◌≡◌, refl, Bool, true, false, ℕ, ◌+◌, ◌≤◌, Ok, None, Option, Some}
 use Rattle.std.proofs.Common.{sym, ap, ap₂, ◌∙◌, arith}
 use mathlib.Core.List.{List, [], ◌∷◌}
-use Rattle.std.proofs.Math.Option.{Option, none, some}
 use Rattle.language.specs.Trees.{Items}
 use Rattle.page.specs.declared.Sizes.{Sizes}
 use Rattle.page.specs.Lines.{PageLine, Indented, indented, plain, read_lines}
@@ -20,7 +19,6 @@ use Rattle.page_blocks.specs.Scans.{scan, lines_in}
 use Rattle.page_blocks.specs.LinesFit.{AllFit, lines_rows}
 use Rattle.page_blocks.proofs.ScanLaws.{IsPage, scan-sound}
 use Rattle.page_blocks.proofs.RowLaws.{program-rows}
-use Rattle.page_blocks.specs.declared.Scan.TheVariants.{Whole}
 
 never : {G : Type 0} → false ≡ true → G
 never e = absurd (let z : ◌≡◌ {A = ℕ} 0 1 = cc in omega arith)
@@ -33,8 +31,8 @@ plain-levels sizes (line ∷ lines) around b = after (λ a. plain-levels sizes l
   where
     after : ((a : Open) → balanced lines a ≡ true → plain (levels sizes lines a) ≡ trees sizes lines) → (o : Option Open) → onward false (λ a. balanced lines a) o ≡ true
         → line_tree sizes line ∷ plain (onward [] (λ a. levels sizes lines a) o) ≡ line_tree sizes line ∷ trees sizes lines
-    after ih none q = never q
-    after ih (some a) q = ap (λ (l : List PageLine). line_tree sizes line ∷ l) (ih a q)
+    after ih None q = never q
+    after ih (Some a) q = ap (λ (l : List PageLine). line_tree sizes line ∷ l) (ih a q)
 
 module _ (names : Names) (few_variables : names.variables ≤ 256) (few_behind : names.declared + names.temporaries ≤ 8256) (few_arrays : names.arrays ≤ 32) (sizes : Sizes) (within : Within sizes names) where
   levels-fit : (lines : List LineContent) (around : Open) → AllFit names lines → page-fits.AllFit (Named sizes names within) names.arrays (Declares sizes names within) (levels sizes lines around)
@@ -44,18 +42,18 @@ module _ (names : Names) (few_variables : names.variables ≤ 256) (few_behind :
     where
       after : ((a : Open) → page-fits.AllFit (Named sizes names within) names.arrays (Declares sizes names within) (levels sizes lines a)) → (o : Option Open)
           → page-fits.AllFit (Named sizes names within) names.arrays (Declares sizes names within) (onward [] (λ a. levels sizes lines a) o)
-      after ih none = all_none
-      after ih (some a) = ih a
+      after ih None = all_none
+      after ih (Some a) = ih a
 
   -- What page/Reading and page/Lines read, and the rows that were counted.
   pub record ReadsAs (page : List ℕ) (total : ℕ) : Type 0 where
     pub items : Items
-    pub page-read : read_page sizes page ≡ some items
-    pub lines-read : read_lines (trees sizes (lines_in names page)) ≡ some items
+    pub page-read : read_page sizes page ≡ Some items
+    pub lines-read : read_lines (trees sizes (lines_in names page)) ≡ Some items
     pub fit : AllFit names (lines_in names page)
     pub counted : total ≡ 1 + lines_rows (lines_in names page)
 
-  pub scan-reads : (page : List ℕ) (total : ℕ) → scan names page ≡ Whole total → ReadsAs page total
+  pub scan-reads : (page : List ℕ) (total : ℕ) → scan names page ≡ Ok total → ReadsAs page total
   scan-reads page total e =
       let p = scan-sound names few_variables few_behind few_arrays sizes within page total e in
       let lines = p.lines in

@@ -1,9 +1,8 @@
 -- Rows: the rows counted line by line are those of the program that the lines are read as.
-use Rattle.std.specs.Prelude.{◌≡◌, true, false, ℕ, ◌+◌, length}
+use Rattle.std.specs.Prelude.{◌≡◌, true, false, ℕ, ◌+◌, length, None, Some}
 use Rattle.std.proofs.Math.Path.{refl, ap}
 use Rattle.std.proofs.Common.{sym, ◌∙◌}
 use mathlib.Core.List.{List, [], ◌∷◌}
-use Rattle.std.proofs.Math.Option.{some, none}
 use native.Mathlib.Omega.{arith}
 use Rattle.text_numbers.specs.NumberLaws.{not_some}
 use Rattle.language.specs.Trees.{◌also◌, Items, none as no_item, ◌then◌, ◌here◌, define, block}
@@ -95,11 +94,11 @@ module _ (sizes : Sizes) where
   lines-rows (line ∷ lines) = line-rows line (read_before (trees sizes lines) (reading no_item outermost)) (lines_rows lines) (lines-rows lines)
 
   -- The rows of a program are those counted, and row 0.
-  pub program-rows : (lines : List LineContent) (items : Items) → read_lines (trees sizes lines) ≡ some items → statement_rows (block items) ≡ 1 + lines_rows lines
+  pub program-rows : (lines : List LineContent) (items : Items) → read_lines (trees sizes lines) ≡ Some items → statement_rows (block items) ≡ 1 + lines_rows lines
   unfolding read_lines Rowed waiting_rows statement_rows
   program-rows lines items e = from (read_before (trees sizes lines) (reading no_item outermost)) (lines-rows lines) e
     where
-      from : (r : Reading) → Rowed r (lines_rows lines) → whole r ≡ some items → 1 + items_rows items ≡ 1 + lines_rows lines
+      from : (r : Reading) → Rowed r (lines_rows lines) → whole r ≡ Some items → 1 + items_rows items ≡ 1 + lines_rows lines
       from malformed h q = not_some q
       from (passing e arguments is waiting) h q = not_some q
       from (taking word words body later waiting) h q = not_some q

@@ -1,9 +1,8 @@
 -- Laws of scans: a page without a wrong line is the page of its program.
-use Rattle.std.specs.Prelude.{◌≡◌, true, eqb, take}
+use Rattle.std.specs.Prelude.{◌≡◌, true, eqb, take, Err, None, Ok, Some, Option}
 use Rattle.std.proofs.Math.Path.{refl, sym, ap}
 use Rattle.std.proofs.Common.{ap₂, ◌∙◌, take-append-drop, drop-drop}
 use mathlib.Core.List.{List, [], ◌∷◌, ◌++◌}
-use Rattle.std.proofs.Math.Option.{Option, none, some}
 use Prim.Native.Nat.{ℕ, zero, suc, ◌+◌, ◌*◌, ◌/◌, ◌≤◌, ◌<◌, min}
 use native.Mathlib.Omega.{arith}
 use Rattle.std.proofs.Math.ListN.{length, drop, length-take, length-drop, drop_of_length-le}
@@ -16,14 +15,11 @@ use Rattle.page.specs.Page.{lines_bytes, page_bytes}
 use Rattle.page_words.specs.Trees.{Within}
 use Rattle.page_words.specs.declared.Names.{Names}
 use Rattle.page_words.specs.declared.LineContent.{LineContent}
-use Rattle.page_words.specs.declared.LineRead.{LineRead}
-use Rattle.page_words.specs.declared.LineRead.TheVariants as line-cases
 use Rattle.page_frame.specs.Frames.{line_in, statement_in}
 use Rattle.page_frame.proofs.FrameLaws.{statement-in, line-in-sound}
 use Rattle.page_blocks.specs.Blocks.{Open, outside, in_arguments, in_parameters, level_in, behind, onward, balanced, trees, levels}
 use Rattle.page_blocks.proofs.BlockLaws.{balanced-program}
 use Rattle.page_blocks.specs.Scans.{line_rows, ended, stepped, scan_from, scan, with_line, lines_from, lines_in}
-use Rattle.page_blocks.specs.declared.Scan.TheVariants.{Whole, Wrong}
 use Rattle.page_blocks.specs.LinesFit.{AllFit, lines_rows}
 
 -- The rest of a page: its lines, whose blocks close, whose bytes it is, and whose rows are counted.
@@ -36,16 +32,16 @@ pub record IsRest (names : Names) (sizes : Sizes) (rest : List ℕ) (number : �
   pub counted : total ≡ rows + lines_rows lines
 
 module _ (names : Names) (few_variables : names.variables ≤ 256) (few_behind : names.declared + names.temporaries ≤ 8256) (few_arrays : names.arrays ≤ 32) (sizes : Sizes) (within : Within sizes names) (page : List ℕ) where
-  wrong : {G : Type 0} (n total : ℕ) → Wrong n ≡ Whole total → G
+  wrong : {G : Type 0} (n total : ℕ) → Err n ≡ Ok total → G
   wrong n total e = absurd (let z : ◌≡◌ {A = ℕ} 0 1 = cc in omega arith)
 
-  end-sound : (done : ℕ) (around : Open) (rows total : ℕ) → ended (eqb (81 * done) (length page)) around rows (done + 1) ≡ Whole total → IsRest names sizes (drop (81 * done) page) (done + 1) around rows total []
+  end-sound : (done : ℕ) (around : Open) (rows total : ℕ) → ended (eqb (81 * done) (length page)) around rows (done + 1) ≡ Ok total → IsRest names sizes (drop (81 * done) page) (done + 1) around rows total []
   unfolding balanced levels lines_bytes AllFit
   end-sound done (outside []) rows total e =
       by_cases (eqb (81 * done) (length page))
       (λ t.
       let long : 81 * done ≡ length page = eqb-true (81 * done) (length page) t in
-      let found : Whole rows ≡ Whole total = rw t at e in
+      let found : Ok rows ≡ Ok total = rw t at e in
       let same : rows ≡ total = cc in
       record { lines = []; read = refl; fit = tt; balances = refl; bytes = drop_of_length-le page {i = 81 * done} (omega arith); counted = omega arith })
       (λ t. wrong (done + 1) total (rw t at e))
@@ -55,7 +51,7 @@ module _ (names : Names) (few_variables : names.variables ≤ 256) (few_behind :
 
   -- One line before the rest.
   line-sound : (done : ℕ) (around a : Open) (rows total : ℕ) (line : LineContent) (statements : List LineContent) → done < 99999 → 81 * (done + 1) ≤ length page
-      → line_in names (done + 1) (level_in around) (take 81 (drop (81 * done) page)) ≡ line-cases.Read line → behind line around ≡ some a
+      → line_in names (done + 1) (level_in around) (take 81 (drop (81 * done) page)) ≡ Some line → behind line around ≡ Some a
       → IsRest names sizes (drop (81 * (done + 1)) page) (done + 1 + 1) a (rows + line_rows line) total statements
       → IsRest names sizes (drop (81 * done) page) (done + 1) around rows total (with_line (statement_in names (take 81 (drop (81 * done) page))) statements)
   unfolding balanced levels lines_bytes AllFit
@@ -67,32 +63,32 @@ module _ (names : Names) (few_variables : names.variables ≤ 256) (few_behind :
         lines = line ∷ r.lines;
         read =
             ap (λ (lines : List LineContent). line ∷ lines) r.read
-            ∙ sym (ap (λ (l : LineRead). with_line l statements) (statement-in names (done + 1) (level_in around) (take 81 (drop (81 * done) page)) line e));
+            ∙ sym (ap (λ (l : Option LineContent). with_line l statements) (statement-in names (done + 1) (level_in around) (take 81 (drop (81 * done) page)) line e));
         fit = (s.1, r.fit);
         balances = rw q r.balances;
         bytes = sym (take-append-drop 81 (drop (81 * done) page)) ∙ rw q (ap₂ (λ (l m : List ℕ). l ++ m) s.0 (drop-drop 81 (81 * done) page ∙ ap (λ (n : ℕ). drop n page) next ∙ r.bytes));
         counted = omega (arith, r.counted);
       }
 
-  rest-sound : (left done : ℕ) (around : Open) (rows total : ℕ) → done + left < 99999 → 81 * (done + left) ≤ length page → scan_from names page left done around rows ≡ Whole total
+  rest-sound : (left done : ℕ) (around : Open) (rows total : ℕ) → done + left < 99999 → 81 * (done + left) ≤ length page → scan_from names page left done around rows ≡ Ok total
       → IsRest names sizes (drop (81 * done) page) (done + 1) around rows total (lines_from names page left done)
   unfolding scan_from lines_from
   rest-sound zero done around rows total few long e = end-sound done around rows total e
   rest-sound (suc left) done around rows total few long e =
       from (λ a r. rest-sound left (done + 1) a r total (omega arith) (omega arith)) (line_in names (done + 1) (level_in around) (take 81 (drop (81 * done) page))) refl e
     where
-      after : ((a : Open) (r : ℕ) → scan_from names page left (done + 1) a r ≡ Whole total → IsRest names sizes (drop (81 * (done + 1)) page) (done + 1 + 1) a r total (lines_from names page left (done + 1))) → (line : LineContent)
-          → line_in names (done + 1) (level_in around) (take 81 (drop (81 * done) page)) ≡ line-cases.Read line → (b : Option Open) → behind line around ≡ b
-          → onward (Wrong (done + 1)) (λ a. scan_from names page left (done + 1) a (rows + line_rows line)) b ≡ Whole total
+      after : ((a : Open) (r : ℕ) → scan_from names page left (done + 1) a r ≡ Ok total → IsRest names sizes (drop (81 * (done + 1)) page) (done + 1 + 1) a r total (lines_from names page left (done + 1))) → (line : LineContent)
+          → line_in names (done + 1) (level_in around) (take 81 (drop (81 * done) page)) ≡ Some line → (b : Option Open) → behind line around ≡ b
+          → onward (Err (done + 1)) (λ a. scan_from names page left (done + 1) a (rows + line_rows line)) b ≡ Ok total
           → IsRest names sizes (drop (81 * done) page) (done + 1) around rows total (lines_from names page (suc left) done)
-      after ih line p none q t = wrong (done + 1) total t
-      after ih line p (some a) q t = line-sound done around a rows total line (lines_from names page left (done + 1)) (omega arith) (omega arith) p q (ih a (rows + line_rows line) t)
+      after ih line p None q t = wrong (done + 1) total t
+      after ih line p (Some a) q t = line-sound done around a rows total line (lines_from names page left (done + 1)) (omega arith) (omega arith) p q (ih a (rows + line_rows line) t)
 
-      from : ((a : Open) (r : ℕ) → scan_from names page left (done + 1) a r ≡ Whole total → IsRest names sizes (drop (81 * (done + 1)) page) (done + 1 + 1) a r total (lines_from names page left (done + 1))) → (r : LineRead)
-          → line_in names (done + 1) (level_in around) (take 81 (drop (81 * done) page)) ≡ r → stepped r (done + 1) around (λ line a. scan_from names page left (done + 1) a (rows + line_rows line)) ≡ Whole total
+      from : ((a : Open) (r : ℕ) → scan_from names page left (done + 1) a r ≡ Ok total → IsRest names sizes (drop (81 * (done + 1)) page) (done + 1 + 1) a r total (lines_from names page left (done + 1))) → (r : Option LineContent)
+          → line_in names (done + 1) (level_in around) (take 81 (drop (81 * done) page)) ≡ r → stepped r (done + 1) around (λ line a. scan_from names page left (done + 1) a (rows + line_rows line)) ≡ Ok total
           → IsRest names sizes (drop (81 * done) page) (done + 1) around rows total (lines_from names page (suc left) done)
-      from ih line-cases.Malformed p t = wrong (done + 1) total t
-      from ih (line-cases.Read line) p t = after ih line p (behind line around) refl t
+      from ih None p t = wrong (done + 1) total t
+      from ih (Some line) p t = after ih line p (behind line around) refl t
 
   -- A page without a wrong line: its lines are those of a program, read by page/Lines, whose page it is.
   pub record IsPage (total : ℕ) : Type 0 where
@@ -102,11 +98,11 @@ module _ (names : Names) (few_variables : names.variables ≤ 256) (few_behind :
     pub balances : balanced lines (outside []) ≡ true
     pub bytes : page ≡ lines_bytes sizes 1 (levels sizes lines (outside []))
     pub items : Items
-    pub read : read_lines (trees sizes lines) ≡ some items
+    pub read : read_lines (trees sizes lines) ≡ Some items
     pub printed : page_bytes sizes items ≡ page
     pub counted : total ≡ 1 + lines_rows lines
 
-  pub scan-sound : (total : ℕ) → scan names page ≡ Whole total → IsPage total
+  pub scan-sound : (total : ℕ) → scan names page ≡ Ok total → IsPage total
   unfolding scan page_bytes lines_in
   scan-sound total e =
       let left = min (length page / 81) 81958 in

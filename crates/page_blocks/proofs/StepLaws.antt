@@ -1,10 +1,9 @@
 -- Steps: each line of a page before the others, read from the last to the first: it fits what is open before it where those behind it fit what is
 -- open behind it, and it is printed at its level.
-use Rattle.std.specs.Prelude.{◌≡◌, true, false}
+use Rattle.std.specs.Prelude.{◌≡◌, true, false, Option, Some}
 use Rattle.std.proofs.Math.Path.{refl, sym, ap}
 use Rattle.std.proofs.Common.{◌∙◌}
 use mathlib.Core.List.{List, [], ◌∷◌, ◌++◌, append_assoc}
-use Rattle.std.proofs.Math.Option.{Option, some}
 use Prim.Native.Nat.{ℕ, suc, ◌+◌, ◌-◌}
 use native.Mathlib.Omega.{arith}
 use Rattle.std.proofs.Math.Numerals.{add-one}
@@ -64,7 +63,7 @@ module _ (sizes : Sizes) (rest : List Indented) where
 
   -- An item's line, before those of its list.
   single_step : (line : PageLine) (item : Items → Items) → ((level : ℕ) (is : Items) → items_lines level (item is) ≡ indented level line ∷ items_lines level is) → (around : Open) (r : Reading)
-      → Step around (where_items (λ blocks. some (outside blocks)) around) r (before_items (λ is waiting. reading (item is) waiting) r) (level_in around) line
+      → Step around (where_items (λ blocks. Some (outside blocks)) around) r (before_items (λ is waiting. reading (item is) waiting) r) (level_in around) line
   unfolding fits fits_after Lined LinedAfter
   single_step line item own (outside blocks) (reading is waiting) =
       (refl, λ h m. ap (λ l. indented (length blocks) line ∷ l) (h m) ∙ ap (λ (l : List Indented). l ++ waiting_lines blocks waiting) (sym (own (length blocks) is)))
@@ -84,7 +83,7 @@ module _ (sizes : Sizes) (rest : List Indented) where
   open_step : (line : PageLine) (make : Items → Items → Items)
       → ((level : ℕ) (is later : Items) (others : List Indented) → indented level line ∷ (items_lines (level + 1) is ++ (indented level closes ∷ (items_lines level later ++ others))) ≡ items_lines level (make is later) ++ others)
       → (around : Open) (r : Reading)
-      → Step around (where_items (λ blocks. some (outside (false ∷ blocks))) around) r (before_items (takes_back (λ is later waiting. reading (make is later) waiting)) r) (level_in around) line
+      → Step around (where_items (λ blocks. Some (outside (false ∷ blocks))) around) r (before_items (takes_back (λ is later waiting. reading (make is later) waiting)) r) (level_in around) line
   unfolding fits fits_after matches Lined LinedAfter waiting_lines
   open_step line make own (outside blocks) (reading is (closed later waiting)) = (
     refl,

@@ -1,7 +1,6 @@
 -- Waits: the lists that wait where page/Lines reads lines from the last to the first, against what is open where a page is read from its first
 -- line on; and the lines of both.
-use Rattle.std.specs.Prelude.{◌≡◌, Bool, true, false, List, [], ◌∷◌, ◌++◌, ◌+◌, length}
-use Rattle.std.proofs.Math.Option.{Option, none, some}
+use Rattle.std.specs.Prelude.{◌≡◌, Bool, true, false, List, [], ◌∷◌, ◌++◌, ◌+◌, length, None, Option, Some}
 use Rattle.language.specs.Trees.{Items}
 use Rattle.page.specs.Lines.{Indented, indented, turns, closes, argument_lines, parameter_lines, items_lines, Waiting, outermost, closed, Reading, reading, passing, taking, malformed}
 use Rattle.page.specs.Lines.{turned as else_waiting}
@@ -36,8 +35,8 @@ fits (in_parameters blocks) (taking word words body later waiting) = matches blo
 fits (in_parameters blocks) malformed = false
 
 unfoldable pub fits_after : Option Open → Reading → Bool
-fits_after none r = false
-fits_after (some around) r = fits around r
+fits_after None r = false
+fits_after (Some around) r = fits around r
 
 -- ---- the lines, at their levels
 
@@ -75,5 +74,5 @@ Lined (in_parameters blocks) (taking word words body later waiting) lines =
 Lined (in_parameters blocks) malformed lines = Unit
 
 unfoldable pub LinedAfter : Option Open → Reading → List Indented → Type 0
-LinedAfter none r lines = Unit
-LinedAfter (some around) r lines = Lined around r lines
+LinedAfter None r lines = Unit
+LinedAfter (Some around) r lines = Lined around r lines

@@ -1,5 +1,5 @@
 -- A printed line is read: its bytes, in their frame, are read as the line.
-use Rattle.std.specs.Prelude.{◌≡◌, refl, true, false, ℕ, zero, suc, ◌+◌, ◌-◌, ◌≤◌, ◌<◌}
+use Rattle.std.specs.Prelude.{◌≡◌, refl, true, false, ℕ, zero, suc, ◌+◌, ◌-◌, ◌≤◌, ◌<◌, Some}
 use Rattle.std.proofs.Math.Path.{sym, ap}
 use Rattle.std.proofs.Common.{ap₂, ◌∙◌, drop_at, drop-drop}
 use mathlib.Core.List.{List, [], ◌∷◌, ◌++◌, append_assoc, append-nil}
@@ -20,7 +20,6 @@ use Rattle.page_words.specs.Reads.{number_read, line_read}
 use Rattle.page_words.proofs.Complete.{number-complete}
 use Rattle.page_words.proofs.LineComplete.{line-complete}
 use Rattle.page_words.specs.declared.Names.{Names}
-use Rattle.page_words.specs.declared.LineRead.TheVariants as line-cases
 use Rattle.page_words.specs.declared.PageAtom.{PageAtom}
 use Rattle.page_words.specs.declared.PageAtom.TheVariants.{Constant, Variable, Declared, Temporary}
 use Rattle.page_words.specs.declared.LineContent.{LineContent}
@@ -120,7 +119,7 @@ numbered-complete number h =
     ap (λ (l : List ℕ). is_number number (number_read 100000 l)) rest ∙ ap (is_number number) (number-complete 100000 number h) ∙ eq-eqb number number refl
 
 module _ (names : Names) (few_variables : names.variables ≤ 256) (few_behind : names.declared + names.temporaries ≤ 8256) (few_arrays : names.arrays ≤ 32) where
-  body-complete : (depth : ℕ) (line : LineContent) (tail : ℕ) → LineFits names line → body_read names depth (blanks (indent (level_of depth line)) ++ (line_text line ++ blanks tail)) ≡ line-cases.Read line
+  body-complete : (depth : ℕ) (line : LineContent) (tail : ℕ) → LineFits names line → body_read names depth (blanks (indent (level_of depth line)) ++ (line_text line ++ blanks tail)) ≡ Some line
   unfolding body_read statement_read levelled
   body-complete depth line tail h =
       let n = indent (level_of depth line) in
@@ -137,7 +136,7 @@ module _ (names : Names) (few_variables : names.variables ≤ 256) (few_behind :
 
   module _ (sizes : Sizes) (within : Within sizes names) where
     line-parts : (number depth : ℕ) (line : LineContent) (columns body : List ℕ) → length columns ≡ 5 → length body ≡ 74 → is_numbered number columns ≡ true
-        → body_read names depth body ≡ line-cases.Read line → line_in names number depth (framed columns body) ≡ line-cases.Read line
+        → body_read names depth body ≡ Some line → line_in names number depth (framed columns body) ≡ Some line
     unfolding line_in framed
     line-parts number depth line columns body five long numbered read =
         let whole = columns ++ (32 ∷ (body ++ (10 ∷ []))) in
@@ -151,7 +150,7 @@ module _ (names : Names) (few_variables : names.variables ≤ 256) (few_behind :
 
     -- The bytes of a line are read as it.
     pub line-in-complete : (number depth : ℕ) (line : LineContent) → number < 100000 → LineFits names line
-        → line_in names number depth (printed names few_variables few_behind few_arrays sizes within number (level_of depth line) line) ≡ line-cases.Read line
+        → line_in names number depth (printed names few_variables few_behind few_arrays sizes within number (level_of depth line) line) ≡ Some line
     line-in-complete number depth line few h =
         let n = indent (level_of depth line) in
         let text = line_text line in

@@ -1,6 +1,6 @@
 -- Laws of frames: what is read as a line are the bytes of that line, and the other way round.
 use Rattle.std.proofs.Math.Path.{◌≡◌, sym, ap, ap₂}
-use Rattle.std.specs.Prelude.{refl, Bool, true, false, ◌⊎◌, ℕ, suc, ◌+◌, ◌-◌, ◌*◌, ◌≤◌, ◌<◌, min, eqb, ltb, get_or}
+use Rattle.std.specs.Prelude.{refl, Bool, true, false, ◌⊎◌, ℕ, suc, ◌+◌, ◌-◌, ◌*◌, ◌≤◌, ◌<◌, min, eqb, ltb, get_or, None, Option, Some}
 use Rattle.std.proofs.Common.{◌∙◌, inl, inr, ⊎_elim, length-take, length-drop, take-append-drop, drop_of_length-le, take_at, drop_at, drop-cons}
 use mathlib.Core.List.{List, [], ◌∷◌, ◌++◌, append_assoc, append-nil}
 use native.Mathlib.Omega.{arith}
@@ -26,10 +26,6 @@ use Rattle.page_words.proofs.LineComplete.{line-complete}
 use Rattle.page_words.specs.CompareLaws.{never}
 use Rattle.page_words.specs.Trees.{Within, line_tree, line-words, Named, Declares, line-fits}
 use Rattle.page_words.specs.declared.Names.{Names}
-use Rattle.page_words.specs.declared.NumberRead.{NumberRead}
-use Rattle.page_words.specs.declared.NumberRead.TheVariants as number-cases
-use Rattle.page_words.specs.declared.LineRead.{LineRead}
-use Rattle.page_words.specs.declared.LineRead.TheVariants as line-cases
 use Rattle.page_words.specs.declared.PageAtom.TheVariants.{Constant, Variable, Declared, Temporary}
 use Rattle.page_words.specs.declared.LineContent.{LineContent}
 use Rattle.page_words.specs.declared.LineContent.TheVariants.{Empty, Abort, Goto, Label, Store, Put, Opens, While, If, Turns, Closes}
@@ -53,34 +49,34 @@ numbered-sound number columns five e = from (number_read 100000 rest) refl e
     rest : List ℕ
     rest = drop (leading_blanks columns) columns
 
-    from : (r : NumberRead) → number_read 100000 rest ≡ r → is_number number r ≡ true → columns ≡ blanks (5 - length (digits number)) ++ digits number
-    from number-cases.Malformed q t = never t
-    from (number-cases.Number n) q t =
+    from : (r : Option ℕ) → number_read 100000 rest ≡ r → is_number number r ≡ true → columns ≡ blanks (5 - length (digits number)) ++ digits number
+    from None q t = never t
+    from (Some n) q t =
         let same : n ≡ number = eqb-true n number t in
         let f : rest ≡ digits number = (below-sound 100000 rest n (omega arith) q).0 ∙ ap digits same in
         let size : length (digits number) ≡ 5 - leading_blanks columns = ap length (sym f) ∙ length-drop (leading_blanks columns) columns ∙ ap (λ (m : ℕ). m - leading_blanks columns) five in
         let lead : leading_blanks columns ≡ 5 - length (digits number) = omega (arith, leading-within columns) in
         leading-splits columns ∙ ap₂ (λ (m : ℕ) (l : List ℕ). blanks m ++ l) lead f
 
-level-sound : (depth start : ℕ) (r : LineRead) (line : LineContent) → levelled depth start r ≡ line-cases.Read line → (r ≡ line-cases.Read line) × (start ≡ indent (level_of depth line))
+level-sound : (depth start : ℕ) (r : Option LineContent) (line : LineContent) → levelled depth start r ≡ Some line → (r ≡ Some line) × (start ≡ indent (level_of depth line))
 unfolding levelled
-level-sound depth start line-cases.Malformed line e = absurd (let z : ◌≡◌ {A = ℕ} 0 1 = cc in omega arith)
-level-sound depth start (line-cases.Read found) line e =
+level-sound depth start None line e = absurd (let z : ◌≡◌ {A = ℕ} 0 1 = cc in omega arith)
+level-sound depth start (Some found) line e =
     by_cases (eqb start (indent (level_of depth found)))
     (λ t.
-    let same : line-cases.Read found ≡ line-cases.Read line = rw t at e in
+    let same : Some found ≡ Some line = rw t at e in
     let equal : found ≡ line = cc in
     (same, eqb-true start (indent (level_of depth found)) t ∙ ap (λ l. indent (level_of depth l)) equal))
-    (λ t. absurd (let none : line-cases.Malformed ≡ line-cases.Read line = rw t at e in let z : ◌≡◌ {A = ℕ} 0 1 = cc in omega arith))
+    (λ t. absurd (let none : None ≡ Some line = rw t at e in let z : ◌≡◌ {A = ℕ} 0 1 = cc in omega arith))
 
 -- Bytes that are read as a line: the line's number, a blank, its body, and a newline.
 record InFrame (names : Names) (number depth : ℕ) (bytes : List ℕ) (line : LineContent) : Type 0 where
   numbered : is_numbered number (take 5 bytes) ≡ true
   parted : get_or bytes 5 0 ≡ 32
   ended : get_or bytes 80 0 ≡ 10
-  body : body_read names depth (take 74 (drop 6 bytes)) ≡ line-cases.Read line
+  body : body_read names depth (take 74 (drop 6 bytes)) ≡ Some line
 
-in_frame : (names : Names) (number depth : ℕ) (bytes : List ℕ) (line : LineContent) → line_in names number depth bytes ≡ line-cases.Read line → InFrame names number depth bytes line
+in_frame : (names : Names) (number depth : ℕ) (bytes : List ℕ) (line : LineContent) → line_in names number depth bytes ≡ Some line → InFrame names number depth bytes line
 unfolding line_in
 in_frame names number depth bytes line e =
     by_cases (is_numbered number (take 5 bytes))
@@ -91,11 +87,11 @@ in_frame names number depth bytes line e =
     (λ u. no (rw (t, u) at e)))
     (λ t. no (rw t at e))
   where
-    no : {G : Type 0} → line-cases.Malformed ≡ line-cases.Read line → G
+    no : {G : Type 0} → None ≡ Some line → G
     no q = absurd (let z : ◌≡◌ {A = ℕ} 0 1 = cc in omega arith)
 
 -- The statement of a line is read without its number and its level.
-pub statement-in : (names : Names) (number depth : ℕ) (bytes : List ℕ) (line : LineContent) → line_in names number depth bytes ≡ line-cases.Read line → statement_in names bytes ≡ line-cases.Read line
+pub statement-in : (names : Names) (number depth : ℕ) (bytes : List ℕ) (line : LineContent) → line_in names number depth bytes ≡ Some line → statement_in names bytes ≡ Some line
 unfolding statement_in body_read
 statement-in names number depth bytes line e =
     let body = take 74 (drop 6 bytes) in
@@ -108,13 +104,13 @@ module _ (names : Names) (few_variables : names.variables ≤ 256) (few_behind :
     pub tail : ℕ
     pub written : body ≡ blanks (indent (level_of depth line)) ++ (line_text line ++ blanks tail)
 
-  body-sound : (depth : ℕ) (body : List ℕ) (line : LineContent) → body_read names depth body ≡ line-cases.Read line → IsBody depth body line
+  body-sound : (depth : ℕ) (body : List ℕ) (line : LineContent) → body_read names depth body ≡ Some line → IsBody depth body line
   unfolding body_read statement_read
   body-sound depth body line e =
       let lead = leading_blanks body in
       let l = level-sound depth lead (statement_read names body) line e in
       by_cases (ltb (filled_size body) lead)
-      (λ t. absurd (let none : line-cases.Malformed ≡ line-cases.Read line = rw t at l.0 in let z : ◌≡◌ {A = ℕ} 0 1 = cc in omega arith))
+      (λ t. absurd (let none : None ≡ Some line = rw t at l.0 in let z : ◌≡◌ {A = ℕ} 0 1 = cc in omega arith))
       (λ t.
       let full = filled_size body in
       let order : lead ≤ full = ltb-false full lead t in
@@ -172,7 +168,7 @@ module _ (names : Names) (few_variables : names.variables ≤ 256) (few_behind :
         ∙ regrouped columns before text (blanks (74 - indent level - length text))
 
     -- What is read as a line are its bytes.
-    pub line-in-sound : (number depth : ℕ) (bytes : List ℕ) (line : LineContent) → number < 100000 → length bytes ≡ 81 → line_in names number depth bytes ≡ line-cases.Read line
+    pub line-in-sound : (number depth : ℕ) (bytes : List ℕ) (line : LineContent) → number < 100000 → length bytes ≡ 81 → line_in names number depth bytes ≡ Some line
         → (bytes ≡ printed number (level_of depth line) line) × LineFits names line
     line-in-sound number depth bytes line few long e =
         let f = in_frame names number depth bytes line e in

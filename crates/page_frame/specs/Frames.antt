@@ -1,13 +1,9 @@
 -- Frames: the line that 81 bytes are: its number right-set in five columns, a blank, the indent, the statement, blanks, and the newline.
-use Rattle.std.specs.Prelude.{Bool, true, false, List, [], ◌∷◌, ℕ, suc, ◌-◌, eqb, ltb, length, get_or, take, drop}
+use Rattle.std.specs.Prelude.{Bool, true, false, List, [], ◌∷◌, ℕ, suc, ◌-◌, eqb, ltb, length, get_or, take, drop, None, Option, Some}
 use Rattle.words.specs.Word.{pick}
 use Rattle.page.specs.Page.{indent}
 use Rattle.page_words.specs.Reads.{number_read, line_read}
 use Rattle.page_words.specs.declared.Names.{Names}
-use Rattle.page_words.specs.declared.NumberRead.{NumberRead}
-use Rattle.page_words.specs.declared.NumberRead.TheVariants as number-cases
-use Rattle.page_words.specs.declared.LineRead.{LineRead}
-use Rattle.page_words.specs.declared.LineRead.TheVariants as line-cases
 use Rattle.page_words.specs.declared.LineContent.{LineContent}
 use Rattle.page_words.specs.declared.LineContent.TheVariants.{Empty, Abort, Goto, Label, Store, Put, Opens, While, If, Turns, Closes, Return, OpensCall, Argument, LastArgument, OpensFunction, OpensParameters, Parameter, LastParameter}
 
@@ -43,32 +39,32 @@ level_of depth (OpensParameters f) = depth
 level_of depth (Parameter n) = depth
 level_of depth (LastParameter n) = depth
 
-abbrev pub is_number : ℕ → NumberRead → Bool
-is_number number (number-cases.Number found) = eqb found number
-is_number number number-cases.Malformed = false
+abbrev pub is_number : ℕ → Option ℕ → Bool
+is_number number (Some found) = eqb found number
+is_number number None = false
 
 unfoldable pub is_numbered : ℕ → List ℕ → Bool
 is_numbered number columns = is_number number (number_read 100000 (drop (leading_blanks columns) columns))
 
 -- A line that was read stands so far in as its level asks.
-unfoldable pub levelled : (depth start : ℕ) → LineRead → LineRead
-levelled depth start line-cases.Malformed = line-cases.Malformed
-levelled depth start (line-cases.Read line) = pick (eqb start (indent (level_of depth line))) (line-cases.Read line) line-cases.Malformed
+unfoldable pub levelled : (depth start : ℕ) → Option LineContent → Option LineContent
+levelled depth start None = None
+levelled depth start (Some line) = pick (eqb start (indent (level_of depth line))) (Some line) None
 
 -- The statement between the blanks of a line's columns, wherever it begins.
-unfoldable pub statement_read : Names → List ℕ → LineRead
+unfoldable pub statement_read : Names → List ℕ → Option LineContent
 statement_read names body =
-    pick (ltb (filled_size body) (leading_blanks body)) line-cases.Malformed (line_read names (take (filled_size body - leading_blanks body) (drop (leading_blanks body) body)))
+    pick (ltb (filled_size body) (leading_blanks body)) None (line_read names (take (filled_size body - leading_blanks body) (drop (leading_blanks body) body)))
 
 -- What stands between a line's number and its newline.
-unfoldable pub body_read : Names → ℕ → List ℕ → LineRead
+unfoldable pub body_read : Names → ℕ → List ℕ → Option LineContent
 body_read names depth body = levelled depth (leading_blanks body) (statement_read names body)
 
-unfoldable pub line_in : Names → (number depth : ℕ) → List ℕ → LineRead
+unfoldable pub line_in : Names → (number depth : ℕ) → List ℕ → Option LineContent
 line_in names number depth line =
     pick (is_numbered number (take 5 line))
-    (pick (eqb (get_or line 5 0) 32) (pick (eqb (get_or line 80 0) 10) (body_read names depth (take 74 (drop 6 line))) line-cases.Malformed) line-cases.Malformed) line-cases.Malformed
+    (pick (eqb (get_or line 5 0) 32) (pick (eqb (get_or line 80 0) 10) (body_read names depth (take 74 (drop 6 line))) None) None) None
 
 -- The statement of these 81 bytes, whatever their number and their indent.
-unfoldable pub statement_in : Names → List ℕ → LineRead
+unfoldable pub statement_in : Names → List ℕ → Option LineContent
 statement_in names line = statement_read names (take 74 (drop 6 line))

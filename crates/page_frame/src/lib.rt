@@ -7,7 +7,7 @@ ghost use Rattle.page_frame.specs.Frames.{leading_blanks, filled_size, level_of,
 
 use page_atoms::atoms::number_below;
 use page_statements::lines::line;
-use page_words::{LineContent, LineRead, Names, NumberRead};
+use page_words::{LineContent, Names};
 
 // How many blanks stand first.
 fn leading_blanks(text: &[u8]) -> usize
@@ -89,62 +89,62 @@ fn is_numbered(number: u32, columns: &[u8]) -> bool
     let start = leading_blanks(columns);
     let read = number_below(&columns[start..], 100000);
     match read {
-        NumberRead::Number(found) => found == number,
-        NumberRead::Malformed => false,
+        Some(found) => found == number,
+        None => false,
     }
 }
 
 // A line that was read stands so far in as its level asks.
-fn at_level(depth: usize, start: usize, read: LineRead) -> LineRead
+fn at_level(depth: usize, start: usize, read: Option<LineContent>) -> Option<LineContent>
     ensures { result ≡ levelled depth start read }
 {
-    let LineRead::Read(found) = read else {
-        return LineRead::Malformed;
+    let Some(found) = read else {
+        return None;
     };
     if start == indent_of(level_of(depth, found)) {
-        return LineRead::Read(found);
+        return Some(found);
     }
-    LineRead::Malformed
+    None
 }
 
 // The statement between blanks, wherever it begins.
-fn statement(names: Names, text: &[u8]) -> LineRead
+fn statement(names: Names, text: &[u8]) -> Option<LineContent>
     ensures { result ≡ statement_read names text.now }
 {
     let start = leading_blanks(text);
     let end = filled_size(text);
     if end < start {
-        return LineRead::Malformed;
+        return None;
     }
     line(names, &text[start..end])
 }
 
 // What stands between a line's number and its newline.
-fn body(names: Names, depth: usize, text: &[u8]) -> LineRead
+fn body(names: Names, depth: usize, text: &[u8]) -> Option<LineContent>
     ensures { result ≡ body_read names depth text.now }
 {
     at_level(depth, leading_blanks(text), statement(names, text))
 }
 
 // The line that these 81 bytes are, with this number, among so many blocks.
-pub fn line_in(names: Names, number: u32, depth: usize, text: &[u8]) -> LineRead
+pub fn line_in(names: Names, number: u32, depth: usize, text: &[u8]) -> Option<LineContent>
     requires { length text.now ≡ 81 }
     ensures { result ≡ line_in names number depth text.now }
 {
     if !is_numbered(number, &text[0..5]) {
-        return LineRead::Malformed;
+        return None;
     }
     if text[5] != b' ' {
-        return LineRead::Malformed;
+        return None;
     }
     if text[80] != b'\n' {
-        return LineRead::Malformed;
+        return None;
     }
     body(names, depth, &text[6..80])
 }
 
 // The statement of these 81 bytes, whatever their number and their indent.
-pub fn statement_in(names: Names, text: &[u8]) -> LineRead
+pub fn statement_in(names: Names, text: &[u8]) -> Option<LineContent>
     requires { length text.now ≡ 81 }
     ensures { result ≡ statement_in names text.now }
 {

@@ -6,7 +6,7 @@ use mathlib.Core.List.{List, [], ◌∷◌, ◌++◌, append_assoc, append-nil}
 use Rattle.words.specs.declared.Operator.{Operator}
 use Rattle.words.specs.declared.Operator.TheVariants.{Add, Subtract, Multiply, Divide, Remainder, Less, Greater, LessOrEqual, GreaterOrEqual, Equal, NotEqual}
 use Rattle.text_numbers.specs.Number.{digits}
-use Rattle.language.specs.Trees.{Expression, Place, minus, binary, assign, call, element, Arguments, no_more, ◌also◌, present, label, goto, give_back}
+use Rattle.language.specs.Trees.{Expression, Place, minus, binary, assign, call, Arguments, no_more, ◌also◌, present, label, goto, give_back}
 use Rattle.language.specs.Decode.{expression_at, part_at}
 use Rattle.language_shapes.specs.Shapes.{operation_tree, choice_tree}
 use Rattle.language_shapes.specs.declared.OperationShape.{OperationShape}
@@ -14,7 +14,7 @@ use Rattle.language_shapes.specs.declared.OperationShape.TheVariants as operatio
 use Rattle.language_shapes.specs.declared.ChoiceShape.{ChoiceShape}
 use Rattle.language_shapes.specs.declared.ChoiceShape.TheVariants as choice
 use Rattle.page.specs.declared.Sizes.{Sizes}
-use Rattle.page.specs.Lines.{opens_while, opens_if, single, mark, opens_call, argument, last_argument, opens_function, opens_parameters, parameter, last_parameter}
+use Rattle.page.specs.Lines.{opens_while, opens_if, single, opens_call, argument, last_argument, opens_function, opens_parameters, parameter, last_parameter}
 use Rattle.page.specs.Page.{blank, equals_word, operator_word, ended_by, label_word, function_word, opened_word, first_temporary, name, atom_word, place_word, ended, value_words, assignment_words, line_words, single_words, mark_words, parted}
 use Rattle.page_line.specs.Contents.{led, operator_byte, is_two_bytes, goto_bytes, label_bytes, test_bytes, called_bytes, return_bytes, call_bytes, function_bytes, parameter_bytes}
 

@@ -1,5 +1,5 @@
 -- Reads: tables whose rows can be read, and what stands at a row.
-use Rattle.std.specs.Prelude.{◌≡◌, List, ℕ, zero, suc, ◌<◌, ℤ}
+use Rattle.std.specs.Prelude.{◌≡◌, List, ℕ, zero, suc, ◌<◌, ℤ, None, Option, Some}
 use Rattle.words.specs.Table.{row_count, number_at}
 use Rattle.words.specs.Layout.{Layout}
 use Rattle.language.specs.Decode.{expression_at, place_of, argument_list_at}
@@ -11,16 +11,14 @@ use Rattle.language_shapes.specs.declared.OperationShape.{OperationShape}
 use Rattle.language_shapes.specs.declared.OperationShape.TheVariants.{Minus, Not, Binary, Comma, Assign, Compound, Prefix, Postfix}
 use Rattle.language_shapes.specs.declared.ExpressionShape.{ExpressionShape}
 use Rattle.language_shapes.specs.declared.ExpressionShape.TheVariants.{Number, Read, Operation, Choice, Call}
-use Rattle.language_shapes.specs.declared.ArgumentShape.{ArgumentShape}
-use Rattle.language_shapes.specs.declared.ArgumentShape.TheVariants.{Argument, NoArgument}
 
 -- What stands at a row as an expression.
 unfoldable pub expression_shape_at : List ℤ → ℕ → ExpressionShape
 expression_shape_at rows row = expression_in (shape_at rows row)
 
 -- The argument that a link leads to; 0 leads to none.
-unfoldable pub argument_at : List ℤ → ℕ → ArgumentShape
-argument_at rows zero = NoArgument
+unfoldable pub argument_at : List ℤ → ℕ → Option ℕ
+argument_at rows zero = None
 argument_at rows (suc link) = argument_in (shape_at rows (suc link))
 
 -- Every link leads on.
@@ -51,9 +49,9 @@ ExpressionInside count (Operation o) = OperationInside count o
 ExpressionInside count (Choice c) = Unit {0}
 ExpressionInside count (Call f arguments) = arguments < count
 
-abbrev pub ArgumentInside : ℕ → ArgumentShape → Type 0
-ArgumentInside count (Argument e) = e < count
-ArgumentInside count NoArgument = Unit {0}
+abbrev pub ArgumentInside : ℕ → Option ℕ → Type 0
+ArgumentInside count (Some e) = e < count
+ArgumentInside count None = Unit {0}
 
 module _ (rows : List ℤ) (row : ℕ) where
   pub record PlaceRead (shape : PlaceShape) : Type 0 where
@@ -65,7 +63,7 @@ module _ (rows : List ℤ) (row : ℕ) where
     pub inside : ExpressionInside (row_count rows) shape
 
   -- What a link leads to among arguments, and the link behind it.
-  pub record ArgumentRead (shape : ArgumentShape) : Type 0 where
+  pub record ArgumentRead (shape : Option ℕ) : Type 0 where
     pub is : argument_list_at rows row ≡ argument_tree rows shape (argument_list_at rows (number_at rows row 5))
     pub inside : ArgumentInside (row_count rows) shape
     pub next_inside : number_at rows row 5 < row_count rows

@@ -1,10 +1,10 @@
 -- Laws of reading: what the functions read at a row, from sound links.
-use Rattle.std.specs.Prelude.{◌≡◌, refl, List, ℕ, zero, suc, ◌+◌, ◌*◌, ◌<◌, ℤ, length}
+use Rattle.std.specs.Prelude.{◌≡◌, refl, List, ℕ, zero, suc, ◌+◌, ◌*◌, ◌<◌, ℤ, length, None, Option, Some}
 use Rattle.std.proofs.Common.{sym, ap, subst, ◌∙◌, arith}
 use Rattle.words.specs.Table.{row_count, number_at}
-use Rattle.language.specs.Decode.{expression_at, place_of, arguments_at, argument_list_at}
+use Rattle.language.specs.Decode.{place_of, arguments_at, argument_list_at}
 use Rattle.language.specs.Trees.{variable}
-use Rattle.language_shapes.specs.Shapes.{expression_in, place_in, argument_in, shape_at, place_tree, operation_tree, choice_tree, OptionalOnward, OperationOnward, PlaceOnward, ExpressionOnward, ArgumentOnward, ExpressionWithin}
+use Rattle.language_shapes.specs.Shapes.{expression_in, place_in, argument_in, shape_at, operation_tree, choice_tree, OptionalOnward, OperationOnward, PlaceOnward, ExpressionOnward, ArgumentOnward, ExpressionWithin}
 use Rattle.language_shapes.specs.ShapeLaws.{expression-found, item-found, argument-found}
 use Rattle.language_shapes.specs.declared.PlaceShape.{PlaceShape}
 use Rattle.language_shapes.specs.declared.PlaceShape.TheVariants.{Variable, Element}
@@ -14,8 +14,6 @@ use Rattle.language_shapes.specs.declared.ChoiceShape.{ChoiceShape}
 use Rattle.language_shapes.specs.declared.ChoiceShape.TheVariants.{And, Or, Conditional}
 use Rattle.language_shapes.specs.declared.ExpressionShape.{ExpressionShape}
 use Rattle.language_shapes.specs.declared.ExpressionShape.TheVariants.{Number, Read, Operation, Choice, Call}
-use Rattle.language_shapes.specs.declared.ArgumentShape.{ArgumentShape}
-use Rattle.language_shapes.specs.declared.ArgumentShape.TheVariants.{Argument, NoArgument}
 use Rattle.language_shapes.specs.declared.Shape.{Shape}
 use Rattle.page_line.specs.Reads.{argument_at, Readable, PlaceInside, OperationInside, ExpressionInside, ArgumentInside, PlaceRead, ExpressionRead, ArgumentRead}
 
@@ -45,9 +43,9 @@ module _ (rows : List ℤ) (row : ℕ) (inside : row < row_count rows) where
   expression-inside name arrays (Choice c) o = tt
   expression-inside name arrays (Call f arguments) o = optional-inside arguments o
 
-  argument-inside : (s : ArgumentShape) → ArgumentOnward rows row s → ArgumentInside (row_count rows) s
-  argument-inside (Argument e) o = o.inside
-  argument-inside NoArgument o = tt
+  argument-inside : (s : Option ℕ) → ArgumentOnward rows row s → ArgumentInside (row_count rows) s
+  argument-inside (Some e) o = o.inside
+  argument-inside None o = tt
 
 module _ {rows : List ℤ} {row : ℕ} where
   module _ (readable : Readable rows) (inside : row < row_count rows) where
@@ -70,7 +68,7 @@ module _ {rows : List ℤ} {row : ℕ} where
   -- ---- arguments
 
   -- The link 0 leads to no argument, whatever row 0 is.
-  no-argument : Readable rows → row < row_count rows → row ≡ 0 → ArgumentRead rows row NoArgument
+  no-argument : Readable rows → row < row_count rows → row ≡ 0 → ArgumentRead rows row None
   no-argument readable inside z =
       let next = (item-found readable.sound inside).onward in
       record { is = ap (argument_list_at rows) z; inside = tt; next_inside = optional-inside rows row inside (number_at rows row 5) next; next-later = λ h. (next h).later }
@@ -89,11 +87,11 @@ module _ {rows : List ℤ} {row : ℕ} where
       some-arguments zero some = absurd (some refl)
       some-arguments (suc link) some = refl
 
-  pub argument-none : {s : ArgumentShape} → Readable rows → row < row_count rows → row ≡ 0 → s ≡ NoArgument → ArgumentRead rows row s
-  argument-none {s} readable inside z e = subst (λ (x : ArgumentShape). ArgumentRead rows row x) (sym e) (no-argument readable inside z)
+  pub argument-none : {s : (Option ℕ)} → Readable rows → row < row_count rows → row ≡ 0 → s ≡ None → ArgumentRead rows row s
+  argument-none {s} readable inside z e = subst (λ (x : Option ℕ). ArgumentRead rows row x) (sym e) (no-argument readable inside z)
 
-  pub argument-read : {shape : Shape} {s : ArgumentShape} → Readable rows → row < row_count rows → (row ≡ 0 → ⊥) → shape ≡ shape_at rows row → s ≡ argument_in shape → ArgumentRead rows row s
-  argument-read {shape} {s} readable inside some h g = subst (λ (x : ArgumentShape). ArgumentRead rows row x) (sym (g ∙ ap argument_in h)) (argument-some readable inside some)
+  pub argument-read : {shape : Shape} {s : (Option ℕ)} → Readable rows → row < row_count rows → (row ≡ 0 → ⊥) → shape ≡ shape_at rows row → s ≡ argument_in shape → ArgumentRead rows row s
+  argument-read {shape} {s} readable inside some h g = subst (λ (x : Option ℕ). ArgumentRead rows row x) (sym (g ∙ ap argument_in h)) (argument-some readable inside some)
 
   -- A row that is no place counts as variable 0.
   place-in-read : (e : ExpressionShape) → ExpressionRead rows row e → PlaceRead rows row (place_in e)
@@ -132,15 +130,15 @@ unfolding argument_at
 argument-found-at readable zero inside = argument-none readable inside refl refl
 argument-found-at readable (suc link) inside = argument-read readable inside (λ e. omega arith) refl refl
 
-pub no-argument-at : (rows : List ℤ) (link : ℕ) → link ≡ 0 → NoArgument ≡ argument_at rows link
+pub no-argument-at : (rows : List ℤ) (link : ℕ) → link ≡ 0 → None ≡ argument_at rows link
 unfolding argument_at
 no-argument-at rows zero z = refl
 no-argument-at rows (suc link) z = absurd (omega arith)
 
-pub some-argument-at : (rows : List ℤ) (link : ℕ) {shape : Shape} {s : ArgumentShape} → (link ≡ 0 → ⊥) → shape ≡ shape_at rows link → s ≡ argument_in shape → s ≡ argument_at rows link
+pub some-argument-at : (rows : List ℤ) (link : ℕ) {shape : Shape} {s : (Option ℕ)} → (link ≡ 0 → ⊥) → shape ≡ shape_at rows link → s ≡ argument_in shape → s ≡ argument_at rows link
 unfolding argument_at
 some-argument-at rows zero some h g = absurd (some refl)
 some-argument-at rows (suc link) some h g = g ∙ ap argument_in h
 
-pub argument-as : {rows : List ℤ} {row : ℕ} {s t : ArgumentShape} → ArgumentRead rows row s → s ≡ t → ArgumentRead rows row t
-argument-as {rows} {row} found e = subst (λ (s : ArgumentShape). ArgumentRead rows row s) e found
+pub argument-as : {rows : List ℤ} {row : ℕ} {s t : (Option ℕ)} → ArgumentRead rows row s → s ≡ t → ArgumentRead rows row t
+argument-as {rows} {row} found e = subst (λ (s : Option ℕ). ArgumentRead rows row s) e found

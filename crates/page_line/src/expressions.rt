@@ -12,7 +12,7 @@ ghost use Rattle.page_line.specs.Contents.{led, called_bytes, operator_byte, is_
 
 use super::bytes::{lay_byte, lay_bytes, lay_constant, lay_lettered, lay_name};
 use super::shapes_at::{argument_at, expression_at, place_at};
-use language_shapes::{ArgumentShape, ExpressionShape, OperationShape, PlaceShape};
+use language_shapes::{ExpressionShape, OperationShape, PlaceShape};
 use page::Sizes;
 use words::Operator;
 
@@ -218,8 +218,8 @@ fn lay_called(rows: &[i32], number: usize, arguments: usize, at: usize, text: &m
 {
     let first = argument_at(rows, arguments);
     match first {
-        ArgumentShape::Argument(_) => at,
-        ArgumentShape::NoArgument => lay_alone(number, at, text),
+        Some(_) => at,
+        None => lay_alone(number, at, text),
     }
 }
 

@@ -5,7 +5,7 @@ ghost use Rattle.language_shapes.specs.Shapes.{expression_in, place_in, argument
 ghost use Rattle.page_line.specs.Reads.{expression_shape_at, argument_at, Readable, ExpressionRead, PlaceRead, ArgumentRead};
 
 use language_shapes::rows::shape_at;
-use language_shapes::{ArgumentShape, ExpressionShape, PlaceShape, Shape};
+use language_shapes::{ExpressionShape, PlaceShape, Shape};
 
 fn expression_of(shape: Shape) -> ExpressionShape
     ensures { result ≡ expression_in shape }
@@ -33,17 +33,17 @@ fn place_of(expression: ExpressionShape) -> PlaceShape
     }
 }
 
-fn argument_of(shape: Shape) -> ArgumentShape
+fn argument_of(shape: Shape) -> Option<usize>
     ensures { result ≡ argument_in shape }
 {
     match shape {
-        Shape::OfExpression(_) => ArgumentShape::NoArgument,
-        Shape::OfStatement(_) => ArgumentShape::NoArgument,
-        Shape::OfMark(_) => ArgumentShape::NoArgument,
-        Shape::OfArm(_, _) => ArgumentShape::NoArgument,
-        Shape::OfArgument(expression) => ArgumentShape::Argument(expression),
-        Shape::OfDefinition(_, _, _) => ArgumentShape::NoArgument,
-        Shape::Other => ArgumentShape::NoArgument,
+        Shape::OfExpression(_) => None,
+        Shape::OfStatement(_) => None,
+        Shape::OfMark(_) => None,
+        Shape::OfArm(_, _) => None,
+        Shape::OfArgument(expression) => Some(expression),
+        Shape::OfDefinition(_, _, _) => None,
+        Shape::Other => None,
     }
 }
 
@@ -62,12 +62,12 @@ pub fn place_at(rows: &[i32], row: usize) -> PlaceShape
 }
 
 // The argument that a link leads to; 0 leads to none.
-pub fn argument_at(rows: &[i32], link: usize) -> ArgumentShape
+pub fn argument_at(rows: &[i32], link: usize) -> Option<usize>
     requires { Readable rows.now × (link < row_count rows.now) }
     ensures { ArgumentRead rows.now link result × (result ≡ argument_at rows.now link) }
 {
     if link == 0 {
-        return ArgumentShape::NoArgument;
+        return None;
     }
     argument_of(shape_at(rows, link))
 }

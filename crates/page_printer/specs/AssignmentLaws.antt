@@ -1,5 +1,5 @@
 -- Laws of assignments: an expression statement's lines are those of its outline, and what that names stands in the table.
-use Rattle.std.specs.Prelude.{◌≡◌, List, ℕ, ◌<◌, ℤ}
+use Rattle.std.specs.Prelude.{◌≡◌, List, ℕ, ◌<◌, ℤ, None, Option, Some}
 use Rattle.std.proofs.Math.Path.{refl}
 use Rattle.std.proofs.Common.{sym, ap, ◌∙◌}
 use Rattle.words.specs.Table.{row_count}
@@ -12,8 +12,6 @@ use Rattle.language_shapes.specs.declared.ChoiceShape.{ChoiceShape}
 use Rattle.language_shapes.specs.declared.ChoiceShape.TheVariants as choice
 use Rattle.language_shapes.specs.declared.ExpressionShape.{ExpressionShape}
 use Rattle.language_shapes.specs.declared.ExpressionShape.TheVariants as expression
-use Rattle.language_shapes.specs.declared.ArgumentShape.{ArgumentShape}
-use Rattle.language_shapes.specs.declared.ArgumentShape.TheVariants.{Argument, NoArgument}
 use Rattle.page.specs.Lines.{Indented, expressed_lines, assigned_lines, expression_lines}
 use Rattle.page_line.specs.Reads.{expression_shape_at, argument_at, OperationInside, Readable, ExpressionRead, ArgumentRead}
 use Rattle.page_line.specs.ReadsLaws.{expression-read, argument-found-at}
@@ -58,11 +56,11 @@ module _ {rows : List ℤ} (readable : Readable rows) (level e : ℕ) where
 
   -- ---- a call
 
-  called-lines : (q f link : ℕ) (s : ArgumentShape) → ArgumentRead rows link s → expression_at rows e ≡ assign (place_of (expression_at rows q)) (call f (argument_list_at rows link))
+  called-lines : (q f link : ℕ) (s : Option ℕ) → ArgumentRead rows link s → expression_at rows e ≡ assign (place_of (expression_at rows q)) (call f (argument_list_at rows link))
       → expression_lines level (expression_at rows e) ≡ outlined rows level (called_outline rows e q f link s)
-  called-lines q f link (Argument first) r h =
+  called-lines q f link (Some first) r h =
       ap (expression_lines level) h ∙ ap (λ arguments. assigned_lines level (place_of (expression_at rows q)) (call f arguments)) r.is
-  called-lines q f link NoArgument r h =
+  called-lines q f link None r h =
       ap (expression_lines level) h ∙ ap (λ arguments. assigned_lines level (place_of (expression_at rows q)) (call f arguments)) r.is
       ∙ sym (ap (expressed_lines level) (h ∙ ap (λ arguments. assign (place_of (expression_at rows q)) (call f arguments)) r.is))
 
@@ -101,9 +99,9 @@ module _ {rows : List ℤ} (readable : Readable rows) (level e : ℕ) where
 -- ---- rows
 
 module _ {rows : List ℤ} (readable : Readable rows) (e : ℕ) (inside : e < row_count rows) where
-  called-inside : (q f link : ℕ) (s : ArgumentShape) → q < row_count rows → ArgumentRead rows link s → OutlineInside (row_count rows) (called_outline rows e q f link s)
-  called-inside q f link (Argument first) i r = (i, r.inside, r.next_inside)
-  called-inside q f link NoArgument i r = inside
+  called-inside : (q f link : ℕ) (s : Option ℕ) → q < row_count rows → ArgumentRead rows link s → OutlineInside (row_count rows) (called_outline rows e q f link s)
+  called-inside q f link (Some first) i r = (i, r.inside, r.next_inside)
+  called-inside q f link None i r = inside
 
   value_inside : (q value : ℕ) (s : ExpressionShape) → q < row_count rows → ExpressionRead rows value s → OutlineInside (row_count rows) (value_outline rows e q s)
   value_inside q value (expression.Number v) i r = inside

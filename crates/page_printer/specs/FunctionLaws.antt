@@ -1,7 +1,7 @@
 -- Laws of functions: arguments and parameters one after the other, and their lines printed behind others.
 use Rattle.std.proofs.Math.Path.{◌≡◌, refl, ap}
 use Rattle.std.proofs.Common.{sym, subst, ◌∙◌, arith, lt-ltb, le-ltb}
-use Rattle.std.specs.Prelude.{Bool, true, false, ltb, ℤ, length}
+use Rattle.std.specs.Prelude.{Bool, true, false, ltb, ℤ, length, None, Some}
 use mathlib.Core.List.{List, [], ◌∷◌, ◌++◌, append_assoc}
 use Prim.Native.Nat.{ℕ, zero, suc, ◌+◌, ◌*◌, ◌≤◌, ◌<◌}
 use Rattle.words.specs.Word.{pick}
@@ -10,7 +10,6 @@ use Rattle.words.specs.Declarations.{is_declaration}
 use Rattle.language.specs.Decode.{later, parameters_at, parameter_list_at, argument_list_at, expression_at}
 use Rattle.language.specs.DecodeLaws.{parameters-at}
 use Rattle.language.specs.Calls.{argument_count}
-use Rattle.language_shapes.specs.declared.ArgumentShape.TheVariants.{Argument, NoArgument}
 use Rattle.page.specs.declared.Sizes.{Sizes}
 use Rattle.page.specs.Lines.{Indented, indented, argument, last_argument, parameter, last_parameter, opens_function, opens_parameters, argument_lines, parameter_lines, definition_lines}
 use Rattle.page_line.specs.Reads.{Readable, ArgumentRead}
@@ -25,21 +24,21 @@ use Rattle.page_printer.specs.OutlineLaws.{next-later}
 -- ---- arguments
 
 module _ {rows : List ℤ} {link : ℕ} where
-  pub argument-more : (e : ℕ) → ArgumentRead rows link (Argument e) → argument_count (argument_list_at rows link) ≡ suc (argument_count (argument_list_at rows (number_at rows link 5)))
+  pub argument-more : (e : ℕ) → ArgumentRead rows link (Some e) → argument_count (argument_list_at rows link) ≡ suc (argument_count (argument_list_at rows (number_at rows link 5)))
   unfolding argument_count
   argument-more e r = ap argument_count r.is
 
-  pub argument-end : ArgumentRead rows link NoArgument → argument_count (argument_list_at rows link) ≡ 0
+  pub argument-end : ArgumentRead rows link None → argument_count (argument_list_at rows link) ≡ 0
   unfolding argument_count
   argument-end r = ap argument_count r.is
 
   module _ (level row : ℕ) where
-    pub argument-line : (e : ℕ) → ArgumentRead rows link (Argument e)
+    pub argument-line : (e : ℕ) → ArgumentRead rows link (Some e)
         → argument_lines level (expression_at rows row) (argument_list_at rows link) ≡ indented level (argument (expression_at rows row)) ∷ argument_lines level (expression_at rows e) (argument_list_at rows (number_at rows link 5))
     unfolding argument_lines
     argument-line e r = ap (argument_lines level (expression_at rows row)) r.is
 
-    pub last-argument-line : ArgumentRead rows link NoArgument → argument_lines level (expression_at rows row) (argument_list_at rows link) ≡ indented level (last_argument (expression_at rows row)) ∷ []
+    pub last-argument-line : ArgumentRead rows link None → argument_lines level (expression_at rows row) (argument_list_at rows link) ≡ indented level (last_argument (expression_at rows row)) ∷ []
     unfolding argument_lines
     last-argument-line r = ap (argument_lines level (expression_at rows row)) r.is
 

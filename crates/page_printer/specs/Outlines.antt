@@ -1,5 +1,5 @@
 -- Outlines: which lines an item has of its own, and where its blocks stand.
-use Rattle.std.specs.Prelude.{Bool, false, List, [], ◌∷◌, ◌++◌, ℕ, zero, suc, ◌+◌, ◌<◌, ℤ}
+use Rattle.std.specs.Prelude.{Bool, false, List, [], ◌∷◌, ◌++◌, ℕ, zero, suc, ◌+◌, ◌<◌, ℤ, None, Option, Some}
 use Rattle.words.specs.Table.{number_at}
 use Rattle.words.specs.Declarations.{is_declaration}
 use Rattle.language.specs.Decode.{expression_at, argument_list_at, parameter_list_at, statement_at}
@@ -10,8 +10,6 @@ use Rattle.language_shapes.specs.declared.ExpressionShape.{ExpressionShape}
 use Rattle.language_shapes.specs.declared.ExpressionShape.TheVariants as expression
 use Rattle.language_shapes.specs.declared.OperationShape.{OperationShape}
 use Rattle.language_shapes.specs.declared.OperationShape.TheVariants as operation
-use Rattle.language_shapes.specs.declared.ArgumentShape.{ArgumentShape}
-use Rattle.language_shapes.specs.declared.ArgumentShape.TheVariants.{Argument, NoArgument}
 use Rattle.language_shapes.specs.declared.StatementShape.{StatementShape}
 use Rattle.language_shapes.specs.declared.StatementShape.TheVariants as statement
 use Rattle.page.specs.Lines.{Indented, indented, closes, argument_lines, definition_lines, branch_lines}
@@ -25,9 +23,9 @@ use Rattle.page_printer.specs.declared.Outline.TheVariants.{Single, Enclosed, Sp
 -- ---- the outline of an expression statement
 
 -- A call with arguments has lines of its own; every other expression statement is one line.
-abbrev pub called_outline : List ℤ → (e place f link : ℕ) → ArgumentShape → Outline
-called_outline rows e place f link (Argument first) = Called (OpensCall place f) first (number_at rows link 5)
-called_outline rows e place f link NoArgument = Single (Express e)
+abbrev pub called_outline : List ℤ → (e place f link : ℕ) → Option ℕ → Outline
+called_outline rows e place f link (Some first) = Called (OpensCall place f) first (number_at rows link 5)
+called_outline rows e place f link None = Single (Express e)
 
 abbrev pub value_outline : List ℤ → (e place : ℕ) → ExpressionShape → Outline
 value_outline rows e place (expression.Call f arguments) = called_outline rows e place f arguments (argument_at rows arguments)

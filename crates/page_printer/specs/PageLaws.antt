@@ -1,5 +1,5 @@
 -- Laws of pages: a legal table is ready to be counted and printed; what was printed is its page, and is read back.
-use Rattle.std.specs.Prelude.{◌≡◌, refl, List, [], ◌∷◌, ℕ, ◌+◌, ◌*◌, ◌^◌, ◌≤◌, ◌<◌, ltb, ℤ, pos, length, get_or, take}
+use Rattle.std.specs.Prelude.{Result, ◌≡◌, refl, List, [], ◌∷◌, ℕ, ◌+◌, ◌*◌, ◌^◌, ◌≤◌, ◌<◌, ltb, ℤ, pos, length, get_or, take, Err, Ok}
 use Rattle.std.proofs.Math.Path.{sym, ap}
 use Rattle.std.proofs.Common.{subst, ◌∙◌, arith}
 use Rattle.std.proofs.Math.Bool.{true, false}
@@ -13,10 +13,8 @@ use Rattle.words.specs.Laws.{count_fits-facts, by_cases}
 use Rattle.words.specs.Over.{over}
 use Rattle.words.specs.OverLaws.{take-over}
 use Rattle.words.specs.declared.Form.TheVariants.{Kernel}
-use Rattle.words.specs.declared.Refusal.{Refusal}
+use Rattle.words.specs.Refusals.{NumberedRefusal}
 use Rattle.text_form.specs.Answers.{Writes, write_bytes, cause_unless, write_outcome}
-use Rattle.text_form.specs.declared.WriteAnswer.{WriteAnswer}
-use Rattle.text_form.specs.declared.WriteAnswer.TheVariants.{Written, Refused}
 use Rattle.language.specs.Decode.{statement_at, list_at, decode}
 use Rattle.language.specs.Program.{contents}
 use Rattle.check_kernel.specs.Legal.{Legal}
@@ -114,7 +112,7 @@ module _ (header rows : List ℤ) (legal : Legal header rows) (words : (i : ℕ)
 
   -- ---- what the printer answers
 
-  pub short-page : (page : List ℕ) → length page < 81 * length lines → Writes (print_accepted header rows page) (Refused (record { number = 10; place = 0 })) page
+  pub short-page : (page : List ℕ) → length page < 81 * length lines → Writes (print_accepted header rows page) (Err (record { number = 10; place = 0 })) page
   unfolding print_accepted write_bytes cause_unless
   short-page page h = let t : leb (length bytes) (length page) ≡ false = lt-leb (length bytes) (length page) (omega (arith, size)) in record { outcome = rw t; text_left = rw t }
 
@@ -122,7 +120,7 @@ module _ (header rows : List ℤ) (legal : Legal header rows) (words : (i : ℕ)
   unfolding table_page page_bytes
   printed-bytes page left next p = rw (← table-lines) p.laid.written
 
-  pub whole-page : (page left : List ℕ) (next : ℕ) → 81 * length lines ≤ length page → Printed (sizes_of header) lines page 0 next left → Writes (print_accepted header rows page) (Written (81 * length lines)) left
+  pub whole-page : (page left : List ℕ) (next : ℕ) → 81 * length lines ≤ length page → Printed (sizes_of header) lines page 0 next left → Writes (print_accepted header rows page) (Ok (81 * length lines)) left
   unfolding print_accepted write_bytes cause_unless
   whole-page page left next h p =
       let t : leb (length bytes) (length page) ≡ true = le-leb (length bytes) (length page) (omega (arith, size)) in
@@ -130,21 +128,21 @@ module _ (header rows : List ℤ) (legal : Legal header rows) (words : (i : ℕ)
 
   -- ---- what was printed is read back
 
-  pub whole-reads : (page left : List ℕ) (next : ℕ) → Printed (sizes_of header) lines page 0 next left → PageReads header rows (Written (81 * length lines)) left
+  pub whole-reads : (page left : List ℕ) (next : ℕ) → Printed (sizes_of header) lines page 0 next left → PageReads header rows (Ok (81 * length lines)) left
   whole-reads page left next p = record {
     columns = λ total e. same total e ∙ ap (λ (ls : List Indented). 81 * length ls) table-lines;
     gives_back = λ total e. subst (λ (l : List ℕ). GivenBack header rows l) (sym (first-bytes total (same total e))) (gives_back header rows legal words);
   }
     where
-      same : (total : ℕ) → Written (81 * length lines) ≡ Written total → total ≡ 81 * length lines
+      same : (total : ℕ) → ◌≡◌ {A = Result ℕ NumberedRefusal} (Ok (81 * length lines)) (Ok total) → total ≡ 81 * length lines
       same total e = let o = ap write_outcome e in cc
 
       first-bytes : (total : ℕ) → total ≡ 81 * length lines → take total left ≡ bytes
       first-bytes total e = rw (e, ← size, printed-bytes page left next p) (take-over bytes page)
 
 -- a refusal promises nothing of the page
-pub refused-reads : (header rows : List ℤ) (refusal : Refusal) (page : List ℕ) → PageReads header rows (Refused refusal) page
+pub refused-reads : (header rows : List ℤ) (refusal : NumberedRefusal) (page : List ℕ) → PageReads header rows (Err refusal) page
 refused-reads header rows refusal page = record { columns = λ total e. absurd (never total e); gives_back = λ total e. absurd (never total e) }
   where
-    never : (total : ℕ) → Refused refusal ≡ Written total → ⊥
+    never : (total : ℕ) → Err refusal ≡ Ok total → ⊥
     never total e = let o = ap write_outcome e in let z : ◌≡◌ {A = ℕ} 0 1 = cc in omega arith

@@ -5,7 +5,7 @@ ghost use Rattle.page_line.specs.Reads.{expression_shape_at, argument_at, Readab
 ghost use Rattle.page_printer.specs.Outlines.{called_outline, value_outline, operation_outline, express_outline};
 
 use super::Outline;
-use language_shapes::{ArgumentShape, ExpressionShape, OperationShape};
+use language_shapes::{ExpressionShape, OperationShape};
 use page_line::LineAt;
 use page_line::shapes_at::{argument_at, expression_at};
 use words::table::number_at;
@@ -23,12 +23,12 @@ fn called_outline(
 {
     let first = argument_at(rows, link);
     match first {
-        ArgumentShape::Argument(row) => Outline::Called(
+        Some(row) => Outline::Called(
             LineAt::OpensCall(place, number),
             row,
             number_at(rows, link, 5),
         ),
-        ArgumentShape::NoArgument => Outline::Single(LineAt::Express(expression)),
+        None => Outline::Single(LineAt::Express(expression)),
     }
 }
 

@@ -9,7 +9,6 @@ ghost use Rattle.page_line.specs.Printed.{Printed};
 ghost use Rattle.page_printer.specs.Outlines.{is_parameter};
 ghost use Rattle.page_printer.specs.Ready.{Ready};
 
-use language_shapes::ArgumentShape;
 use page::Sizes;
 use page_line::LineAt;
 use page_line::shapes_at::argument_at;
@@ -26,7 +25,7 @@ pub fn count_arguments(rows: &[i32], link: usize) -> usize
     let mut count: usize = 0;
     loop {
         let found = argument_at(rows, along);
-        let ArgumentShape::Argument(_) = found else {
+        let Some(_) = found else {
             return count;
         };
         count += 1;
@@ -77,7 +76,7 @@ pub fn print_arguments(
     let mut lines = done;
     loop {
         let found = argument_at(rows, along);
-        let ArgumentShape::Argument(following) = found else {
+        let Some(following) = found else {
             return print_line(sizes, rows, LineAt::LastArgument(row), level, lines, page);
         };
         lines = print_line(sizes, rows, LineAt::Argument(row), level, lines, page);

@@ -7,8 +7,7 @@ use super::items::block_list;
 use super::lists::print_list;
 use super::sizes::count_list;
 use page::sizes_of;
-use text_form::WriteAnswer;
-use words::Refusal;
+use words::{Cause, Refusal};
 
 fn pass_word(word: i32) {}
 
@@ -25,7 +24,7 @@ fn pass_words(words: &[i32])
 
 // Prints an accepted table at the start of `page`, and answers how many bytes that are. "A short page buffer gets 10." The second promise:
 // what was printed gives back the table.
-pub fn print_accepted(header: &[i32], rows: &[i32], page: &mut [u8]) -> WriteAnswer
+pub fn print_accepted(header: &[i32], rows: &[i32], page: &mut [u8]) -> Result<usize, Refusal>
     requires { Legal header.now rows.now }
     ensures writes { Writes (print_accepted header.now rows.now page.old) result page.new }
     ensures page_reads { PageReads header.now rows.now result page.new }
@@ -34,12 +33,12 @@ pub fn print_accepted(header: &[i32], rows: &[i32], page: &mut [u8]) -> WriteAns
     let first = block_list(rows, 0);
     let size = 81 * count_list(rows, first);
     if page.len() < size {
-        return WriteAnswer::Refused(Refusal {
-            number: 10,
+        return Err(Refusal {
+            cause: Cause::NoRoom,
             place: 0,
         });
     }
     let sizes = sizes_of(header);
     print_list(sizes, rows, first, 0, 0, page);
-    WriteAnswer::Written(size)
+    Ok(size)
 }

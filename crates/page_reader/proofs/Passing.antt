@@ -1,4 +1,5 @@
 -- What is known when k lines of a page are left: the rows of the lines behind them stand from the row `base` on, and what those lines leave is held.
+use Rattle.std.specs.Prelude.{None, Option, Some}
 use mathlib.Core.Path.{◌≡◌, refl, sym, ap, ap₂, ◌∙◌}
 use mathlib.Core.Bool.{Bool, true, false}
 use mathlib.Core.List.{List, [], ◌∷◌, ◌++◌, append_assoc}
@@ -14,8 +15,6 @@ use Rattle.page.specs.declared.Sizes.{Sizes}
 use Rattle.page_words.specs.Texts.{LineFits}
 use Rattle.page_words.specs.declared.Names.{Names}
 use Rattle.page_words.specs.declared.LineContent.{LineContent}
-use Rattle.page_words.specs.declared.LineRead.{LineRead}
-use Rattle.page_words.specs.declared.LineRead.TheVariants.{Read, Malformed}
 use Rattle.page_frame.specs.Frames.{statement_in}
 use Rattle.page_blocks.specs.Scans.{line_rows, with_line, lines_from, lines_in}
 use Rattle.page_blocks.specs.LinesFit.{lines_rows, AllFit}
@@ -110,19 +109,19 @@ module _ {names : Names} {sizes : Sizes} {page : List ℕ} {total : ℕ} {old ro
     pub shallow : depth < 81958
     shallow = omega (arith, p.deep, p.all)
 
-    module _ (read : LineRead) (e : read ≡ statement_in names (take (81 * (k - 1) + 81 - 81 * (k - 1)) (drop (81 * (k - 1)) page))) where
+    module _ (read : Option LineContent) (e : read ≡ statement_in names (take (81 * (k - 1) + 81 - 81 * (k - 1)) (drop (81 * (k - 1)) page))) where
       lines_are : lines_from names page (p.count - (k - 1)) (k - 1) ≡ with_line read rest
       lines_are =
           let left : p.count - (k - 1) ≡ suc (p.count - k) = omega (arith, p.inside) in
           let next : suc (k - 1) ≡ k = omega arith in
           let size : 81 * (k - 1) + 81 - 81 * (k - 1) ≡ 81 = omega arith in
           ap (λ (n : ℕ). lines_from names page n (k - 1)) left ∙ one_more names page (p.count - k) (k - 1)
-          ∙ ap₂ (λ (r : LineRead) (n : ℕ). with_line r (lines_from names page (p.count - k) n)) (sym (e ∙ ap (λ (n : ℕ). statement_in names (take n (drop (81 * (k - 1)) page))) size)) next
+          ∙ ap₂ (λ (r : Option LineContent) (n : ℕ). with_line r (lines_from names page (p.count - k) n)) (sym (e ∙ ap (λ (n : ℕ). statement_in names (take n (drop (81 * (k - 1)) page))) size)) next
 
       -- No line.
-      pub passing-skip : read ≡ Malformed → Passing names sizes page total old rows waiting depth follows base (k - 1)
+      pub passing-skip : read ≡ None → Passing names sizes page total old rows waiting depth follows base (k - 1)
       passing-skip q =
-          let same : lines_from names page (p.count - (k - 1)) (k - 1) ≡ rest = lines_are ∙ ap (λ (r : LineRead). with_line r rest) q in
+          let same : lines_from names page (p.count - (k - 1)) (k - 1) ≡ rest = lines_are ∙ ap (λ (r : Option LineContent). with_line r rest) q in
           record {
             counted = p.counted;
             count = p.count;
@@ -135,9 +134,9 @@ module _ {names : Names} {sizes : Sizes} {page : List ℕ} {total : ℕ} {old ro
             long = p.long;
           }
 
-      module _ (line : LineContent) (q : read ≡ Read line) where
+      module _ (line : LineContent) (q : read ≡ Some line) where
         begins : lines_from names page (p.count - (k - 1)) (k - 1) ≡ line ∷ rest
-        begins = lines_are ∙ ap (λ (r : LineRead). with_line r rest) q
+        begins = lines_are ∙ ap (λ (r : Option LineContent). with_line r rest) q
 
         all_lines : p.count - (k - 1) + (k - 1) ≡ p.count
         all_lines = omega (arith, p.inside)

@@ -1,9 +1,8 @@
 -- Tables: the page of every legal kernel table is scanned to its end, and its rows are the table's.
-use Rattle.std.specs.Prelude.{◌≡◌, true, ◌⊎◌, ltb, ℤ, pos, get_or}
+use Rattle.std.specs.Prelude.{◌≡◌, true, ◌⊎◌, ltb, ℤ, pos, get_or, Ok, Some}
 use Rattle.std.proofs.Math.Path.{refl, sym, ap, ap₂}
 use Rattle.std.proofs.Common.{◌∙◌, inl, inr, ⊎_elim, arith, ltb-true, ltb-false}
 use mathlib.Core.List.{List, [], ◌∷◌}
-use Rattle.std.proofs.Math.Option.{some}
 use Prim.Native.Nat.{ℕ, suc, ◌+◌, ◌*◌, ◌-◌, ◌^◌, ◌≤◌, ◌<◌}
 use Rattle.std.specs.Int.Signed.{mag}
 use Rattle.std.proofs.Math.ListN.{length}
@@ -40,7 +39,6 @@ use Rattle.page_blocks.specs.Scans.{scan, names_of}
 use Rattle.page_blocks.specs.LinesFit.{lines_rows, AllFit}
 use Rattle.page_blocks.proofs.ScanComplete.{scan-complete}
 use Rattle.page_blocks.proofs.RowLaws.{program-rows}
-use Rattle.page_blocks.specs.declared.Scan.TheVariants.{Whole}
 
 -- ---- the line that a line of the page is
 
@@ -172,7 +170,7 @@ module _ (names : Names) (sizes : Sizes) (within : Within sizes names) where
 
 module _ (header rows : List ℤ) (legal : Legal header rows) (words : (i : ℕ) → mag (get_or rows i (pos 0)) < 2 ^ 31) where
   -- No page of a legal kernel table has a wrong line.
-  pub table-scans : scan (names_of header) (table_page header rows) ≡ Whole (row_count rows)
+  pub table-scans : scan (names_of header) (table_page header rows) ≡ Ok (row_count rows)
   unfolding names_of bounds_of header_store store_size table_page page_bytes
   table-scans =
       let names = names_of header in
@@ -181,13 +179,13 @@ module _ (header rows : List ℤ) (legal : Legal header rows) (words : (i : ℕ)
       let few = (count_fits-facts Kernel (length rows) legal.structured.count-fits).most in
       let within : Within sizes names = record { variables_inside = omega arith; same_declared = refl } in
       let l = lines-of names sizes within (table_lines rows) (lines_fit header rows legal words) in
-      let back : read_lines (trees sizes l.found) ≡ some (contents rows) = ap read_lines l.tree ∙ lines-read-back (legal-form header rows legal) 0 in
+      let back : read_lines (trees sizes l.found) ≡ Some (contents rows) = ap read_lines l.tree ∙ lines-read-back (legal-form header rows legal) 0 in
       let balances = read-balanced sizes l.found (contents rows) back in
       let p = balanced-program sizes l.found balances in
-      let again : some p.items ≡ some (contents rows) = sym p.read ∙ back in
+      let again : Some p.items ≡ Some (contents rows) = sym p.read ∙ back in
       let same : p.items ≡ contents rows = cc in
       let printed : levels sizes l.found (outside []) ≡ table_lines rows = p.printed ∙ ap (items_lines 0) same in
       let long : length (table_page header rows) ≡ 81 * length l.found = page-columns header rows legal words ∙ ap (λ (n : ℕ). 81 * n) (sym l.many) in
       scan-complete names f.few_variables (omega (arith, f.few_declared, f.few_temporaries)) f.few_arrays sizes within (table_page header rows) l.found
       (omega (arith, l.many, lines-of-rows header rows legal words)) l.fits balances (ap (lines_bytes sizes 1) (sym printed)) long
-      ∙ ap Whole (sym (program-rows sizes l.found (contents rows) back) ∙ legal-rows header rows legal)
+      ∙ ap Ok (sym (program-rows sizes l.found (contents rows) back) ∙ legal-rows header rows legal)

@@ -10,7 +10,7 @@ use page::Sizes;
 use page_frame::statement_in;
 use page_rows::lines::{put_block_row, put_line};
 use page_scan::rows::{line_count, rows_of};
-use page_words::{LineRead, Names};
+use page_words::Names;
 
 // Writes the rows of a page, of which `total` were counted, at the start of the table.
 pub fn write_rows(names: Names, sizes: Sizes, page: &[u8], total: usize, rows: &mut [i32])
@@ -27,7 +27,7 @@ pub fn write_rows(names: Names, sizes: Sizes, page: &[u8], total: usize, rows: &
         let start = 81 * k;
         let end = start + 81;
         let read = statement_in(names, &page[start..end]);
-        let LineRead::Read(line) = read else {
+        let Some(line) = read else {
             continue;
         };
         base -= rows_of(line);

@@ -1,11 +1,10 @@
 -- Laws of rows: the rows of all lines, put one behind the other, are those of the program that the lines are read as. Each law follows the lines
 -- from the last to the first, as page/Lines reads them.
-use Rattle.std.specs.Prelude.{◌≡◌, ℕ, ◌+◌, ℤ, pos}
+use Rattle.std.specs.Prelude.{◌≡◌, ℕ, ◌+◌, ℤ, pos, Some}
 use Rattle.std.proofs.Math.Path.{refl, ap}
 use Rattle.std.proofs.Common.{◌∙◌, arith}
 use Rattle.std.proofs.Math.Bool.{false}
 use mathlib.Core.List.{List, [], ◌∷◌, ◌++◌, append-nil}
-use Rattle.std.proofs.Math.Option.{some}
 use Rattle.text_numbers.specs.NumberLaws.{not_some}
 use Rattle.language.specs.Trees.{Items, none as no_item, ◌⧺◌, block, while, if_else}
 use Rattle.language.specs.Sizes.{expression_rows, statement_rows, items_rows}
@@ -98,11 +97,11 @@ module _ (sizes : Sizes) where
       line-read base (left_by lines (base + line_rows line)) (lines_table sizes lines (base + line_rows line)) line (read_before (trees sizes lines) (reading no_item outermost)) (lines-read lines (base + line_rows line))
 
   -- The rows of the lines are those of the program that they are read as.
-  pub table-of-page : (lines : List LineContent) (items : Items) → read_lines (trees sizes lines) ≡ some items → page_table sizes lines ≡ emit (block items)
+  pub table-of-page : (lines : List LineContent) (items : Items) → read_lines (trees sizes lines) ≡ Some items → page_table sizes lines ≡ emit (block items)
   unfolding read_lines Read page_table emit waiting_table
   table-of-page lines items e = from (read_before (trees sizes lines) (reading no_item outermost)) (lines-read lines 1) e
     where
-      from : (r : Reading) → Read r 1 (left_by lines 1) (lines_table sizes lines 1) → whole r ≡ some items → block_row 0 (left_by lines 1).follows 0 ++ lines_table sizes lines 1 ≡ emit_statement (block items) 0 0
+      from : (r : Reading) → Read r 1 (left_by lines 1) (lines_table sizes lines 1) → whole r ≡ Some items → block_row 0 (left_by lines 1).follows 0 ++ lines_table sizes lines 1 ≡ emit_statement (block items) 0 0
       from malformed h q = not_some q
       from (passing e arguments is waiting) h q = not_some q
       from (taking word words body later waiting) h q = not_some q

@@ -1,11 +1,9 @@
 -- Laws of stacks: numbers put on and taken off; blocks opened, turned and closed.
-use Rattle.std.specs.Prelude.{◌≡◌, refl, Bool, true, false, List, [], ◌∷◌, map, ℕ, zero, suc, ◌+◌, ◌-◌, ◌≤◌, ◌<◌, eqb, length, get_or, set, drop}
+use Rattle.std.specs.Prelude.{◌≡◌, refl, Bool, true, false, List, [], ◌∷◌, map, ℕ, zero, suc, ◌+◌, ◌-◌, ◌≤◌, ◌<◌, eqb, length, get_or, set, drop, None, Option, Some}
 use Rattle.std.proofs.Common.{sym, ap, ap₂, ◌∙◌, arith, add-one, get_or-set_same, get_or-set_other, eq-eqb, ne_eqb}
-use Rattle.std.proofs.Math.Option.{Option, none, some}
 use Rattle.page_blocks.specs.Blocks.{Open, outside as among_items, turned, shut, where_items, where_arguments, where_parameters, level_in}
 use Rattle.page_blocks.specs.Scans.{ended}
 use Rattle.page_scan.specs.Stacks.{stack_of, is_first, blocks_of, open_by, open_of, moved_says, depth_in, after_item, after_argument, after_parameter, end_of}
-use Rattle.page_scan.specs.declared.blocks.Moved.{Moved}
 use Rattle.page_scan.specs.declared.blocks.Among.{Among}
 use Rattle.page_scan.specs.declared.blocks.Among.TheVariants.{Items, Arguments, Parameters}
 
@@ -68,10 +66,10 @@ unfolding blocks_of stack_of
 none_open depth flags e = ap (λ (n : ℕ). blocks_of n flags) e
 
 module _ (depth : ℕ) (flags : List ℕ) where
-  pub turn-none : depth ≡ 0 → none ≡ turned (blocks_of depth flags)
+  pub turn-none : depth ≡ 0 → None ≡ turned (blocks_of depth flags)
   turn-none e = rw (none_open depth flags e)
 
-  pub shut_none : depth ≡ 0 → none ≡ shut (blocks_of depth flags)
+  pub shut_none : depth ≡ 0 → None ≡ shut (blocks_of depth flags)
   shut_none e = rw (none_open depth flags e)
 
   module _ (some-open : depth ≡ 0 → ⊥) where
@@ -82,18 +80,18 @@ module _ (depth : ℕ) (flags : List ℕ) where
         from zero f = absurd (f refl)
         from (suc n) f = omega arith
 
-    pub turn-wrong : (get_or flags (depth - 1) 0 ≡ 1 → ⊥) → none ≡ turned (blocks_of depth flags)
+    pub turn-wrong : (get_or flags (depth - 1) 0 ≡ 1 → ⊥) → None ≡ turned (blocks_of depth flags)
     turn-wrong f = rw (top depth flags more, ne_eqb (get_or flags (depth - 1) 0) 1 f)
 
-    pub turn-right : depth ≤ length flags → get_or flags (depth - 1) 0 ≡ 1 → some (among_items (blocks_of depth (set flags (depth - 1) 0))) ≡ turned (blocks_of depth flags)
+    pub turn-right : depth ≤ length flags → get_or flags (depth - 1) 0 ≡ 1 → Some (among_items (blocks_of depth (set flags (depth - 1) 0))) ≡ turned (blocks_of depth flags)
     turn-right h e =
         let inside : 0 < depth = more in
         rw (top depth flags more, top depth (set flags (depth - 1) 0) more, eq-eqb (get_or flags (depth - 1) 0) 1 e, get_or-set_same flags (depth - 1) 0 0 (omega arith), block-above (depth - 1) (depth - 1) 0 flags (omega arith))
 
-    pub shut-wrong : get_or flags (depth - 1) 0 ≡ 1 → none ≡ shut (blocks_of depth flags)
+    pub shut-wrong : get_or flags (depth - 1) 0 ≡ 1 → None ≡ shut (blocks_of depth flags)
     shut-wrong e = rw (top depth flags more, eq-eqb (get_or flags (depth - 1) 0) 1 e)
 
-    pub shut-right : (get_or flags (depth - 1) 0 ≡ 1 → ⊥) → some (among_items (blocks_of (depth - 1) flags)) ≡ shut (blocks_of depth flags)
+    pub shut-right : (get_or flags (depth - 1) 0 ≡ 1 → ⊥) → Some (among_items (blocks_of (depth - 1) flags)) ≡ shut (blocks_of depth flags)
     shut-right f = rw (top depth flags more, ne_eqb (get_or flags (depth - 1) 0) 1 f)
 
 -- ---- what is open
@@ -104,23 +102,23 @@ level-is Arguments depth flags = length-blocks depth flags
 level-is Parameters depth flags = length-blocks depth flags
 
 -- Lines that open and close no block.
-abbrev Moves : Moved → List ℕ → ℕ → Option Open → Type 0
+abbrev Moves : Option (Among × ℕ) → List ℕ → ℕ → Option Open → Type 0
 Moves moved flags depth around = (moved_says moved flags ≡ around) × ((depth_in moved ≤ depth + 1) × (length flags ≡ 81958))
 
 pub item-moves : (among next : Among) (depth : ℕ) (flags : List ℕ) → length flags ≡ 81958
-    → Moves (after_item among next depth) flags depth (where_items (λ blocks. some (open_by next blocks)) (open_of among depth flags))
+    → Moves (after_item among next depth) flags depth (where_items (λ blocks. Some (open_by next blocks)) (open_of among depth flags))
 item-moves Items next depth flags l = (refl, (omega arith, l))
 item-moves Arguments next depth flags l = (refl, (omega arith, l))
 item-moves Parameters next depth flags l = (refl, (omega arith, l))
 
 pub argument-moves : (among next : Among) (depth : ℕ) (flags : List ℕ) → length flags ≡ 81958
-    → Moves (after_argument among next depth) flags depth (where_arguments (λ blocks. some (open_by next blocks)) (open_of among depth flags))
+    → Moves (after_argument among next depth) flags depth (where_arguments (λ blocks. Some (open_by next blocks)) (open_of among depth flags))
 argument-moves Items next depth flags l = (refl, (omega arith, l))
 argument-moves Arguments next depth flags l = (refl, (omega arith, l))
 argument-moves Parameters next depth flags l = (refl, (omega arith, l))
 
 pub parameter-moves : (among : Among) (depth : ℕ) (flags : List ℕ) → length flags ≡ 81958
-    → Moves (after_parameter among depth) flags depth (where_parameters (λ blocks. some (open_by Parameters blocks)) (open_of among depth flags))
+    → Moves (after_parameter among depth) flags depth (where_parameters (λ blocks. Some (open_by Parameters blocks)) (open_of among depth flags))
 parameter-moves Items depth flags l = (refl, (omega arith, l))
 parameter-moves Arguments depth flags l = (refl, (omega arith, l))
 parameter-moves Parameters depth flags l = (refl, (omega arith, l))

@@ -1,14 +1,9 @@
 -- Stacks: the numbers that an array holds from its start on, the innermost last; the open blocks that they are; and what is open, as the code holds it.
-use Rattle.std.specs.Prelude.{Bool, true, false, List, [], ◌∷◌, map, ℕ, zero, suc, eqb, get_or}
-use Rattle.std.proofs.Math.Option.{Option, none, some}
+use Rattle.std.specs.Prelude.{Bool, true, false, List, [], ◌∷◌, map, ℕ, zero, suc, eqb, get_or, Err, None, Ok, Result, Some, Option}
 use Rattle.words.specs.Word.{pick}
 use Rattle.page_blocks.specs.Blocks.{Blocks, Open, outside, in_arguments, in_parameters}
-use Rattle.page_blocks.specs.declared.Scan.{Scan}
-use Rattle.page_blocks.specs.declared.Scan.TheVariants as scan-cases
 use Rattle.page_scan.specs.declared.blocks.Among.{Among}
 use Rattle.page_scan.specs.declared.blocks.Among.TheVariants.{Items, Arguments, Parameters}
-use Rattle.page_scan.specs.declared.blocks.Moved.{Moved}
-use Rattle.page_scan.specs.declared.blocks.Moved.TheVariants.{To, Wrong}
 
 -- So many numbers, the innermost first.
 unfoldable pub stack_of : ℕ → List ℕ → List ℕ
@@ -29,30 +24,30 @@ open_by Parameters blocks = in_parameters blocks
 abbrev pub open_of : Among → ℕ → List ℕ → Open
 open_of among depth flags = open_by among (blocks_of depth flags)
 
-abbrev pub moved_says : Moved → List ℕ → Option Open
-moved_says (To among depth) flags = some (open_of among depth flags)
-moved_says Wrong flags = none
+abbrev pub moved_says : Option (Among × ℕ) → List ℕ → Option Open
+moved_says (Some (among, depth)) flags = Some (open_of among depth flags)
+moved_says None flags = None
 
-abbrev pub depth_in : Moved → ℕ
-depth_in (To among depth) = depth
-depth_in Wrong = 0
+abbrev pub depth_in : Option (Among × ℕ) → ℕ
+depth_in (Some (among, depth)) = depth
+depth_in None = 0
 
 -- ---- lines that open and close no block, by what they stand among
 
-abbrev pub after_item : (among next : Among) → ℕ → Moved
-after_item Items next depth = To next depth
-after_item Arguments next depth = Wrong
-after_item Parameters next depth = Wrong
+abbrev pub after_item : (among next : Among) → ℕ → Option (Among × ℕ)
+after_item Items next depth = Some (next, depth)
+after_item Arguments next depth = None
+after_item Parameters next depth = None
 
-abbrev pub after_argument : (among next : Among) → ℕ → Moved
-after_argument Items next depth = Wrong
-after_argument Arguments next depth = To next depth
-after_argument Parameters next depth = Wrong
+abbrev pub after_argument : (among next : Among) → ℕ → Option (Among × ℕ)
+after_argument Items next depth = None
+after_argument Arguments next depth = Some (next, depth)
+after_argument Parameters next depth = None
 
-abbrev pub after_parameter : Among → ℕ → Moved
-after_parameter Items depth = Wrong
-after_parameter Arguments depth = Wrong
-after_parameter Parameters depth = To Parameters depth
+abbrev pub after_parameter : Among → ℕ → Option (Among × ℕ)
+after_parameter Items depth = None
+after_parameter Arguments depth = None
+after_parameter Parameters depth = Some (Parameters, depth)
 
 -- ---- the end
 
@@ -61,6 +56,6 @@ is_among_items Items = true
 is_among_items Arguments = false
 is_among_items Parameters = false
 
-unfoldable pub end_of : Bool → Among → (depth rows next : ℕ) → Scan
+unfoldable pub end_of : Bool → Among → (depth rows next : ℕ) → Result ℕ ℕ
 end_of whole among depth rows next =
-    pick whole (pick (is_among_items among) (pick (eqb depth 0) (scan-cases.Whole rows) (scan-cases.Wrong next)) (scan-cases.Wrong next)) (scan-cases.Wrong next)
+    pick whole (pick (is_among_items among) (pick (eqb depth 0) (Ok rows) (Err next)) (Err next)) (Err next)

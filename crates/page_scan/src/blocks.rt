@@ -1,7 +1,6 @@
 // What is open: blocks, as bytes of an array, the innermost last, 1 for the first branch of an if, which must turn before it closes; and the
 // parentheses of a call or of a definition.
 ghost use Rattle.std.specs.Prelude.{◌≡◌, false, ◌∷◌, ◌+◌, ◌≤◌, ◌<◌, eqb, length};
-ghost use Rattle.std.proofs.Math.Option.{some};
 ghost use Rattle.page_blocks.specs.Blocks.{outside, turned, shut as shut_of, where_items, where_parameters, behind};
 ghost use Rattle.page_scan.specs.Stacks.{blocks_of, open_of, moved_says, depth_in, is_among_items, after_item, after_argument, after_parameter};
 
@@ -15,13 +14,6 @@ pub enum Among {
     Parameters,
 }
 
-// What is open behind a line: what the next line stands among, and how many blocks.
-#[derive(Clone, Copy)]
-pub enum Moved {
-    To(Among, usize),
-    Wrong,
-}
-
 pub fn is_among_items(among: Among) -> bool
     ensures { result ≡ is_among_items among }
 {
@@ -33,132 +25,142 @@ pub fn is_among_items(among: Among) -> bool
 }
 
 // A line that opens and closes no block, and what the next line stands among: a statement,
-fn after_item(among: Among, next: Among, depth: usize) -> Moved
+fn after_item(among: Among, next: Among, depth: usize) -> Option<(Among, usize)>
     ensures { result ≡ after_item among next depth }
 {
     match among {
-        Among::Items => Moved::To(next, depth),
-        Among::Arguments => Moved::Wrong,
-        Among::Parameters => Moved::Wrong,
+        Among::Items => Some((next, depth)),
+        Among::Arguments => None,
+        Among::Parameters => None,
     }
 }
 
 // an argument,
-fn after_argument(among: Among, next: Among, depth: usize) -> Moved
+fn after_argument(among: Among, next: Among, depth: usize) -> Option<(Among, usize)>
     ensures { result ≡ after_argument among next depth }
 {
     match among {
-        Among::Items => Moved::Wrong,
-        Among::Arguments => Moved::To(next, depth),
-        Among::Parameters => Moved::Wrong,
+        Among::Items => None,
+        Among::Arguments => Some((next, depth)),
+        Among::Parameters => None,
     }
 }
 
 // and a parameter that is not the last.
-fn after_parameter(among: Among, depth: usize) -> Moved
+fn after_parameter(among: Among, depth: usize) -> Option<(Among, usize)>
     ensures { result ≡ after_parameter among depth }
 {
     match among {
-        Among::Items => Moved::Wrong,
-        Among::Arguments => Moved::Wrong,
-        Among::Parameters => Moved::To(Among::Parameters, depth),
+        Among::Items => None,
+        Among::Arguments => None,
+        Among::Parameters => Some((Among::Parameters, depth)),
     }
 }
 
-fn push(flag: u8, depth: usize, around: &mut [u8; 81958]) -> Moved
+fn push(flag: u8, depth: usize, around: &mut [u8; 81958]) -> Option<(Among, usize)>
     requires { (depth < 81958) × (length around.old ≡ 81958) }
-    ensures around_after { moved_says result around.new ≡ some (outside (eqb flag 1 ∷ blocks_of depth around.old)) }
+    ensures around_after { moved_says result around.new ≡ Some (outside (eqb flag 1 ∷ blocks_of depth around.old)) }
     ensures result_bound { (depth_in result ≤ depth + 1) × (length around.new ≡ 81958) }
 {
     around[depth] = flag;
     let deeper = depth + 1;
-    Moved::To(Among::Items, deeper)
+    Some((Among::Items, deeper))
 }
 
 // A statement, or a function without parameters, opens its block,
-fn open_block(flag: u8, among: Among, depth: usize, around: &mut [u8; 81958]) -> Moved
+fn open_block(
+    flag: u8,
+    among: Among,
+    depth: usize,
+    around: &mut [u8; 81958],
+) -> Option<(Among, usize)>
     requires { (depth < 81958) × (length around.old ≡ 81958) }
-    ensures around_after { moved_says result around.new ≡ where_items (λ blocks. some (outside (eqb flag 1 ∷ blocks))) (open_of among depth around.old) }
+    ensures around_after { moved_says result around.new ≡ where_items (λ blocks. Some (outside (eqb flag 1 ∷ blocks))) (open_of among depth around.old) }
     ensures result_bound { (depth_in result ≤ depth + 1) × (length around.new ≡ 81958) }
 {
     match among {
         Among::Items => push(flag, depth, around),
-        Among::Arguments => Moved::Wrong,
-        Among::Parameters => Moved::Wrong,
+        Among::Arguments => None,
+        Among::Parameters => None,
     }
 }
 
 // and the last parameter that of its function.
-fn open_function(among: Among, depth: usize, around: &mut [u8; 81958]) -> Moved
+fn open_function(among: Among, depth: usize, around: &mut [u8; 81958]) -> Option<(Among, usize)>
     requires { (depth < 81958) × (length around.old ≡ 81958) }
-    ensures around_after { moved_says result around.new ≡ where_parameters (λ blocks. some (outside (false ∷ blocks))) (open_of among depth around.old) }
+    ensures around_after { moved_says result around.new ≡ where_parameters (λ blocks. Some (outside (false ∷ blocks))) (open_of among depth around.old) }
     ensures result_bound { (depth_in result ≤ depth + 1) × (length around.new ≡ 81958) }
 {
     match among {
-        Among::Items => Moved::Wrong,
-        Among::Arguments => Moved::Wrong,
+        Among::Items => None,
+        Among::Arguments => None,
         Among::Parameters => push(0, depth, around),
     }
 }
 
-fn turn(depth: usize, around: &mut [u8; 81958]) -> Moved
+fn turn(depth: usize, around: &mut [u8; 81958]) -> Option<(Among, usize)>
     requires { (depth ≤ 81958) × (length around.old ≡ 81958) }
     ensures around_after { moved_says result around.new ≡ turned (blocks_of depth around.old) }
     ensures result_bound { (depth_in result ≤ depth + 1) × (length around.new ≡ 81958) }
 {
     if depth == 0 {
-        return Moved::Wrong;
+        return None;
     }
     let last = depth - 1;
     if around[last] != 1 {
-        return Moved::Wrong;
+        return None;
     }
     around[last] = 0;
-    Moved::To(Among::Items, depth)
+    Some((Among::Items, depth))
 }
 
-fn shut(depth: usize, around: &mut [u8; 81958]) -> Moved
+fn shut(depth: usize, around: &mut [u8; 81958]) -> Option<(Among, usize)>
     requires { (depth ≤ 81958) × (length around.old ≡ 81958) }
     ensures around_after { moved_says result around.new ≡ shut_of (blocks_of depth around.old) }
     ensures result_bound { (depth_in result ≤ depth + 1) × (length around.new ≡ 81958) }
 {
     if depth == 0 {
-        return Moved::Wrong;
+        return None;
     }
     let last = depth - 1;
     if around[last] == 1 {
-        return Moved::Wrong;
+        return None;
     }
-    Moved::To(Among::Items, last)
+    Some((Among::Items, last))
 }
 
 // `} else {` and `}` stand among items.
-fn turn_item(among: Among, depth: usize, around: &mut [u8; 81958]) -> Moved
+fn turn_item(among: Among, depth: usize, around: &mut [u8; 81958]) -> Option<(Among, usize)>
     requires { (depth ≤ 81958) × (length around.old ≡ 81958) }
     ensures around_after { moved_says result around.new ≡ where_items turned (open_of among depth around.old) }
     ensures result_bound { (depth_in result ≤ depth + 1) × (length around.new ≡ 81958) }
 {
     match among {
         Among::Items => turn(depth, around),
-        Among::Arguments => Moved::Wrong,
-        Among::Parameters => Moved::Wrong,
+        Among::Arguments => None,
+        Among::Parameters => None,
     }
 }
 
-fn shut_item(among: Among, depth: usize, around: &mut [u8; 81958]) -> Moved
+fn shut_item(among: Among, depth: usize, around: &mut [u8; 81958]) -> Option<(Among, usize)>
     requires { (depth ≤ 81958) × (length around.old ≡ 81958) }
     ensures around_after { moved_says result around.new ≡ where_items shut_of (open_of among depth around.old) }
     ensures result_bound { (depth_in result ≤ depth + 1) × (length around.new ≡ 81958) }
 {
     match among {
         Among::Items => shut(depth, around),
-        Among::Arguments => Moved::Wrong,
-        Among::Parameters => Moved::Wrong,
+        Among::Arguments => None,
+        Among::Parameters => None,
     }
 }
 
 // What is open behind a line, by what is open before it.
-pub fn pass_line(line: LineContent, among: Among, depth: usize, around: &mut [u8; 81958]) -> Moved
+pub fn pass_line(
+    line: LineContent,
+    among: Among,
+    depth: usize,
+    around: &mut [u8; 81958],
+) -> Option<(Among, usize)>
     requires { (depth < 81958) × (length around.old ≡ 81958) }
     ensures around_after { moved_says result around.new ≡ behind line (open_of among depth around.old) }
     ensures result_bound { (depth_in result ≤ depth + 1) × (length around.new ≡ 81958) }

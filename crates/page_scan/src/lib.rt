@@ -8,29 +8,28 @@ ghost use Rattle.std.specs.Prelude.{◌≡◌, ◌≤◌, ◌<◌, ◌+◌, ◌*
 ghost use Rattle.page_blocks.specs.Scans.{ended, scan as scan_of};
 ghost use Rattle.page_scan.specs.Stacks.{blocks_of, end_of};
 
-use self::blocks::{Among, Moved, is_among_items, pass_line};
+use self::blocks::{Among, is_among_items, pass_line};
 use self::rows::{line_count, rows_of};
-use page_blocks::Scan;
 use page_frame::line_in;
-use page_words::{LineRead, Names};
+use page_words::Names;
 
 // Behind the last whole line: no byte is left, and nothing is open.
-fn end(whole: bool, among: Among, depth: usize, rows: usize, next: usize) -> Scan
+fn end(whole: bool, among: Among, depth: usize, rows: usize, next: usize) -> Result<usize, usize>
     ensures { result ≡ end_of whole among depth rows next }
 {
     if !whole {
-        return Scan::Wrong(next);
+        return Err(next);
     }
     if !is_among_items(among) {
-        return Scan::Wrong(next);
+        return Err(next);
     }
     if depth == 0 {
-        return Scan::Whole(rows);
+        return Ok(rows);
     }
-    Scan::Wrong(next)
+    Err(next)
 }
 
-pub fn scan(names: Names, page: &[u8]) -> Scan
+pub fn scan(names: Names, page: &[u8]) -> Result<usize, usize>
     ensures { result ≡ scan_of names page.now }
 {
     let count = line_count(page.len());
@@ -44,12 +43,12 @@ pub fn scan(names: Names, page: &[u8]) -> Scan
         let at = 81 * k;
         let end = at + 81;
         let read = line_in(names, k as u32 + 1, depth, &page[at..end]);
-        let LineRead::Read(line) = read else {
-            return Scan::Wrong(number);
+        let Some(line) = read else {
+            return Err(number);
         };
         let next = pass_line(line, among, depth, &mut around);
-        let Moved::To(standing, deeper) = next else {
-            return Scan::Wrong(number);
+        let Some((standing, deeper)) = next else {
+            return Err(number);
         };
         among = standing;
         depth = deeper;

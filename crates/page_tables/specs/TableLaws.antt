@@ -1,9 +1,8 @@
 -- Laws of tables: the page of every legal kernel table has 80 columns, few lines, and gives back its rows, up to numbering; that of a
 -- translation gives back its very rows.
-use Rattle.std.specs.Prelude.{◌≡◌, true, List, ℕ, ◌+◌, ◌*◌, ◌-◌, ◌^◌, ◌≤◌, ◌<◌, ℤ, pos, length, get_or}
+use Rattle.std.specs.Prelude.{◌≡◌, true, List, ℕ, ◌+◌, ◌*◌, ◌-◌, ◌^◌, ◌≤◌, ◌<◌, ℤ, pos, length, get_or, Some}
 use Rattle.std.proofs.Common.{ap, sym, ◌∙◌}
 use Rattle.std.proofs.Math.Path.{subst}
-use Rattle.std.proofs.Math.Option.{some}
 use Rattle.std.proofs.Math.Logic.{⊎_elim}
 use native.Mathlib.Omega.{arith}
 use Rattle.std.specs.Int.Signed.{mag}
@@ -117,7 +116,7 @@ module _ (header rows : List ℤ) (legal : Legal header rows) (words : (i : ℕ)
       let few = (count_fits-facts Kernel (length rows) legal.structured.count-fits).most in
       lines-columns (sizes_of header) name-width parameter-width few_arrays 1 (table_lines rows) (omega (arith, lines-of-rows)) lines_fit
 
-  page-gives : read_table header (table_page header rows) ≡ some (emit (block (contents rows)))
+  page-gives : read_table header (table_page header rows) ≡ Some (emit (block (contents rows)))
   unfolding read_table table_page
   page-gives = rw (page-read-back (sizes_of header) (legal-form header rows legal) lines_fit)
 
@@ -160,10 +159,10 @@ module _ (header rows : List ℤ) (legal : Legal header rows) (words : (i : ℕ)
 
 -- A table that was emitted from a tree comes back to the word.
 emitted-gives-back : (header : List ℤ) (program : Items) → Legal header (emit (block program)) → decode (emit (block program)) ≡ block program
-    → ((i : ℕ) → mag (get_or (emit (block program)) i (pos 0)) < 2 ^ 31) → read_table header (table_page header (emit (block program))) ≡ some (emit (block program))
+    → ((i : ℕ) → mag (get_or (emit (block program)) i (pos 0)) < 2 ^ 31) → read_table header (table_page header (emit (block program))) ≡ Some (emit (block program))
 emitted-gives-back header program legal decodes words =
     let rows = emit (block program) in
-    page-gives header rows legal words ∙ ap (λ s. some (emit s)) (sym (legal-block header rows legal) ∙ decodes)
+    page-gives header rows legal words ∙ ap (λ s. Some (emit s)) (sym (legal-block header rows legal) ∙ decodes)
 
 -- So does every translation: its header and its table, where the check has found the program's limits and its tree well formed.
 module _ (header : List ℤ) (program : Items) (fit : header_fits Source header ≡ true) (few : statement_rows (block program) ≤ 2048) (shallow : statement_depth (block program) ≤ 64)
@@ -178,7 +177,7 @@ module _ (header : List ℤ) (program : Items) (fit : header_fits Source header 
   abbrev header_of_kernel : List ℤ
   header_of_kernel = kernel_header layout D (temporaries program)
 
-  pub translation-gives-back : ((i : ℕ) → mag (get_or kernel_rows i (pos 0)) < 2 ^ 31) → read_table header_of_kernel (table_page header_of_kernel kernel_rows) ≡ some kernel_rows
+  pub translation-gives-back : ((i : ℕ) → mag (get_or kernel_rows i (pos 0)) < 2 ^ 31) → read_table header_of_kernel (table_page header_of_kernel kernel_rows) ≡ Some kernel_rows
   translation-gives-back =
       emitted-gives-back header_of_kernel (translate (store_size layout + D) program)
       (translated-legal header program fit few shallow D declared source own-words) (translated-decodes header program fit few shallow D declared source)

@@ -1,9 +1,8 @@
 -- Complete: the bytes of each atom, element or value that fits are read as it.
-use Rattle.std.specs.Prelude.{◌≡◌, true, false, ◌⊎◌, ℕ, suc, ◌+◌, ◌≤◌, ◌<◌, eqb, ltb, ℤ, pos, negsuc, length, take, drop}
+use Rattle.std.specs.Prelude.{◌≡◌, true, false, ◌⊎◌, ℕ, suc, ◌+◌, ◌≤◌, ◌<◌, eqb, ltb, ℤ, pos, negsuc, length, take, drop, None, Some}
 use Rattle.std.proofs.Math.Path.{refl, ap, ap₂}
 use Rattle.std.proofs.Common.{sym, ◌∙◌, inl, inr, length-append, eq-eqb, ne_eqb, lt-ltb}
 use mathlib.Core.List.{List, [], ◌∷◌, ◌++◌, append_assoc, append-nil}
-use Rattle.std.proofs.Math.Option.{none, some}
 use native.Mathlib.Omega.{arith}
 use Rattle.words.specs.Laws.{by_cases}
 use Rattle.words.specs.declared.Operator.{Operator}
@@ -22,11 +21,6 @@ use Rattle.page_words.specs.declared.PageAtom.{PageAtom}
 use Rattle.page_words.specs.declared.PageAtom.TheVariants.{Constant, Variable, Declared, Temporary}
 use Rattle.page_words.specs.declared.Value.{Value}
 use Rattle.page_words.specs.declared.Value.TheVariants.{Single, Element, Minus, Binary, Call}
-use Rattle.page_words.specs.declared.NumberRead.TheVariants as number-cases
-use Rattle.page_words.specs.declared.AtomRead.TheVariants as atom-cases
-use Rattle.page_words.specs.declared.ElementRead.TheVariants as element-cases
-use Rattle.page_words.specs.declared.OperatorRead.TheVariants as operator-cases
-use Rattle.page_words.specs.declared.ValueRead.TheVariants as value-cases
 
 -- ---- what a text is not
 
@@ -50,11 +44,11 @@ first-other byte least most more (x ∷ xs) ys h b o = rw (ne_eqb x byte (λ e. 
 
 -- ---- numbers and operators
 
-pub number-complete : (bound n : ℕ) → n < bound → number_read bound (digits n) ≡ number-cases.Number n
+pub number-complete : (bound n : ℕ) → n < bound → number_read bound (digits n) ≡ Some n
 unfolding number_read
 number-complete bound n h = rw (natural-shows n, lt-ltb n bound h)
 
-operator-complete : (o : Operator) → operator_read (operator_word o) ≡ operator-cases.Read o
+operator-complete : (o : Operator) → operator_read (operator_word o) ≡ Some o
 unfolding operator_read operator_of_one operator_of_two
 operator-complete Add = refl
 operator-complete Subtract = refl
@@ -112,14 +106,14 @@ no_sign (Declared n) = not-word (45 ∷ []) (108 ∷ digits n) refl
 no_sign (Temporary n) = not-word (45 ∷ []) (116 ∷ digits n) refl
 
 module _ (names : Names) where
-  pub atom-complete : (a : PageAtom) → AtomFits names a → atom_read names (atom_text a) ≡ atom-cases.Read a
+  pub atom-complete : (a : PageAtom) → AtomFits names a → atom_read names (atom_text a) ≡ Some a
   unfolding atom_read
   atom-complete (Constant v) h = constant-read names (number_bytes v) (number_word v).some_byte (number-between v) ∙ ap constant_of (number-shows v h)
   atom-complete (Variable n) h = ap variable_of (number-complete names.variables n h)
   atom-complete (Declared n) h = ap declared_word_of (number-complete names.declared n h)
   atom-complete (Temporary n) h = ap temporary_of (number-complete names.temporaries n h)
 
-  pub name-complete : (a : PageAtom) → NameFits names a → name_of (atom_read names (atom_text a)) ≡ atom-cases.Read a
+  pub name-complete : (a : PageAtom) → NameFits names a → name_of (atom_read names (atom_text a)) ≡ Some a
   name-complete (Constant v) h = absurd h
   name-complete (Variable n) h = ap name_of (atom-complete (Variable n) h)
   name-complete (Declared n) h = ap name_of (atom-complete (Declared n) h)
@@ -127,7 +121,7 @@ module _ (names : Names) where
 
   -- ---- elements
 
-  element-in-complete : (array : ℕ) (a : PageAtom) → ElementFits names array a → element_in names (digits array ++ (91 ∷ atom_text a)) ≡ element-cases.Read array a
+  element-in-complete : (array : ℕ) (a : PageAtom) → ElementFits names array a → element_in names (digits array ++ (91 ∷ atom_text a)) ≡ Some (array, a)
   unfolding element_in
   element-in-complete array a h =
       let free : Free 91 (digits array) = digits-free 91 array (inr (omega arith)) in
@@ -139,13 +133,13 @@ module _ (names : Names) where
         atom-complete a h.1,
       )
 
-  pub element-complete : (array : ℕ) (a : PageAtom) → ElementFits names array a → element_read names (element_text array a) ≡ element-cases.Read array a
+  pub element-complete : (array : ℕ) (a : PageAtom) → ElementFits names array a → element_read names (element_text array a) ≡ Some (array, a)
   unfolding element_read
   element-complete array a h =
       let inner = digits array ++ (91 ∷ atom_text a) in
       rw (framed-complete (97 ∷ []) inner (93 ∷ []), middle-complete (97 ∷ []) inner (93 ∷ [])) (element-in-complete array a h)
 
-  pub no-element : (a : PageAtom) → element_read names (atom_text a) ≡ element-cases.Malformed
+  pub no-element : (a : PageAtom) → element_read names (atom_text a) ≡ None
   unfolding element_read
   no-element a = rw (not-framed (97 ∷ []) (93 ∷ []) (atom_text a) (ap (is_prefix (97 ∷ [])) (sym (append-nil (atom_text a))) ∙ not-begun 97 [] a [] (λ e. omega arith) (λ e. omega arith) (λ e. omega arith) (omega arith)))
 
@@ -167,11 +161,11 @@ module _ (names : Names) where
   unfolding binary_read
   binary-complete first operator right free = rw (piece_inside 32 operator right free, piece-first 32 operator right free, piece-behind 32 operator right free)
 
-  minus-complete : (a : PageAtom) → AtomFits names a → several_read names (45 ∷ []) (atom_text a) ≡ value-cases.Read (Minus a)
+  minus-complete : (a : PageAtom) → AtomFits names a → several_read names (45 ∷ []) (atom_text a) ≡ Some (Minus a)
   unfolding several_read is_word is_prefix
   minus-complete a h = ap minus_of (atom-complete a h)
 
-  operation-complete : (o : Operator) (a b : PageAtom) → AtomFits names a → AtomFits names b → several_read names (atom_text a) (operator_word o ++ (32 ∷ atom_text b)) ≡ value-cases.Read (Binary o a b)
+  operation-complete : (o : Operator) (a b : PageAtom) → AtomFits names a → AtomFits names b → several_read names (atom_text a) (operator_word o ++ (32 ∷ atom_text b)) ≡ Some (Binary o a b)
   unfolding several_read
   operation-complete o a b h k =
       rw (no_sign a) (binary-complete (atom_text a) (operator_word o) (atom_text b) (operator-word o).no_blank ∙ rw (operator-complete o, atom-complete a h, atom-complete b k))
@@ -185,7 +179,7 @@ module _ (names : Names) where
   unfolding single_read
   single-uncalled text e = rw (not-framed (102 ∷ []) (40 ∷ 41 ∷ []) text e)
 
-  called-complete : (f : ℕ) → f < 40980 → single_read names (value_text (Call f)) ≡ value-cases.Read (Call f)
+  called-complete : (f : ℕ) → f < 40980 → single_read names (value_text (Call f)) ≡ Some (Call f)
   unfolding single_read
   called-complete f h = rw (framed-complete (102 ∷ []) (digits f) (40 ∷ 41 ∷ []), middle-complete (102 ∷ []) (digits f) (40 ∷ 41 ∷ []), number-complete 40980 f h)
 
@@ -193,7 +187,7 @@ module _ (names : Names) where
   unfolding Free
   called-free f = (λ e. omega arith, free-append 32 (digits f) (40 ∷ 41 ∷ []) (digits-free 32 f (inl (omega arith))) (λ e. omega arith, (λ e. omega arith, tt)))
 
-  pub value-complete : (v : Value) → ValueFits names v → value_read names (value_text v) ≡ value-cases.Read v
+  pub value-complete : (v : Value) → ValueFits names v → value_read names (value_text v) ≡ Some v
   unfolding Free is_prefix
   value-complete (Single a) h =
       single-complete (atom_text a) (no_blank a) ∙ single-uncalled (atom_text a) (ap (is_prefix (102 ∷ [])) (sym (append-nil (atom_text a))) ∙ not-begun 102 [] a [] (λ e. omega arith) (λ e. omega arith) (λ e. omega arith) (omega arith))

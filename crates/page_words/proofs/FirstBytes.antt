@@ -1,9 +1,8 @@
 -- Numbers up to a limit, and words by their first byte.
-use Rattle.std.specs.Prelude.{◌≡◌, ℕ, ◌≤◌, ◌<◌, leb, ltb, length, get_or, drop}
+use Rattle.std.specs.Prelude.{◌≡◌, ℕ, ◌≤◌, ◌<◌, leb, ltb, length, get_or, drop, None, Some, Option}
 use Rattle.std.proofs.Math.Path.{refl}
 use Rattle.std.proofs.Common.{sym, ap, ◌∙◌, arith}
 use mathlib.Core.List.{List, [], ◌∷◌}
-use Rattle.std.proofs.Math.Option.{Option, none, some}
 use borrow.Author.Tests.{eq-eqb, ne_eqb, lt-ltb, le-ltb, leb-false}
 use Rattle.words.specs.Laws.{by_cases}
 use Rattle.text_numbers.specs.Number.{number_of}
@@ -11,30 +10,27 @@ use Rattle.text_numbers.specs.NumberLaws.{not_some}
 use Rattle.text_numbers.specs.Reader.{at_most}
 use Rattle.page_words.specs.Reads.{below_of, number_read, variable_of, declared_word_of, temporary_of, constant_of, atom_read, operator_of_one, operator_of_two, operator_read}
 use Rattle.page_words.specs.declared.Names.{Names}
-use Rattle.page_words.specs.declared.NumberRead.TheVariants.{Number, Malformed}
-use Rattle.page_words.specs.declared.AtomRead.TheVariants as atom-cases
-use Rattle.page_words.specs.declared.OperatorRead.TheVariants as operator-cases
 
-at-most-some : (bound : ℕ) (value : Option ℕ) (n : ℕ) → some n ≡ at_most bound value → value ≡ some n
+at-most-some : (bound : ℕ) (value : Option ℕ) (n : ℕ) → Some n ≡ at_most bound value → value ≡ Some n
 unfolding at_most
-at-most-some bound none n e = not_some (sym e)
-at-most-some bound (some m) n e = by_cases (leb m bound) (λ t. sym (rw t at e)) (λ t. not_some (sym (rw t at e)))
+at-most-some bound None n e = not_some (sym e)
+at-most-some bound (Some m) n e = by_cases (leb m bound) (λ t. sym (rw t at e)) (λ t. not_some (sym (rw t at e)))
 
-pub below_none : (bound : ℕ) (value : Option ℕ) → none ≡ at_most bound value → Malformed ≡ below_of bound value
+pub below_none : (bound : ℕ) (value : Option ℕ) → None ≡ at_most bound value → None ≡ below_of bound value
 unfolding at_most
-below_none bound none e = refl
-below_none bound (some n) e =
+below_none bound None e = refl
+below_none bound (Some n) e =
     by_cases (leb n bound) (λ t. not_some (rw t at e))
     (λ t. let over : bound < n = leb-false n bound t in rw (le-ltb n bound (omega arith)))
 
-pub below-inside : (bound : ℕ) (value : Option ℕ) (n : ℕ) → some n ≡ at_most bound value → n < bound → Number n ≡ below_of bound value
+pub below-inside : (bound : ℕ) (value : Option ℕ) (n : ℕ) → Some n ≡ at_most bound value → n < bound → Some n ≡ below_of bound value
 below-inside bound value n e h = rw (at-most-some bound value n e, lt-ltb n bound h)
 
-pub below-outside : (bound : ℕ) (value : Option ℕ) (n : ℕ) → some n ≡ at_most bound value → bound ≤ n → Malformed ≡ below_of bound value
+pub below-outside : (bound : ℕ) (value : Option ℕ) (n : ℕ) → Some n ≡ at_most bound value → bound ≤ n → None ≡ below_of bound value
 below-outside bound value n e h = rw (at-most-some bound value n e, le-ltb n bound h)
 
 module _ (names : Names) where
-  pub atom-none : (word : List ℕ) → length word ≡ 0 → atom-cases.Malformed ≡ atom_read names word
+  pub atom-none : (word : List ℕ) → length word ≡ 0 → None ≡ atom_read names word
   unfolding atom_read
   atom-none [] h = refl
   atom-none (first ∷ others) h = absurd (omega arith)
@@ -67,14 +63,14 @@ operator-one [] h = absurd (omega arith)
 operator-one (first ∷ []) h = refl
 operator-one (first ∷ (second ∷ others)) h = absurd (omega arith)
 
-pub operator-other : (word : List ℕ) → (length word ≡ 1 → ⊥) → (length word ≡ 2 → ⊥) → operator-cases.Malformed ≡ operator_read word
+pub operator-other : (word : List ℕ) → (length word ≡ 1 → ⊥) → (length word ≡ 2 → ⊥) → None ≡ operator_read word
 unfolding operator_read
 operator-other [] f g = refl
 operator-other (first ∷ []) f g = absurd (f refl)
 operator-other (first ∷ (second ∷ [])) f g = absurd (g refl)
 operator-other (first ∷ (second ∷ (third ∷ others))) f g = refl
 
-pub operator-unended : (word : List ℕ) → length word ≡ 2 → (get_or word 1 0 ≡ 61 → ⊥) → operator-cases.Malformed ≡ operator_read word
+pub operator-unended : (word : List ℕ) → length word ≡ 2 → (get_or word 1 0 ≡ 61 → ⊥) → None ≡ operator_read word
 unfolding operator_read
 operator-unended [] h f = absurd (omega arith)
 operator-unended (first ∷ []) h f = absurd (omega arith)

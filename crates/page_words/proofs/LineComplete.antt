@@ -3,10 +3,9 @@ use Rattle.std.proofs.Math.Path.{◌≡◌, refl, ap}
 use Rattle.std.proofs.Common.{sym, ◌∙◌, inr, eq-eqb}
 use Rattle.std.proofs.Math.Bool.{true, false}
 use mathlib.Core.List.{List, [], ◌∷◌, ◌++◌, append_assoc}
-use Rattle.std.proofs.Math.Option.{none, some}
 use Prim.Native.Nat.{ℕ, ◌<◌}
 use native.Mathlib.Omega.{arith}
-use Rattle.std.specs.Prelude.{eqb, length}
+use Rattle.std.specs.Prelude.{eqb, length, Some, None}
 use Rattle.words.specs.Laws.{by_cases}
 use Rattle.text_numbers.specs.Number.{digits}
 use Rattle.text_numbers.specs.NumberLaws.{Free, free-append, not_some, length_some}
@@ -27,7 +26,6 @@ use Rattle.page_words.specs.declared.Value.{Value}
 use Rattle.page_words.specs.declared.Value.TheVariants.{Single}
 use Rattle.page_words.specs.declared.LineContent.{LineContent}
 use Rattle.page_words.specs.declared.LineContent.TheVariants.{Empty, Abort, Goto, Label, Store, Put, Opens, While, If, Turns, Closes, Return, OpensCall, Argument, LastArgument, OpensFunction, OpensParameters, Parameter, LastParameter}
-use Rattle.page_words.specs.declared.LineRead.TheVariants as line-cases
 
 -- A text that ends in another byte than a frame has no such frame.
 not-ended : (before ends : List ℕ) (end : ℕ) (text start : List ℕ) (last : ℕ) → text ≡ ended_by last start → (last ≡ end → ⊥) → is_framed before (ends ++ (end ∷ [])) text ≡ false
@@ -60,7 +58,7 @@ module _ (names : Names) where
         middle-complete equals value (59 ∷ []),
       )
 
-  call-complete : (a : PageAtom) (f : ℕ) → NameFits names a → f < 40980 → assignment_read names (line_text (OpensCall a f)) ≡ line-cases.Read (OpensCall a f)
+  call-complete : (a : PageAtom) (f : ℕ) → NameFits names a → f < 40980 → assignment_read names (line_text (OpensCall a f)) ≡ Some (OpensCall a f)
   unfolding assignment_of
   call-complete a f h k =
       let start : List ℕ = 32 ∷ 61 ∷ 32 ∷ 102 ∷ [] in
@@ -73,11 +71,11 @@ module _ (names : Names) where
   unfolding assignment_read
   alone-complete text free = rw (eq-eqb (piece_end 32 text) (length text) (piece-all 32 text free))
 
-  argument-complete : (a : PageAtom) → AtomFits names a → argument_read names (line_text (Argument a)) ≡ line-cases.Read (Argument a)
+  argument-complete : (a : PageAtom) → AtomFits names a → argument_read names (line_text (Argument a)) ≡ Some (Argument a)
   unfolding argument_read
   argument-complete a h = rw (framed-complete [] (atom_text a) (44 ∷ []), middle-complete [] (atom_text a) (44 ∷ []), atom-complete names a h)
 
-  last-argument-complete : (a : PageAtom) → AtomFits names a → argument_read names (line_text (LastArgument a)) ≡ line-cases.Read (LastArgument a)
+  last-argument-complete : (a : PageAtom) → AtomFits names a → argument_read names (line_text (LastArgument a)) ≡ Some (LastArgument a)
   unfolding argument_read
   last-argument-complete a h =
       rw (
@@ -126,13 +124,13 @@ module _ (names : Names) where
     unfolding test_read
     no_test e f = rw (not-framed (105 ∷ 102 ∷ 32 ∷ 40 ∷ []) (41 ∷ 32 ∷ 123 ∷ []) text e, not-framed (119 ∷ 104 ∷ 105 ∷ 108 ∷ 101 ∷ 32 ∷ 40 ∷ []) (41 ∷ 32 ∷ 123 ∷ []) text f)
 
-  goto-complete : (l : ℕ) → l < 40980 → jump_read names (line_text (Goto l)) ≡ line-cases.Read (Goto l)
+  goto-complete : (l : ℕ) → l < 40980 → jump_read names (line_text (Goto l)) ≡ Some (Goto l)
   unfolding jump_read
   goto-complete l h =
       let start : List ℕ = 103 ∷ 111 ∷ 116 ∷ 111 ∷ 32 ∷ 76 ∷ [] in
       rw (framed-complete start (digits l) (59 ∷ []), middle-complete start (digits l) (59 ∷ []), number-complete 40980 l h)
 
-  label-complete : (l : ℕ) → l < 40980 → jump_read names (line_text (Label l)) ≡ line-cases.Read (Label l)
+  label-complete : (l : ℕ) → l < 40980 → jump_read names (line_text (Label l)) ≡ Some (Label l)
   unfolding jump_read is_prefix
   label-complete l h =
       rw (
@@ -142,13 +140,13 @@ module _ (names : Names) where
         number-complete 40980 l h,
       )
 
-  return-complete : (a : PageAtom) → AtomFits names a → function_read names (line_text (Return a)) ≡ line-cases.Read (Return a)
+  return-complete : (a : PageAtom) → AtomFits names a → function_read names (line_text (Return a)) ≡ Some (Return a)
   unfolding function_read
   return-complete a h =
       let start : List ℕ = 114 ∷ 101 ∷ 116 ∷ 117 ∷ 114 ∷ 110 ∷ 32 ∷ [] in
       rw (framed-complete start (atom_text a) (59 ∷ []), middle-complete start (atom_text a) (59 ∷ []), atom-complete names a h)
 
-  function-complete : (f : ℕ) → f < 40980 → function_read names (line_text (OpensFunction f)) ≡ line-cases.Read (OpensFunction f)
+  function-complete : (f : ℕ) → f < 40980 → function_read names (line_text (OpensFunction f)) ≡ Some (OpensFunction f)
   unfolding function_read is_prefix
   function-complete f h =
       let start : List ℕ = 105 ∷ 110 ∷ 116 ∷ 32 ∷ 102 ∷ [] in
@@ -160,7 +158,7 @@ module _ (names : Names) where
         number-complete 40980 f h,
       )
 
-  parameters-complete : (f : ℕ) → f < 40980 → function_read names (line_text (OpensParameters f)) ≡ line-cases.Read (OpensParameters f)
+  parameters-complete : (f : ℕ) → f < 40980 → function_read names (line_text (OpensParameters f)) ≡ Some (OpensParameters f)
   unfolding function_read is_prefix
   parameters-complete f h =
       let start : List ℕ = 105 ∷ 110 ∷ 116 ∷ 32 ∷ 102 ∷ [] in
@@ -172,7 +170,7 @@ module _ (names : Names) where
         number-complete 40980 f h,
       )
 
-  parameter-complete : (n : ℕ) → n < names.declared → parameter_read names (line_text (Parameter n)) ≡ line-cases.Read (Parameter n)
+  parameter-complete : (n : ℕ) → n < names.declared → parameter_read names (line_text (Parameter n)) ≡ Some (Parameter n)
   unfolding parameter_read
   parameter-complete n h =
       let start : List ℕ = 105 ∷ 110 ∷ 116 ∷ 32 ∷ 108 ∷ [] in
@@ -183,31 +181,31 @@ module _ (names : Names) where
         number-complete names.declared n h,
       )
 
-  last-parameter-complete : (n : ℕ) → n < names.declared → parameter_read names (line_text (LastParameter n)) ≡ line-cases.Read (LastParameter n)
+  last-parameter-complete : (n : ℕ) → n < names.declared → parameter_read names (line_text (LastParameter n)) ≡ Some (LastParameter n)
   unfolding parameter_read
   last-parameter-complete n h =
       let start : List ℕ = 105 ∷ 110 ∷ 116 ∷ 32 ∷ 108 ∷ [] in
       let end : List ℕ = 41 ∷ 32 ∷ 123 ∷ [] in
       rw (framed-complete start (digits n) end, middle-complete start (digits n) end, number-complete names.declared n h)
 
-  if-complete : (a : PageAtom) → AtomFits names a → test_read names (line_text (If a)) ≡ line-cases.Read (If a)
+  if-complete : (a : PageAtom) → AtomFits names a → test_read names (line_text (If a)) ≡ Some (If a)
   unfolding test_read
   if-complete a h =
       let start : List ℕ = 105 ∷ 102 ∷ 32 ∷ 40 ∷ [] in
       let end : List ℕ = 41 ∷ 32 ∷ 123 ∷ [] in
       rw (framed-complete start (atom_text a) end, middle-complete start (atom_text a) end, atom-complete names a h)
 
-  while-complete : (a : PageAtom) → AtomFits names a → test_read names (line_text (While a)) ≡ line-cases.Read (While a)
+  while-complete : (a : PageAtom) → AtomFits names a → test_read names (line_text (While a)) ≡ Some (While a)
   unfolding test_read is_prefix
   while-complete a h =
       let start : List ℕ = 119 ∷ 104 ∷ 105 ∷ 108 ∷ 101 ∷ 32 ∷ 40 ∷ [] in
       let end : List ℕ = 41 ∷ 32 ∷ 123 ∷ [] in
       rw (not-framed (105 ∷ 102 ∷ 32 ∷ 40 ∷ []) end (line_text (While a)) refl, framed-complete start (atom_text a) end, middle-complete start (atom_text a) end, atom-complete names a h)
 
-  store-complete : (a : PageAtom) (v : Value) → NameFits names a → ValueFits names v → assignment_read names (line_text (Store a v)) ≡ line-cases.Read (Store a v)
+  store-complete : (a : PageAtom) (v : Value) → NameFits names a → ValueFits names v → assignment_read names (line_text (Store a v)) ≡ Some (Store a v)
   store-complete a v h k = assignment-complete (atom_text a) (value_text v) (no_blank a) ∙ rw (no-element names a, name-complete names a h, value-complete names v k)
 
-  put-complete : (array : ℕ) (index a : PageAtom) → ElementFits names array index → AtomFits names a → assignment_read names (line_text (Put array index a)) ≡ line-cases.Read (Put array index a)
+  put-complete : (array : ℕ) (index a : PageAtom) → ElementFits names array index → AtomFits names a → assignment_read names (line_text (Put array index a)) ≡ Some (Put array index a)
   put-complete array index a h k =
       assignment-complete (element_text array index) (atom_text a) (element-free names array index) ∙ rw (element-complete names array index h, value-complete names (Single a) k)
 
@@ -234,7 +232,7 @@ module _ (names : Names) where
   ended-free a ys free = free-append 32 (atom_text a) ys (no_blank a) free
 
   -- What is printed is read.
-  pub line-complete : (line : LineContent) → LineFits names line → line_read names (line_text line) ≡ line-cases.Read line
+  pub line-complete : (line : LineContent) → LineFits names line → line_read names (line_text line) ≡ Some line
   unfolding is_prefix Free
   line-complete Empty h = unfold line_read is_word in refl
   line-complete Opens h = unfold line_read is_word in refl

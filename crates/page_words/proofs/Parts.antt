@@ -1,5 +1,5 @@
 -- Texts by where a separator parts them, or by what stands around them.
-use Rattle.std.specs.Prelude.{◌≡◌, refl, Bool, true, false, ℕ, ◌+◌, ◌-◌, ◌≤◌, ◌<◌, eqb, ltb, take, drop}
+use Rattle.std.specs.Prelude.{◌≡◌, refl, Bool, true, false, ℕ, ◌+◌, ◌-◌, ◌≤◌, ◌<◌, eqb, ltb, take, drop, None}
 use Rattle.std.proofs.Common.{sym, ap, ◌∙◌, arith}
 use Rattle.std.proofs.Math.Path.{ap₂}
 use mathlib.Core.List.{List, [], ◌∷◌}
@@ -11,9 +11,6 @@ use Rattle.text_lines.specs.Reader.{piece_end}
 use Rattle.page_words.specs.Compare.{is_prefix, is_word, is_framed, middle}
 use Rattle.page_words.specs.Reads.{number_read, atom_read, name_of, element_of, element_in, element_read, operator_read, binary_of, binary_read, several_read, single_read, value_read, assignment_of, argument_read, assignment_read}
 use Rattle.page_words.specs.declared.Names.{Names}
-use Rattle.page_words.specs.declared.ElementRead.TheVariants as element-cases
-use Rattle.page_words.specs.declared.ValueRead.TheVariants as value-cases
-use Rattle.page_words.specs.declared.LineRead.TheVariants as line-cases
 
 -- ---- whole words, and frames
 
@@ -62,7 +59,7 @@ module _ (names : Names) where
     is : end ≡ piece_end 91 inner
     is = piece_is 91 inner end e
 
-    pub element-unparted : end ≡ length inner → element-cases.Malformed ≡ element_in names inner
+    pub element-unparted : end ≡ length inner → None ≡ element_in names inner
     unfolding element_in
     element-unparted h = rw (eq-eqb (piece_end 91 inner) (length inner) (sym is ∙ h))
 
@@ -77,7 +74,7 @@ module _ (names : Names) where
     at : end ≡ piece_end 32 rest
     at = piece_is 32 rest end e
 
-    pub binary-unparted : end ≡ length rest → value-cases.Malformed ≡ binary_read names first rest
+    pub binary-unparted : end ≡ length rest → None ≡ binary_read names first rest
     unfolding binary_read
     binary-unparted h = rw (eq-eqb (piece_end 32 rest) (length rest) (sym at ∙ h))
 

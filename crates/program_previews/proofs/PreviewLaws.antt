@@ -1,5 +1,6 @@
 -- Laws of previews: the tally is 0 exactly where none of the first S words differs; a run gives what was previewed.
-use Rattle.std.specs.Prelude.{◌≡◌, refl, Bool, true, false, ℕ, zero, suc, ◌+◌, ◌≤◌, ◌<◌, ltb, leb, eqb, ℤ, pos, get_or, take}
+use Rattle.std.specs.Prelude.{◌≡◌, refl, Bool, true, false, ℕ, zero, suc, ◌+◌, ◌≤◌, ◌<◌, ltb, leb, eqb, ℤ, pos, get_or, take, Err, Ok, Result}
+use Rattle.words.specs.Refusals.{NumberedRefusal}
 use Rattle.std.proofs.Math.Path.{sym, ap}
 use Rattle.std.proofs.Common.{ap₂, ◌∙◌, subst, arith, add-one, length-append, ext_get_or, take_at, get_or-take, length-take-le, ltb-true, ltb-false, eqb-true, eq-eqb, ne_eqb, le-leb}
 use Rattle.std.proofs.lemmas.Bool.{false≢true, lt-leb}
@@ -13,11 +14,7 @@ use Rattle.words.specs.Layout.{store_words}
 use Rattle.words.specs.StoreLaws.{size-least}
 use Rattle.words.specs.declared.Form.TheVariants.{Source}
 use Rattle.words.specs.declared.Ending.TheVariants.{Spent}
-use Rattle.words.specs.declared.Verdict.{Verdict}
-use Rattle.words.specs.declared.Verdict.TheVariants.{Accepted, Refused}
 use Rattle.words.specs.declared.RunAnswer.{RunAnswer}
-use Rattle.words.specs.declared.RunVerdict.{RunVerdict}
-use Rattle.words.specs.declared.RunVerdict.TheVariants.{Ran, Refused as RunRefused}
 use Rattle.language.specs.Program.{Finished}
 use Rattle.language_programs.specs.Program.{source_size, run_program}
 use Rattle.language_programs.specs.ProgramLaws.{store_length, budget-zero}
@@ -25,8 +22,6 @@ use Rattle.machine.specs.Whole.{finished_of}
 use Rattle.program_runs.specs.Runs.{ran, run_refused, run_after, run_result, refusal_of}
 use Rattle.program_previews.specs.Previews.{one_unless, difference, differences, told_run, tally_of, answer_and_words, preview_refused, preview_of, preview_if, preview_after, preview_of_run, preview_result, accepted_preview, Foretells, NoneIfEqual, RunAsPreviewed}
 use Rattle.program_previews.specs.declared.PreviewAnswer.{PreviewAnswer}
-use Rattle.program_previews.specs.declared.PreviewVerdict.{PreviewVerdict}
-use Rattle.program_previews.specs.declared.PreviewVerdict.TheVariants.{Previewed, Refused as PreviewRefused}
 
 -- ---- the tally
 
@@ -128,7 +123,7 @@ module _ (header rows : List ℤ) (budget : ℕ) (store scratch : List ℤ) wher
 
   -- the copy stands in the scratch, with what stood behind
   pub run-told : length store ≡ store_words Source header rows → store_words Source header rows ≤ length scratch → (preview : PreviewAnswer) (copy : List ℤ)
-      → Foretells (source_size header) (run_program Source header rows budget store) store preview copy → answer_and_words (Previewed preview) store (copy ++ drop (store_words Source header rows) scratch) ≡ accepted_preview header rows budget store scratch
+      → Foretells (source_size header) (run_program Source header rows budget store) store preview copy → answer_and_words (Ok preview) store (copy ++ drop (store_words Source header rows) scratch) ≡ accepted_preview header rows budget store scratch
   unfolding over
   run-told same room preview copy f =
       let left = run_program Source header rows budget store in
@@ -136,46 +131,46 @@ module _ (header rows : List ℤ) (budget : ℕ) (store scratch : List ℤ) wher
       let long : length left.store ≡ store_words Source header rows = store_length Source header rows store budget ∙ same in
       let words : copy ++ drop (store_words Source header rows) scratch ≡ over left.store scratch =
       ap (λ (l : List ℤ). l ++ drop (store_words Source header rows) scratch) f.holds ∙ ap (λ (n : ℕ). left.store ++ drop n scratch) (sym long) in
-      ap (λ (p : PreviewAnswer). answer_and_words (Previewed p) store (copy ++ drop (store_words Source header rows) scratch)) f.told
-      ∙ ap (λ (l : List ℤ). answer_and_words (Previewed (preview_of run (differences (source_size header) store left.store))) store l) words
+      ap (λ (p : PreviewAnswer). answer_and_words (Ok p) store (copy ++ drop (store_words Source header rows) scratch)) f.told
+      ∙ ap (λ (l : List ℤ). answer_and_words (Ok (preview_of run (differences (source_size header) store left.store))) store l) words
       ∙ sym (run-previewed same ∙ ap (λ (b : Bool). preview_if b run (source_size header) left.store store scratch) (le-leb (store_words Source header rows) (length scratch) room))
 
 -- ---- a run gives what was previewed
 
-abbrev has_run : RunVerdict → Bool
-has_run (Ran run) = true
-has_run (RunRefused refusal) = false
+abbrev has_run : Result RunAnswer NumberedRefusal → Bool
+has_run (Ok run) = true
+has_run (Err refusal) = false
 
-abbrev is_told : PreviewVerdict → Bool
-is_told (Previewed preview) = true
-is_told (PreviewRefused refusal) = false
+abbrev is_told : Result PreviewAnswer NumberedRefusal → Bool
+is_told (Ok preview) = true
+is_told (Err refusal) = false
 
 -- a run that was made had a store of the right size, and left one
 record Sized (words : ℕ) (store left : List ℤ) : Type 0 where
   store_long : length store ≡ words
   left_long : length left ≡ words
 
-sized : (header rows : List ℤ) (budget : ℕ) (store : List ℤ) (verdict : Verdict) (run : RunAnswer) → (run_after verdict Source header rows budget store).answer ≡ Ran run
+sized : (header rows : List ℤ) (budget : ℕ) (store : List ℤ) (verdict : Result (Unit {0}) NumberedRefusal) (run : RunAnswer) → (run_after verdict Source header rows budget store).answer ≡ Ok run
     → Sized (store_words Source header rows) store (run_after verdict Source header rows budget store).store
-sized header rows budget store (Refused refusal) run e = absurd (false≢true (ap has_run e))
-sized header rows budget store Accepted run e = by (eqb (length store) (store_words Source header rows)) (eqb-true (length store) (store_words Source header rows)) e
+sized header rows budget store (Err refusal) run e = absurd (false≢true (ap has_run e))
+sized header rows budget store (Ok tt) run e = by (eqb (length store) (store_words Source header rows)) (eqb-true (length store) (store_words Source header rows)) e
   where
     by : (same : Bool) → (same ≡ true → length store ≡ store_words Source header rows)
-        → (pick same (ran (run_program Source header rows budget store)) (run_refused (record { number = 11; place = 0 }) store)).answer ≡ Ran run
+        → (pick same (ran (run_program Source header rows budget store)) (run_refused (record { number = 11; place = 0 }) store)).answer ≡ Ok run
         → Sized (store_words Source header rows) store (pick same (ran (run_program Source header rows budget store)) (run_refused (record { number = 11; place = 0 }) store)).store
     by true equal e = record { store_long = equal refl; left_long = store_length Source header rows store budget ∙ equal refl }
     by false equal e = absurd (false≢true (ap has_run e))
 
 -- the answer, the words and the tally of a run that was previewed
-record Told (answer : RunVerdict) (size words : ℕ) (left store : List ℤ) (preview : PreviewAnswer) (scratch : List ℤ) : Type 0 where
+record Told (answer : Result RunAnswer NumberedRefusal) (size words : ℕ) (left store : List ℤ) (preview : PreviewAnswer) (scratch : List ℤ) : Type 0 where
   told_size : length store ≡ words
   told_room : words ≤ length scratch
-  told_answer : answer ≡ Ran (record { ending = preview.ending; count = preview.count })
+  told_answer : answer ≡ Ok (record { ending = preview.ending; count = preview.count })
   told_words : left ≡ take words scratch
   told_tally : NoneIfEqual (take size store) (take size left) preview.differing
 
 told-if : (room : Bool) (run : RunAnswer) (size words : ℕ) (left store scratch : List ℤ) (preview : PreviewAnswer) → size ≤ words → Sized words store left
-    → (preview_if room run size left store scratch).answer ≡ Previewed preview → Told (Ran run) size words left store preview (preview_if room run size left store scratch).scratch
+    → (preview_if room run size left store scratch).answer ≡ Ok preview → Told (Ok run) size words left store preview (preview_if room run size left store scratch).scratch
 unfolding over
 told-if true run size words left store scratch preview inside s e = record {
   told_size = s.store_long;
@@ -186,13 +181,13 @@ told-if true run size words left store scratch preview inside s e = record {
 }
 told-if false run size words left store scratch preview inside s e = absurd (false≢true (ap is_told e))
 
-told-after : (answer : RunVerdict) (size words : ℕ) (left store scratch : List ℤ) (preview : PreviewAnswer) → size ≤ words → ((run : RunAnswer) → answer ≡ Ran run → Sized words store left)
-    → (preview_after answer size words left store scratch).answer ≡ Previewed preview → Told answer size words left store preview (preview_after answer size words left store scratch).scratch
-told-after (Ran run) size words left store scratch preview inside s e = told-if (leb words (length scratch)) run size words left store scratch preview inside (s run refl) e
-told-after (RunRefused refusal) size words left store scratch preview inside s e = absurd (false≢true (ap is_told e))
+told-after : (answer : Result RunAnswer NumberedRefusal) (size words : ℕ) (left store scratch : List ℤ) (preview : PreviewAnswer) → size ≤ words → ((run : RunAnswer) → answer ≡ Ok run → Sized words store left)
+    → (preview_after answer size words left store scratch).answer ≡ Ok preview → Told answer size words left store preview (preview_after answer size words left store scratch).scratch
+told-after (Ok run) size words left store scratch preview inside s e = told-if (leb words (length scratch)) run size words left store scratch preview inside (s run refl) e
+told-after (Err refusal) size words left store scratch preview inside s e = absurd (false≢true (ap is_told e))
 
 -- A preview that is not refused, then a run of the same program on the same store.
-pub run-as-previewed : (header rows : List ℤ) (budget : ℕ) (store scratch : List ℤ) (preview : PreviewAnswer) → (preview_result header rows budget store scratch).answer ≡ Previewed preview
+pub run-as-previewed : (header rows : List ℤ) (budget : ℕ) (store scratch : List ℤ) (preview : PreviewAnswer) → (preview_result header rows budget store scratch).answer ≡ Ok preview
     → RunAsPreviewed (run_result Source header rows budget store) (source_size header) (store_words Source header rows) store preview (preview_result header rows budget store scratch).scratch
 unfolding preview_result run_result
 run-as-previewed header rows budget store scratch preview e =
@@ -201,12 +196,12 @@ run-as-previewed header rows budget store scratch preview e =
     record { store-size = t.told_size; scratch_room = t.told_room; same_answer = t.told_answer; same_words = t.told_words; tally_right = t.told_tally }
 
 -- "0 gives spent with count 0": with that budget the scratch gets the store as it is, and no word differs.
-pub zero-previewed : (header rows store scratch : List ℤ) → refusal_of Source header rows ≡ Accepted → length store ≡ store_words Source header rows → store_words Source header rows ≤ length scratch
-    → preview_result header rows 0 store scratch ≡ answer_and_words (Previewed (record { ending = Spent; count = 0; differing = 0 })) store (over store scratch)
+pub zero-previewed : (header rows store scratch : List ℤ) → refusal_of Source header rows ≡ (Ok tt) → length store ≡ store_words Source header rows → store_words Source header rows ≤ length scratch
+    → preview_result header rows 0 store scratch ≡ answer_and_words (Ok (record { ending = Spent; count = 0; differing = 0 })) store (over store scratch)
 unfolding preview_result run_result
 zero-previewed header rows store scratch accepted same room =
-    ap (λ (v : Verdict). preview_of_run (run_after v Source header rows 0 store) (source_size header) (store_words Source header rows) store scratch) accepted
+    ap (λ (v : Result (Unit {0}) NumberedRefusal). preview_of_run (run_after v Source header rows 0 store) (source_size header) (store_words Source header rows) store scratch) accepted
     ∙ run-previewed header rows 0 store scratch same
     ∙ ap (λ (f : Finished). preview_of_run (ran f) (source_size header) (store_words Source header rows) store scratch) (budget-zero Source header rows store)
     ∙ ap (λ (b : Bool). preview_if b (record { ending = Spent; count = 0 }) (source_size header) store store scratch) (le-leb (store_words Source header rows) (length scratch) room)
-    ∙ ap (λ (n : ℕ). answer_and_words (Previewed (record { ending = Spent; count = 0; differing = n })) store (over store scratch)) (differences-same (source_size header) store)
+    ∙ ap (λ (n : ℕ). answer_and_words (Ok (record { ending = Spent; count = 0; differing = n })) store (over store scratch)) (differences-same (source_size header) store)

@@ -1,21 +1,16 @@
 -- Previews: what a preview answers, and what it leaves in the store and in the scratch.
-use Rattle.std.specs.Prelude.{◌≡◌, Bool, true, false, List, ℕ, zero, suc, ◌+◌, ◌≤◌, leb, ℤ, pos, length, get_or, take}
+use Rattle.std.specs.Prelude.{◌≡◌, Bool, true, false, List, ℕ, zero, suc, ◌+◌, ◌≤◌, leb, ℤ, pos, length, get_or, take, Err, Ok, Result}
 use Rattle.words.specs.Word.{same_word}
 use Rattle.words.specs.Over.{over}
 use Rattle.words.specs.Numbers.{Numbers, run_numbers}
 use Rattle.words.specs.Layout.{store_words}
 use Rattle.words.specs.declared.Form.TheVariants.{Source}
-use Rattle.words.specs.declared.Refusal.{Refusal}
-use Rattle.words.specs.declared.Verdict.TheVariants.{Accepted}
+use Rattle.words.specs.Refusals.{NumberedRefusal}
 use Rattle.words.specs.declared.RunAnswer.{RunAnswer}
-use Rattle.words.specs.declared.RunVerdict.{RunVerdict}
-use Rattle.words.specs.declared.RunVerdict.TheVariants.{Ran, Refused as RunRefused}
 use Rattle.language.specs.Program.{Finished}
 use Rattle.program_runs.specs.Runs.{RunResult, run_after, run_result}
 use Rattle.program_previews.specs.declared.PreviewAnswer.{PreviewAnswer}
-use Rattle.program_previews.specs.declared.PreviewVerdict.{PreviewVerdict}
 use Rattle.language_programs.specs.Program.{source_size}
-use Rattle.program_previews.specs.declared.PreviewVerdict.TheVariants.{Previewed, Refused as PreviewRefused}
 
 -- 1 for two words that differ, 0 for equal ones.
 abbrev pub one_unless : Bool → ℕ
@@ -31,24 +26,24 @@ differences zero before after = 0
 differences (suc n) before after = differences n before after + difference (get_or before n (pos 0)) (get_or after n (pos 0))
 
 -- The run's answer that a preview tells, and the tally beside it: 0 with a refusal.
-abbrev pub told_run : PreviewVerdict → RunVerdict
-told_run (Previewed preview) = Ran (record { ending = preview.ending; count = preview.count })
-told_run (PreviewRefused refusal) = RunRefused refusal
+abbrev pub told_run : Result PreviewAnswer NumberedRefusal → Result RunAnswer NumberedRefusal
+told_run (Ok preview) = Ok (record { ending = preview.ending; count = preview.count })
+told_run (Err refusal) = Err refusal
 
-abbrev pub tally_of : PreviewVerdict → ℕ
-tally_of (Previewed preview) = preview.differing
-tally_of (PreviewRefused refusal) = 0
+abbrev pub tally_of : Result PreviewAnswer NumberedRefusal → ℕ
+tally_of (Ok preview) = preview.differing
+tally_of (Err refusal) = 0
 
 -- What a preview gives: its answer, that answer in numbers, and the words that it leaves.
 pub record PreviewResult : Type 0 where
-  pub answer : PreviewVerdict
+  pub answer : Result PreviewAnswer NumberedRefusal
   pub numbers : Numbers
   pub tally : ℕ
   pub store : List ℤ
   pub scratch : List ℤ
 
 -- An answer and the words that it leaves.
-abbrev pub answer_and_words : PreviewVerdict → List ℤ → List ℤ → PreviewResult
+abbrev pub answer_and_words : Result PreviewAnswer NumberedRefusal → List ℤ → List ℤ → PreviewResult
 answer_and_words answer store scratch = record {
   answer = answer;
   numbers = run_numbers (told_run answer);
@@ -58,8 +53,8 @@ answer_and_words answer store scratch = record {
 }
 
 -- "A refusal changes no word of the scratch."
-abbrev pub preview_refused : Refusal → List ℤ → List ℤ → PreviewResult
-preview_refused refusal store scratch = answer_and_words (PreviewRefused refusal) store scratch
+abbrev pub preview_refused : NumberedRefusal → List ℤ → List ℤ → PreviewResult
+preview_refused refusal store scratch = answer_and_words (Err refusal) store scratch
 
 -- "The ending, the count and how many store words would differ".
 abbrev pub preview_of : RunAnswer → ℕ → PreviewAnswer
@@ -68,13 +63,13 @@ preview_of run tally = record { ending = run.ending; count = run.count; differin
 -- "Leaves the would-be store in the first S words of the scratch. The rest of the scratch and the store keep their content. .. Shorter
 -- scratch gets 15, place 0." With Change 11 it "needs and gets all S+D words; its tally of differences" is "over the first S".
 abbrev pub preview_if : Bool → RunAnswer → (size : ℕ) → List ℤ → List ℤ → List ℤ → PreviewResult
-preview_if true run size left store scratch = answer_and_words (Previewed (preview_of run (differences size store left))) store (over left scratch)
+preview_if true run size left store scratch = answer_and_words (Ok (preview_of run (differences size store left))) store (over left scratch)
 preview_if false run size left store scratch = preview_refused (record { number = 15; place = 0 }) store scratch
 
 -- "After all other causes".
-abbrev pub preview_after : RunVerdict → (size words : ℕ) → List ℤ → List ℤ → List ℤ → PreviewResult
-preview_after (RunRefused refusal) size words left store scratch = preview_refused refusal store scratch
-preview_after (Ran run) size words left store scratch = preview_if (leb words (length scratch)) run size left store scratch
+abbrev pub preview_after : Result RunAnswer NumberedRefusal → (size words : ℕ) → List ℤ → List ℤ → List ℤ → PreviewResult
+preview_after (Err refusal) size words left store scratch = preview_refused refusal store scratch
+preview_after (Ok run) size words left store scratch = preview_if (leb words (length scratch)) run size left store scratch
 
 -- The preview of a run: what it leaves goes into the scratch, in place of the store.
 abbrev pub preview_of_run : RunResult → (size words : ℕ) → List ℤ → List ℤ → PreviewResult
@@ -86,7 +81,7 @@ preview_result header rows budget store scratch = preview_of_run (run_result Sou
 
 -- The same of an accepted program.
 abbrev pub accepted_preview : List ℤ → List ℤ → ℕ → List ℤ → List ℤ → PreviewResult
-accepted_preview header rows budget store scratch = preview_of_run (run_after Accepted Source header rows budget store) (source_size header) (store_words Source header rows) store scratch
+accepted_preview header rows budget store scratch = preview_of_run (run_after (Ok tt) Source header rows budget store) (source_size header) (store_words Source header rows) store scratch
 
 -- A run was made on a copy of the store: its answer with the tally, and what the copy holds.
 pub record Foretells (size : ℕ) (finished : Finished) (store : List ℤ) (preview : PreviewAnswer) (copy : List ℤ) : Type 0 where
@@ -103,6 +98,6 @@ pub record NoneIfEqual (before after : List ℤ) (tally : ℕ) : Type 0 where
 pub record RunAsPreviewed (run : RunResult) (size words : ℕ) (store : List ℤ) (preview : PreviewAnswer) (scratch : List ℤ) : Type 0 where
   pub store-size : length store ≡ words
   pub scratch_room : words ≤ length scratch
-  pub same_answer : run.answer ≡ Ran (record { ending = preview.ending; count = preview.count })
+  pub same_answer : run.answer ≡ Ok (record { ending = preview.ending; count = preview.count })
   pub same_words : run.store ≡ take words scratch
   pub tally_right : NoneIfEqual (take size store) (take size run.store) preview.differing

@@ -4,14 +4,13 @@
 ghost use Rattle.std.specs.Prelude.{◌≡◌, ◌≤◌, length};
 ghost use Rattle.words.specs.Layout.{store_words};
 ghost use Rattle.words.specs.declared.Form.TheVariants.{Source};
-ghost use Rattle.words.specs.declared.Verdict.TheVariants.{Accepted};
 ghost use Rattle.language_programs.specs.Program.{source_size, run_program};
 ghost use Rattle.program_runs.specs.Runs.{refusal_of};
 ghost use Rattle.program_previews.specs.Previews.{difference, differences, answer_and_words, preview_result, accepted_preview, Foretells};
 
 use program_runs::{check, run_accepted};
 use words::layout::{store_size, store_words};
-use words::{Ending, Form, Refusal, Verdict};
+use words::{Cause, Ending, Form, Refusal};
 use words_copying::put;
 
 // "The ending, the count and how many store words would differ".
@@ -20,13 +19,6 @@ pub struct PreviewAnswer {
     pub ending: Ending,
     pub count: u32,
     pub differing: usize,
-}
-
-// What a preview answers.
-#[derive(Clone, Copy)]
-pub enum PreviewVerdict {
-    Previewed(PreviewAnswer),
-    Refused(Refusal),
 }
 
 // 1 for two words that differ, 0 for equal ones.
@@ -59,17 +51,16 @@ fn preview_on_copy(
     budget: u32,
     copy: &mut [i32],
 ) -> PreviewAnswer
-    requires rows_value { refusal_of Source header.now rows.now ≡ Accepted }
+    requires rows_value { refusal_of Source header.now rows.now ≡ (Ok tt) }
     requires store_len { length store.now ≡ store_words Source header.now rows.now }
     requires copy_len { length copy.old ≡ store_words Source header.now rows.now }
     ensures { Foretells (source_size header.now) (run_program Source header.now rows.now budget store.now) store.now result copy.new }
 {
     put(store, copy);
     let run = run_accepted(Form::Source, header, rows, copy, budget);
-    let ending = run.ending;
     let size = store_size(Form::Source, header);
     PreviewAnswer {
-        ending,
+        ending: run.ending,
         count: run.count,
         differing: count_differences(size, store, copy),
     }
@@ -82,24 +73,24 @@ fn preview_accepted(
     store: &[i32],
     budget: u32,
     scratch: &mut [i32],
-) -> PreviewVerdict
-    requires { refusal_of Source header.now rows.now ≡ Accepted }
+) -> Result<PreviewAnswer, Refusal>
+    requires { refusal_of Source header.now rows.now ≡ (Ok tt) }
     ensures { answer_and_words result store.now scratch.new ≡ accepted_preview header.now rows.now budget store.now scratch.old }
 {
     let words = store_words(Form::Source, header, rows);
     if store.len() != words {
-        return PreviewVerdict::Refused(Refusal {
-            number: 11,
+        return Err(Refusal {
+            cause: Cause::StoreSize,
             place: 0,
         });
     }
     if scratch.len() < words {
-        return PreviewVerdict::Refused(Refusal {
-            number: 15,
+        return Err(Refusal {
+            cause: Cause::ScratchSize,
             place: 0,
         });
     }
-    PreviewVerdict::Previewed(preview_on_copy(header, rows, store, budget, &mut scratch[..words]))
+    Ok(preview_on_copy(header, rows, store, budget, &mut scratch[..words]))
 }
 
 // Tells what a run of a source program on the store would do: the answer of that run, how many of the first S words would differ, and in the
@@ -110,12 +101,9 @@ pub fn preview(
     store: &[i32],
     budget: u32,
     scratch: &mut [i32],
-) -> PreviewVerdict
+) -> Result<PreviewAnswer, Refusal>
     ensures { answer_and_words result store.now scratch.new ≡ preview_result header.now rows.now budget store.now scratch.old }
 {
-    let verdict = check(header, rows);
-    match verdict {
-        Verdict::Accepted => preview_accepted(header, rows, store, budget, scratch),
-        Verdict::Refused(refusal) => PreviewVerdict::Refused(refusal),
-    }
+    check(header, rows)?;
+    preview_accepted(header, rows, store, budget, scratch)
 }

@@ -1,13 +1,10 @@
 -- Laws of acceptance: what the checks answer of the legal programs and of no others.
-use Rattle.std.specs.Prelude.{◌≡◌, refl, Bool, true, false, List, ℕ, ◌≤◌, ℤ}
+use Rattle.std.specs.Prelude.{◌≡◌, refl, Bool, true, false, List, ℕ, ◌≤◌, ℤ, Err, None, Ok, Option, Result, Some}
+use Rattle.words.specs.Refusals.{NumberedRefusal}
 use Rattle.std.proofs.Common.{sym, ap, ◌∙◌, arith}
 use Rattle.words.specs.Numbers.{verdict_numbers}
 use Rattle.words.specs.declared.Form.{Form}
 use Rattle.words.specs.declared.Form.TheVariants.{Source, Kernel}
-use Rattle.words.specs.declared.Verdict.{Verdict}
-use Rattle.words.specs.declared.Verdict.TheVariants.{Accepted, Refused}
-use Rattle.words.specs.declared.Found.{Found}
-use Rattle.words.specs.declared.Found.TheVariants.{At, Nothing}
 use Rattle.check_structure.specs.Refusal.{at, unless, ◌next◌, row_causes, structural_refusal}
 use Rattle.check_declaration_causes.specs.Causes.{declaration_refusal}
 use Rattle.check_function_causes.specs.Causes.{function_refusal}
@@ -19,24 +16,24 @@ use Rattle.program_runs.specs.Acceptance.{AcceptsLegal, NoCauseIfLegal}
 use Rattle.program_runs.specs.Runs.{refusal_of}
 
 -- Whatever the check refuses has a cause.
-abbrev Caused : Verdict → Type 0
-Caused Accepted = Unit {0}
-Caused (Refused refusal) = 1 ≤ refusal.number
+abbrev Caused : Result (Unit {0}) NumberedRefusal → Type 0
+Caused (Ok tt) = Unit {0}
+Caused (Err refusal) = 1 ≤ refusal.number
 
-at-caused : (cause : ℕ) (found : Found) → 1 ≤ cause → Caused (at cause found)
+at-caused : (cause : ℕ) (found : Option ℕ) → 1 ≤ cause → Caused (at cause found)
 unfolding at
-at-caused cause (At row) h = h
-at-caused cause Nothing h = tt
+at-caused cause (Some row) h = h
+at-caused cause None h = tt
 
 unless-caused : (test : Bool) (cause : ℕ) → 1 ≤ cause → Caused (unless test cause)
 unfolding unless
 unless-caused true cause h = tt
 unless-caused false cause h = h
 
-next-caused : (first rest : Verdict) → Caused first → Caused rest → Caused (first next rest)
+next-caused : (first rest : Result (Unit {0}) NumberedRefusal) → Caused first → Caused rest → Caused (first next rest)
 unfolding ◌next◌
-next-caused Accepted rest f r = r
-next-caused (Refused refusal) rest f r = f
+next-caused (Ok tt) rest f r = r
+next-caused (Err refusal) rest f r = f
 
 structural-caused : (form : Form) (header rows : List ℤ) → Caused (structural_refusal form header rows)
 unfolding structural_refusal row_causes
@@ -60,11 +57,11 @@ refusal-caused Kernel header rows =
     (next-caused _ _ (next-caused _ _ (at-caused 9 _ (omega arith)) (next-caused _ _ (at-caused 12 _ (omega arith)) (at-caused 13 _ (omega arith))))
     (next-caused _ _ (at-caused 19 _ (omega arith)) (function-caused rows))))
 
-no-cause-accepted : (verdict : Verdict) → Caused verdict → (verdict_numbers verdict).cause ≡ 0 → verdict ≡ Accepted
-no-cause-accepted Accepted h e = refl
-no-cause-accepted (Refused refusal) h e = absurd (omega (arith, h, e))
+no-cause-accepted : (verdict : Result (Unit {0}) NumberedRefusal) → Caused verdict → (verdict_numbers verdict).cause ≡ 0 → verdict ≡ (Ok tt)
+no-cause-accepted (Ok tt) h e = refl
+no-cause-accepted (Err refusal) h e = absurd (omega (arith, h, e))
 
-pub check-accepts-legal : (form : Form) (header rows : List ℤ) (verdict : Verdict) → verdict ≡ refusal_of form header rows → AcceptsLegal form header rows verdict
+pub check-accepts-legal : (form : Form) (header rows : List ℤ) (verdict : Result (Unit {0}) NumberedRefusal) → verdict ≡ refusal_of form header rows → AcceptsLegal form header rows verdict
 check-accepts-legal Source header rows verdict told = record {
   legal_accepted = λ legal. told ∙ (source-accepts header rows).1 legal;
   no_others = λ accepted. (source-accepts header rows).0 (sym told ∙ accepted);
@@ -77,7 +74,7 @@ check-accepts-legal Kernel header rows verdict told = record {
 -- The cause of the check's answer.
 pub check-no-cause-if-legal : (form : Form) (header rows : List ℤ) → NoCauseIfLegal form header rows (verdict_numbers (refusal_of form header rows)).cause
 check-no-cause-if-legal form header rows = record {
-  legal_no_cause = λ legal. ap (λ (v : Verdict). (verdict_numbers v).cause) (accepts.legal_accepted legal);
+  legal_no_cause = λ legal. ap (λ (v : Result (Unit {0}) NumberedRefusal). (verdict_numbers v).cause) (accepts.legal_accepted legal);
   no_cause_legal = λ none. accepts.no_others (no-cause-accepted (refusal_of form header rows) (refusal-caused form header rows) none);
 }
   where

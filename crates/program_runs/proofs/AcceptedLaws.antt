@@ -1,5 +1,5 @@
 -- Laws of accepted programs, of both forms: what the entries need to hand them on to the machine.
-use Rattle.std.specs.Prelude.{◌≡◌, true, ℕ, ◌+◌, ◌≤◌, ◌<◌, ℤ, length}
+use Rattle.std.specs.Prelude.{◌≡◌, true, ℕ, ◌+◌, ◌≤◌, ◌<◌, ℤ, length, Ok}
 use Rattle.std.proofs.Common.{sym, ◌∙◌, arith}
 use Rattle.std.proofs.Math.Path.{ap}
 use mathlib.Core.List.{List}
@@ -10,7 +10,6 @@ use Rattle.words.specs.Laws.{header_fits-facts, count_fits-facts, row_limit-most
 use Rattle.words.specs.StoreLaws.{source-store, source-small, kernel-small}
 use Rattle.words.specs.declared.Form.{Form}
 use Rattle.words.specs.declared.Form.TheVariants.{Source, Kernel}
-use Rattle.words.specs.declared.Verdict.TheVariants.{Accepted}
 use Rattle.language.specs.Program.{run_table}
 use Rattle.check_fields.specs.Fields.{bounds_of}
 use Rattle.check_structure.specs.Structured.{Structured}
@@ -35,23 +34,23 @@ use Rattle.accepted.proofs.Resolved.{table-functions, table-few, table-sound}
 use Rattle.machine.specs.Whole.{Runnable}
 use Rattle.program_runs.specs.Runs.{refusal_of}
 
-accepted-structured : (form : Form) (header rows : List ℤ) → refusal_of form header rows ≡ Accepted → (header_fits form header ≡ true) × Structured form (bounds_of form header) rows
+accepted-structured : (form : Form) (header rows : List ℤ) → refusal_of form header rows ≡ (Ok tt) → (header_fits form header ≡ true) × Structured form (bounds_of form header) rows
 accepted-structured Source header rows e = let legal = (source-accepts header rows).0 e in (legal.header-fits, legal.structured)
 accepted-structured Kernel header rows e = let legal = (kernel-accepts header rows).0 e in (legal.header-fits, legal.structured)
 
 -- "At most 64" parameters: in the source they count with the declarations, in the kernel each of a function's has a word of its own.
-accepted-few : (form : Form) (header rows : List ℤ) → refusal_of form header rows ≡ Accepted → FunctionTable rows → FewParameters rows
+accepted-few : (form : Form) (header rows : List ℤ) → refusal_of form header rows ≡ (Ok tt) → FunctionTable rows → FewParameters rows
 accepted-few Source header rows e table = few_declared rows table (legal-declarations header rows ((source-accepts header rows).0 e))
 accepted-few Kernel header rows e table =
     let legal = (kernel-accepts header rows).0 e in
     few-worded rows table (store_size (layout_of Kernel header)) (declared_of Kernel header) legal.not_twice (parameter-words header rows legal table)
     (header_fits-facts Kernel header legal.header-fits).few_declared
 
-accepted-called : (form : Form) (header rows : List ℤ) → refusal_of form header rows ≡ Accepted → WellCalled rows
+accepted-called : (form : Form) (header rows : List ℤ) → refusal_of form header rows ≡ (Ok tt) → WellCalled rows
 accepted-called Source header rows e = ((source-accepts header rows).0 e).well_called
 accepted-called Kernel header rows e = ((kernel-accepts header rows).0 e).well_called
 
-module _ (form : Form) (header rows : List ℤ) (accepted : refusal_of form header rows ≡ Accepted) where
+module _ (form : Form) (header rows : List ℤ) (accepted : refusal_of form header rows ≡ (Ok tt)) where
   -- its functions and calls
   accepted-functions : FunctionTable rows
   accepted-functions = function-table form (bounds_of form header) rows (accepted-structured form header rows accepted).1 (accepted-called form header rows accepted)
@@ -83,7 +82,7 @@ resolved-calls header rows legal = sound-calls (resolved_rows Source header rows
 
 -- The machine may walk the resolved table, wherever it stands, and its run is the program's.
 module _ (header rows table : List ℤ) (is : table ≡ resolved_rows Source header rows) where
-  pub table-runnable : refusal_of Source header rows ≡ Accepted → (store : List ℤ) → length store ≡ store_words Source header rows → Runnable Source header table store
+  pub table-runnable : refusal_of Source header rows ≡ (Ok tt) → (store : List ℤ) → length store ≡ store_words Source header rows → Runnable Source header table store
   table-runnable accepted store size = record {
     fits = accepted-header Source header rows accepted;
     sound = rw (is, size, source-store header rows) (table-sound header rows ((source-accepts header rows).0 accepted));
@@ -92,7 +91,7 @@ module _ (header rows table : List ℤ) (is : table ≡ resolved_rows Source hea
     few_rows = omega (arith, ap length is, resolved-length (store_size (layout_of Source header)) rows, accepted-words header rows accepted);
   }
 
-  pub table-rows : refusal_of Source header rows ≡ Accepted → row_count table ≤ 2048
+  pub table-rows : refusal_of Source header rows ≡ (Ok tt) → row_count table ≤ 2048
   table-rows accepted = omega (arith, ap length is, resolved-length (store_size (layout_of Source header)) rows, accepted-words header rows accepted)
 
   pub table-run : (budget : ℕ) (store : List ℤ) → run_table Source header table budget store ≡ run_program Source header rows budget store
@@ -100,17 +99,17 @@ module _ (header rows table : List ℤ) (is : table ≡ resolved_rows Source hea
   table-run budget store = ap (λ (rows : List ℤ). run_table Source header rows budget store) is
 
 -- With a store of S words there are no declarations: the rows are their own resolved table.
-pub undeclared-store : (header rows : List ℤ) → refusal_of Source header rows ≡ Accepted → (words : ℕ) → words ≡ store_words Source header rows → words ≡ store_size (layout_of Source header)
+pub undeclared-store : (header rows : List ℤ) → refusal_of Source header rows ≡ (Ok tt) → (words : ℕ) → words ≡ store_words Source header rows → words ≡ store_size (layout_of Source header)
     → rows ≡ resolved_rows Source header rows
 undeclared-store header rows accepted words all first = sym (undeclared-table header rows accepted (omega (arith, all, first, source-store header rows)))
 
 -- "There are D of them, at most 64."
-pub accepted-declarations : (header rows : List ℤ) → refusal_of Source header rows ≡ Accepted → declaration_count rows ≤ declaration_limit
+pub accepted-declarations : (header rows : List ℤ) → refusal_of Source header rows ≡ (Ok tt) → declaration_count rows ≤ declaration_limit
 accepted-declarations header rows e = legal-declarations header rows ((source-accepts header rows).0 e)
 
-pub source_words : (header rows : List ℤ) → refusal_of Source header rows ≡ Accepted → store_words Source header rows ≤ 8256
+pub source_words : (header rows : List ℤ) → refusal_of Source header rows ≡ (Ok tt) → store_words Source header rows ≤ 8256
 source_words header rows e =
     omega (arith, source-small header rows (accepted-header Source header rows e), accepted-declarations header rows e)
 
-pub kernel_words : (header rows : List ℤ) → refusal_of Kernel header rows ≡ Accepted → header_store Kernel header ≤ 16448
+pub kernel_words : (header rows : List ℤ) → refusal_of Kernel header rows ≡ (Ok tt) → header_store Kernel header ≤ 16448
 kernel_words header rows e = kernel-small header (accepted-header Kernel header rows e)

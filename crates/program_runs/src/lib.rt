@@ -5,7 +5,6 @@ ghost use Rattle.std.specs.Prelude.{◌≡◌, length};
 ghost use Rattle.words.specs.Layout.{store_words};
 ghost use Rattle.words.specs.Numbers.{verdict_numbers};
 ghost use Rattle.words.specs.declared.Form.TheVariants.{Source, Kernel};
-ghost use Rattle.words.specs.declared.Verdict.TheVariants.{Accepted};
 ghost use Rattle.language_programs.specs.Program.{run_program};
 ghost use Rattle.machine.specs.Whole.{finished_of};
 ghost use Rattle.program_runs.specs.Acceptance.{AcceptsLegal, NoCauseIfLegal};
@@ -14,11 +13,11 @@ ghost use Rattle.program_runs.specs.Runs.{refusal_of, run_result, run_after, ans
 use accepted_rows::resolve_accepted;
 use machine::whole::{run_kernel_table, run_source_table};
 use words::layout::{store_size, store_words};
-use words::{Form, Refusal, RunAnswer, RunVerdict, Verdict};
+use words::{Cause, Form, Refusal, RunAnswer};
 
 // The check of source programs. The second promise is demand 2: the legal programs are accepted, and no others. The third says so in
 // numbers: they alone have cause 0.
-pub fn check(header: &[i32], rows: &[i32]) -> Verdict
+pub fn check(header: &[i32], rows: &[i32]) -> Result<(), Refusal>
     ensures value { result ≡ refusal_of Source header.now rows.now }
     ensures accepts_legal { AcceptsLegal Source header.now rows.now result }
     ensures no_cause_if_legal { NoCauseIfLegal Source header.now rows.now (verdict_numbers result).cause }
@@ -27,7 +26,7 @@ pub fn check(header: &[i32], rows: &[i32]) -> Verdict
 }
 
 // The check of kernel programs, with the same three promises.
-pub fn kernel_check(header: &[i32], rows: &[i32]) -> Verdict
+pub fn kernel_check(header: &[i32], rows: &[i32]) -> Result<(), Refusal>
     ensures value { result ≡ refusal_of Kernel header.now rows.now }
     ensures accepts_legal { AcceptsLegal Kernel header.now rows.now result }
     ensures no_cause_if_legal { NoCauseIfLegal Kernel header.now rows.now (verdict_numbers result).cause }
@@ -37,7 +36,7 @@ pub fn kernel_check(header: &[i32], rows: &[i32]) -> Verdict
 
 // Runs an accepted source program: the machine walks its resolved table, which stands in this frame alone.
 fn run_resolved(header: &[i32], rows: &[i32], store: &mut [i32], budget: u32) -> RunAnswer
-    requires rows_value { refusal_of Source header.now rows.now ≡ Accepted }
+    requires rows_value { refusal_of Source header.now rows.now ≡ (Ok tt) }
     requires store_len { length store.old ≡ store_words Source header.now rows.now }
     ensures { finished_of result store.new ≡ run_program Source header.now rows.now budget store.old }
 {
@@ -49,7 +48,7 @@ fn run_resolved(header: &[i32], rows: &[i32], store: &mut [i32], budget: u32) ->
 
 // The same. A store of S words is that of a program without declarations, which is its own resolved table.
 fn run_source(header: &[i32], rows: &[i32], store: &mut [i32], budget: u32) -> RunAnswer
-    requires rows_value { refusal_of Source header.now rows.now ≡ Accepted }
+    requires rows_value { refusal_of Source header.now rows.now ≡ (Ok tt) }
     requires store_len { length store.old ≡ store_words Source header.now rows.now }
     ensures { finished_of result store.new ≡ run_program Source header.now rows.now budget store.old }
 {
@@ -61,7 +60,7 @@ fn run_source(header: &[i32], rows: &[i32], store: &mut [i32], budget: u32) -> R
 
 // Runs an accepted kernel program. Its callers are many, so that the largest room of a run stands in this frame and not in theirs.
 pub fn run_kernel(header: &[i32], rows: &[i32], store: &mut [i32], budget: u32) -> RunAnswer
-    requires rows_value { refusal_of Kernel header.now rows.now ≡ Accepted }
+    requires rows_value { refusal_of Kernel header.now rows.now ≡ (Ok tt) }
     requires store_len { length store.old ≡ store_words Kernel header.now rows.now }
     ensures { finished_of result store.new ≡ run_program Kernel header.now rows.now budget store.old }
 {
@@ -76,7 +75,7 @@ pub fn run_accepted(
     store: &mut [i32],
     budget: u32,
 ) -> RunAnswer
-    requires rows_value { refusal_of form header.now rows.now ≡ Accepted }
+    requires rows_value { refusal_of form header.now rows.now ≡ (Ok tt) }
     requires store_len { length store.old ≡ store_words form header.now rows.now }
     ensures { finished_of result store.new ≡ run_program form header.now rows.now budget store.old }
 {
@@ -93,37 +92,41 @@ fn run_on_store(
     rows: &[i32],
     store: &mut [i32],
     budget: u32,
-) -> RunVerdict
-    requires { refusal_of form header.now rows.now ≡ Accepted }
-    ensures { answer_and_store result store.new ≡ run_after Accepted form header.now rows.now budget store.old }
+) -> Result<RunAnswer, Refusal>
+    requires { refusal_of form header.now rows.now ≡ (Ok tt) }
+    ensures { answer_and_store result store.new ≡ run_after (Ok tt) form header.now rows.now budget store.old }
 {
     if store.len() != store_words(form, header, rows) {
-        return RunVerdict::Refused(Refusal {
-            number: 11,
+        return Err(Refusal {
+            cause: Cause::StoreSize,
             place: 0,
         });
     }
-    RunVerdict::Ran(run_accepted(form, header, rows, store, budget))
+    Ok(run_accepted(form, header, rows, store, budget))
 }
 
 // Runs a source program on the store: "How a run goes".
-pub fn run(header: &[i32], rows: &[i32], store: &mut [i32], budget: u32) -> RunVerdict
+pub fn run(
+    header: &[i32],
+    rows: &[i32],
+    store: &mut [i32],
+    budget: u32,
+) -> Result<RunAnswer, Refusal>
     ensures { answer_and_store result store.new ≡ run_result Source header.now rows.now budget store.old }
 {
-    let verdict = check(header, rows);
-    match verdict {
-        Verdict::Accepted => run_on_store(Form::Source, header, rows, store, budget),
-        Verdict::Refused(refusal) => RunVerdict::Refused(refusal),
-    }
+    check(header, rows)?;
+    run_on_store(Form::Source, header, rows, store, budget)
 }
 
 // Runs a kernel program on the store.
-pub fn kernel_run(header: &[i32], rows: &[i32], store: &mut [i32], budget: u32) -> RunVerdict
+pub fn kernel_run(
+    header: &[i32],
+    rows: &[i32],
+    store: &mut [i32],
+    budget: u32,
+) -> Result<RunAnswer, Refusal>
     ensures { answer_and_store result store.new ≡ run_result Kernel header.now rows.now budget store.old }
 {
-    let verdict = kernel_check(header, rows);
-    match verdict {
-        Verdict::Accepted => run_on_store(Form::Kernel, header, rows, store, budget),
-        Verdict::Refused(refusal) => RunVerdict::Refused(refusal),
-    }
+    kernel_check(header, rows)?;
+    run_on_store(Form::Kernel, header, rows, store, budget)
 }

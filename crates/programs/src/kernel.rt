@@ -1,7 +1,6 @@
 // The translation of a case's program: its legality, its text, and its run.
 ghost use Rattle.std.specs.Prelude.{◌≡◌, ◌≤◌, length};
 ghost use Rattle.words.specs.declared.Form.TheVariants.{Kernel};
-ghost use Rattle.words.specs.declared.Verdict.TheVariants.{Accepted};
 ghost use Rattle.program_runs.specs.Runs.{refusal_of};
 
 use cases::lines::print_kernel_run;
@@ -10,29 +9,9 @@ use clight::texts::{read_kernel, write_kernel};
 use clight::translate::translate;
 use console::write_all;
 use std::io;
-use text_form::{ReadAnswer, WriteAnswer};
-use translator::TranslateAnswer;
 use words::layout::{header_store, store_size};
-use words::{Ending, Form, RunAnswer, RunVerdict, Verdict};
+use words::{Ending, Form, RunAnswer};
 use words_copying::put;
-
-fn print(rt: &impl Print, text: &[u8]) -> io::Result<()> {
-    write_all(rt, text)
-}
-
-fn is_same(left: &[i32], right: &[i32]) -> bool {
-    if left.len() != right.len() {
-        return false;
-    }
-    let mut i: usize = 0;
-    while i < left.len() {
-        if left[i] != right[i] {
-            return false;
-        }
-        i += 1;
-    }
-    true
-}
 
 // Reads the text back, and says so where it gives other words.
 fn compare_text(
@@ -44,14 +23,11 @@ fn compare_text(
 ) -> io::Result<()> {
     let mut read_header = [0i32; 35];
     let answer = read_kernel(text, &mut read_header, read_rows);
-    let ReadAnswer::Read(header_words, row_words) = answer else {
-        return print(rt, b"unequal\n");
+    let Ok((header_words, row_words)) = answer else {
+        return write_all(rt, b"unequal\n");
     };
-    if !is_same(header, &read_header[..header_words]) {
-        return print(rt, b"unequal\n");
-    }
-    if !is_same(rows, &read_rows[..row_words]) {
-        return print(rt, b"unequal\n");
+    if header != &read_header[..header_words] || rows != &read_rows[..row_words] {
+        return write_all(rt, b"unequal\n");
     }
     Ok(())
 }
@@ -66,8 +42,8 @@ fn try_text(
 ) -> io::Result<()> {
     let answer = write_kernel(header, rows, text);
     match answer {
-        WriteAnswer::Refused(_) => print(rt, b"unwritten\n"),
-        WriteAnswer::Written(n) => compare_text(rt, header, rows, &text[..n], read_rows),
+        Err(_) => write_all(rt, b"unwritten\n"),
+        Ok(n) => compare_text(rt, header, rows, &text[..n], read_rows),
     }
 }
 
@@ -76,10 +52,7 @@ fn enough(rows: usize, count: u32) -> u32
     requires { rows ≤ 40980 }
 {
     let steps = rows as u64 * count as u64;
-    if steps > 4294967295 {
-        return 4294967295;
-    }
-    steps as u32
+    u32::try_from(steps).unwrap_or(u32::MAX)
 }
 
 // Runs a kernel program on the store, of S+D+T words, whose first S+D are the source's start words, and prints the first `shown` words: S.
@@ -95,16 +68,13 @@ fn run_from(
     requires { (shown ≤ 8256) × (shown ≤ length store.old) }
 {
     if store.len() < start.len() {
-        return print(rt, b"kernel-refused\n");
+        return write_all(rt, b"kernel-refused\n");
     }
     put(start, store);
     let verdict = kernel_run(header, rows, store, budget);
     match verdict {
-        RunVerdict::Refused(_) => print(rt, b"kernel-refused\n"),
-        RunVerdict::Ran(answer) => {
-            let ending = answer.ending;
-            print_kernel_run(rt, ending, &store[..shown])
-        }
+        Err(_) => write_all(rt, b"kernel-refused\n"),
+        Ok(answer) => { print_kernel_run(rt, answer.ending, &store[..shown]) }
     }
 }
 
@@ -117,7 +87,7 @@ fn run_translation(
     start: &[i32],
     count: u32,
 ) -> io::Result<()>
-    requires { refusal_of Kernel header.now rows.now ≡ Accepted }
+    requires { refusal_of Kernel header.now rows.now ≡ (Ok tt) }
 {
     let mut store = [1234567891i32; 16448];
     let words = header_store(Form::Kernel, header);
@@ -143,14 +113,14 @@ fn answer_legal(
     text: &mut [u8],
     read_rows: &mut [i32],
 ) -> io::Result<()>
-    requires { refusal_of Kernel header.now rows.now ≡ Accepted }
+    requires { refusal_of Kernel header.now rows.now ≡ (Ok tt) }
 {
     try_text(rt, header, rows, text, read_rows)?;
-    let ending = source.ending;
-    match ending {
+    match source.ending {
         Ending::Spent => Ok(()),
-        Ending::Plain => run_translation(rt, header, rows, start, source.count),
-        Ending::Fault(_) => run_translation(rt, header, rows, start, source.count),
+        Ending::Plain | Ending::Fault(_) => {
+            run_translation(rt, header, rows, start, source.count)
+        }
     }
 }
 
@@ -165,8 +135,8 @@ fn answer_kernel(
 ) -> io::Result<()> {
     let verdict = kernel_check(header, rows);
     match verdict {
-        Verdict::Refused(_) => print(rt, b"illegal\n"),
-        Verdict::Accepted => answer_legal(rt, header, rows, start, source, text, read_rows),
+        Err(_) => write_all(rt, b"illegal\n"),
+        Ok(()) => answer_legal(rt, header, rows, start, source, text, read_rows),
     }
 }
 
@@ -184,8 +154,8 @@ pub fn answer_translation(
     let mut kernel_header = [0i32; 35];
     let answer = translate(header, rows, &mut kernel_header, kernel_rows);
     match answer {
-        TranslateAnswer::Refused(_) => print(rt, b"untranslated\n"),
-        TranslateAnswer::Translated(header_words, row_words) => answer_kernel(
+        Err(_) => write_all(rt, b"untranslated\n"),
+        Ok((header_words, row_words)) => answer_kernel(
             rt,
             &kernel_header[..header_words],
             &kernel_rows[..row_words],

@@ -12,7 +12,7 @@ mod stream; // stream.rt: where the cases stand in the input
 ghost use Rattle.std.specs.Prelude.{◌≡◌, ◌≤◌, IfOk, length};
 
 use self::source::answer_text;
-use self::stream::{Found, find_case, keep_rest};
+use self::stream::{find_case, keep_rest};
 use console::{read_full, write_all};
 use std::io;
 
@@ -27,7 +27,7 @@ fn answer_case(
     ensures { IfOk result (λ used. used ≤ length input.now) }
 {
     let found = find_case(input);
-    let Found::Whole(case) = found else {
+    let Some(case) = found else {
         return Ok(0);
     };
     let words = case.words;
@@ -56,6 +56,7 @@ fn answer_cases(
     ensures { IfOk result (λ used. used ≤ length input.now) }
 {
     let mut at: usize = 0;
+    // Kept as a while: the step is the length of what was read.
     while at < input.len() {
         let used = answer_case(rt, &input[at..], kernel_rows, text, read_rows)?;
         if used == 0 {
@@ -89,8 +90,7 @@ fn answer_buffer(
     Ok(kept + read_full(rt, &mut buffer[kept..])?)
 }
 
-// Answers all cases of the input. Nothing says that the input ends, so the loop counts its turns down, from a number that no run
-// uses up.
+// Answers all cases of the input. Nothing says that the input ends, so the loop has a number of turns that no run uses up.
 fn answer_input(
     rt: &(impl Input + Print),
     buffer: &mut [u8],
@@ -99,13 +99,11 @@ fn answer_input(
     read_rows: &mut [i32],
 ) -> io::Result<()> {
     let mut filled = read_full(rt, buffer)?;
-    let mut turns = u64::MAX;
-    while turns > 0 {
+    for _turn in 0..u64::MAX {
         if filled == 0 {
             return Ok(());
         }
         filled = answer_buffer(rt, buffer, filled, kernel_rows, text, read_rows)?;
-        turns -= 1;
     }
     Ok(())
 }

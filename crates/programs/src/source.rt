@@ -1,7 +1,6 @@
 // A case's program: read, checked and run. What it gives is printed, then its translation is tried.
 ghost use Rattle.std.specs.Prelude.{◌≡◌, ◌≤◌, length};
 ghost use Rattle.words.specs.declared.Form.TheVariants.{Source};
-ghost use Rattle.words.specs.declared.Verdict.TheVariants.{Accepted};
 ghost use Rattle.program_runs.specs.Runs.{refusal_of};
 
 use super::kernel::answer_translation;
@@ -10,9 +9,8 @@ use cases::start::start_words;
 use clight::runs::{check, run};
 use clight::texts::read_source;
 use std::io;
-use text_form::ReadAnswer;
+use words::Form;
 use words::layout::{store_size, store_words};
-use words::{Form, RunVerdict, Verdict};
 use write_sets_entry::count_of;
 
 // Puts the start words of a case, each behind a tab, into the store, and answers how many they are; without words the store has
@@ -31,10 +29,7 @@ fn start_size(words: &[u8], size: usize, store: &mut [i32]) -> usize
 fn shown_of(size: usize, n: usize) -> usize
     ensures { result ≤ n }
 {
-    if size > n {
-        return n;
-    }
-    size
+    size.min(n)
 }
 
 // Runs a program on the store, which holds the start words, and prints the first `shown` words, then runs its translation from the start
@@ -55,8 +50,8 @@ fn answer_run(
 {
     let verdict = run(header, rows, store, budget);
     match verdict {
-        RunVerdict::Refused(refusal) => print_refusal(rt, refusal),
-        RunVerdict::Ran(answer) => {
+        Err(refusal) => print_refusal(rt, refusal),
+        Ok(answer) => {
             let ending = answer.ending;
             let written = count_of(header, rows);
             print_source_run(rt, ending, answer.count, &store[..shown], written)?;
@@ -85,7 +80,7 @@ fn answer_accepted(
     text: &mut [u8],
     read_rows: &mut [i32],
 ) -> io::Result<()>
-    requires { refusal_of Source header.now rows.now ≡ Accepted }
+    requires { refusal_of Source header.now rows.now ≡ (Ok tt) }
 {
     let mut start = [0i32; 8256];
     let n = start_size(words, store_words(Form::Source, header, rows), &mut start);
@@ -117,8 +112,8 @@ fn answer_program(
 ) -> io::Result<()> {
     let verdict = check(header, rows);
     match verdict {
-        Verdict::Refused(refusal) => print_refusal(rt, refusal),
-        Verdict::Accepted => answer_accepted(
+        Err(refusal) => print_refusal(rt, refusal),
+        Ok(()) => answer_accepted(
             rt,
             header,
             rows,
@@ -146,8 +141,8 @@ pub fn answer_text(
     let mut rows = [0i32; 12288];
     let answer = read_source(source, &mut header, &mut rows);
     match answer {
-        ReadAnswer::Refused(refusal) => print_refusal(rt, refusal),
-        ReadAnswer::Read(header_words, row_words) => answer_program(
+        Err(refusal) => print_refusal(rt, refusal),
+        Ok((header_words, row_words)) => answer_program(
             rt,
             &header[..header_words],
             &rows[..row_words],

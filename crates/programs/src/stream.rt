@@ -4,11 +4,11 @@ ghost use Rattle.std.specs.Prelude.{◌≤◌, ◌<◌, length};
 ghost use Rattle.programs.specs.Cases.{Inside};
 
 use text_lines::line::piece_end;
-use text_numbers::number::{Digits, natural_of};
+use text_numbers::number::natural_of;
 
 // A case at the start of the input: its budget, where its start words begin, each behind a tab, where its line ends, and where its
 // text ends.
-#[derive(Clone, Copy)]
+#[derive(Clone, Copy, PartialEq, Eq)]
 pub struct Case {
     pub budget: u32,
     pub words: usize,
@@ -16,61 +16,44 @@ pub struct Case {
     pub end: usize,
 }
 
-// What stands at the start of the input: a whole case, or none.
-#[derive(Clone, Copy)]
-pub enum Found {
-    Whole(Case),
-    Nothing,
-}
-
 // The case whose line ends at `line` and whose start words begin at `words`, where its text of so many bytes is whole.
-fn case_of(input: &[u8], budget: u32, words: usize, line: usize, bytes: u32) -> Found
+fn case_of(input: &[u8], budget: u32, words: usize, line: usize, bytes: u32) -> Option<Case>
     requires { (words ≤ line) × (line < length input.now) }
     ensures { Inside result input.now }
 {
     let text = line + 1;
     let size = bytes as usize;
     if input.len() - text < size {
-        return Found::Nothing;
+        return None;
     }
-    Found::Whole(Case {
-        budget: budget,
-        words: words,
-        line: line,
+    Some(Case {
+        budget,
+        words,
+        line,
         end: text + size,
     })
 }
 
-pub fn find_case(input: &[u8]) -> Found
+pub fn find_case(input: &[u8]) -> Option<Case>
     ensures { Inside result input.now }
 {
     let line = piece_end(input, 0, b'\n');
     if line >= input.len() {
-        return Found::Nothing;
+        return None;
     }
     let first = piece_end(&input[..line], 0, b'\t');
     if first >= line {
-        return Found::Nothing;
+        return None;
     }
     let second = piece_end(&input[..line], first + 1, b'\t');
-    let budget = natural_of(&input[..first], 4294967295);
-    let Digits::Value(steps) = budget else {
-        return Found::Nothing;
-    };
-    let length = natural_of(&input[first + 1..second], 4294967295);
-    let Digits::Value(bytes) = length else {
-        return Found::Nothing;
-    };
-    case_of(input, steps, second, line, bytes)
+    let budget = natural_of(&input[..first], u32::MAX)?;
+    let bytes = natural_of(&input[first + 1..second], u32::MAX)?;
+    case_of(input, budget, second, line, bytes)
 }
 
 // Moves the bytes from `from` to `end` to the start of the buffer.
 pub fn keep_rest(buffer: &mut [u8], from: usize, end: usize)
     requires { (from ≤ end) × (end ≤ length buffer.old) }
 {
-    let mut at = from;
-    while at < end {
-        buffer[at - from] = buffer[at];
-        at += 1;
-    }
+    buffer.copy_within(from..end, 0);
 }

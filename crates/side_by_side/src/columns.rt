@@ -16,20 +16,16 @@ fn print_byte(rt: &impl Print, byte: u8) -> io::Result<()> {
 }
 
 fn print_bytes(rt: &impl Print, bytes: &[u8]) -> io::Result<()> {
-    let mut i: usize = 0;
-    while i < bytes.len() {
-        print_byte(rt, bytes[i])?;
-        i += 1;
+    for &byte in bytes {
+        print_byte(rt, byte)?;
     }
     Ok(())
 }
 
 // Blanks from column `from` up to column `to`.
 fn print_gap(rt: &impl Print, from: usize, to: usize) -> io::Result<()> {
-    let mut column = from;
-    while column < to {
+    for _ in from..to {
         write_all(rt, b" ")?;
-        column += 1;
     }
     Ok(())
 }
@@ -53,6 +49,7 @@ fn print_line(rt: &impl Print, text: &[u8], at: usize, width: usize) -> io::Resu
 pub fn print_columns(rt: &impl Print, left: &[u8], right: &[u8]) -> io::Result<()> {
     let mut at: usize = 0;
     let mut beside: usize = 0;
+    // Kept as a while: the steps are the lengths of the lines printed.
     while at < left.len() || beside < right.len() {
         at = print_line(rt, left, at, COLUMN)?;
         beside = print_line(rt, right, beside, 0)?;

@@ -8,9 +8,6 @@ use clight::runs::{kernel_run, run};
 use clight::texts::{read_source, write_kernel};
 use clight::translate::translate;
 use std::io;
-use text_form::{ReadAnswer, WriteAnswer};
-use translator::TranslateAnswer;
-use words::RunVerdict;
 use words::table::natural;
 use words_copying::put;
 use write_sets_entry::count_of;
@@ -59,8 +56,8 @@ fn show_source_run(
 {
     let verdict = run(header, rows, store, BUDGET);
     match verdict {
-        RunVerdict::Refused(refusal) => print_refusal(rt, refusal),
-        RunVerdict::Ran(answer) => {
+        Err(refusal) => print_refusal(rt, refusal),
+        Ok(answer) => {
             let ending = answer.ending;
             let written = count_of(header, rows);
             print_source_run(rt, ending, answer.count, &store[..shown], written)
@@ -80,8 +77,8 @@ fn show_kernel_run(
 {
     let verdict = kernel_run(header, rows, store, BUDGET);
     match verdict {
-        RunVerdict::Refused(refusal) => print_refusal(rt, refusal),
-        RunVerdict::Ran(answer) => {
+        Err(refusal) => print_refusal(rt, refusal),
+        Ok(answer) => {
             let ending = answer.ending;
             print_kernel_run(rt, ending, &store[..shown])
         }
@@ -127,8 +124,8 @@ fn show_tables(
     let mut kernel = [0u8; 65536];
     let answer = write_kernel(kernel_header, kernel_rows, &mut kernel);
     match answer {
-        WriteAnswer::Refused(refusal) => print_refusal(rt, refusal),
-        WriteAnswer::Written(n) => {
+        Err(refusal) => print_refusal(rt, refusal),
+        Ok(n) => {
             print_columns(rt, b"source", b"kernel")?;
             print_columns(rt, text, &kernel[..n])
         }
@@ -160,8 +157,8 @@ fn show_program(
     let mut kernel_rows = [0i32; 15480];
     let answer = translate(header, rows, &mut kernel_header, &mut kernel_rows);
     match answer {
-        TranslateAnswer::Refused(refusal) => print_refusal(rt, refusal),
-        TranslateAnswer::Translated(header_words, row_words) => show_forms(
+        Err(refusal) => print_refusal(rt, refusal),
+        Ok((header_words, row_words)) => show_forms(
             rt,
             line,
             text,
@@ -179,8 +176,8 @@ pub fn show_text(rt: &impl Print, line: &[u8], text: &[u8]) -> io::Result<()> {
     let mut rows = [0i32; 768];
     let answer = read_source(text, &mut header, &mut rows);
     match answer {
-        ReadAnswer::Refused(refusal) => print_refusal(rt, refusal),
-        ReadAnswer::Read(header_words, row_words) => show_program(
+        Err(refusal) => print_refusal(rt, refusal),
+        Ok((header_words, row_words)) => show_program(
             rt,
             line,
             text,

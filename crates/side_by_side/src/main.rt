@@ -35,6 +35,7 @@ fn show_rule(rt: &impl Print, rule: &[u8]) -> io::Result<()> {
 
 fn show_rules(rt: &impl Print, input: &[u8]) -> io::Result<()> {
     let mut at: usize = 0;
+    // Kept as a while: the step is the length of what was read.
     while at < input.len() {
         let end = piece_end(input, at + 1, b'#');
         show_rule(rt, &input[at..end])?;

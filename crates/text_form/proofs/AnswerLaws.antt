@@ -1,14 +1,11 @@
 -- Laws of answers: what is known where the reader accepted a text, or the writer a header and rows.
-use Rattle.std.specs.Prelude.{◌≡◌, Bool, true, false, ◌&&◌, List, [], ◌∷◌, ℕ, ◌≤◌, leb, ℤ, take}
+use Rattle.std.specs.Prelude.{◌≡◌, Bool, true, false, ◌&&◌, List, [], ◌∷◌, ℕ, ◌≤◌, leb, ℤ, take, Ok, None, Option, Some}
 use Rattle.std.proofs.Math.Path.{refl}
 use Rattle.std.proofs.Common.{sym, ap, arith}
-use Rattle.std.proofs.Math.Option.{Option, none, some}
 use Rattle.std.proofs.Math.ListN.{length}
 use borrow.Author.Tests.{leb-true, le-leb}
 use Rattle.words.specs.Layout.{header_fits, count_fits}
 use Rattle.words.specs.declared.Form.{Form}
-use Rattle.text_form.specs.declared.ReadAnswer.TheVariants.{Read}
-use Rattle.text_form.specs.declared.WriteAnswer.TheVariants.{Written}
 use Rattle.text_form.specs.Text.{text_bytes, Parsed, parsed, malformed, Program, parse}
 use Rattle.words.specs.Over.{over}
 use Rattle.words.specs.Laws.{by_cases}
@@ -19,10 +16,10 @@ use Rattle.text_form.specs.Passing.{Passes}
 
 -- ---- the causes
 
-some-none : {G : Type 0} {number : ℕ} → some number ≡ none → G
+some-none : {G : Type 0} {number : ℕ} → Some number ≡ None → G
 some-none {number = number} e = absurd (let z : ◌≡◌ {A = ℕ} 0 1 = cc in omega arith)
 
-pub cause-none : (form : Form) (header : List ℤ) (row_words : ℕ) (room : Bool) → cause_of form header row_words room ≡ none → Passes form header row_words
+pub cause-none : (form : Form) (header : List ℤ) (row_words : ℕ) (room : Bool) → cause_of form header row_words room ≡ None → Passes form header row_words
 unfolding cause_of cause_unless
 cause-none form header row_words room e =
     by_cases (header_fits form header)
@@ -31,11 +28,11 @@ cause-none form header row_words room e =
     (λ c. some-none (rw (h, c) at e)))
     (λ h. some-none (rw h at e))
 
-pub passes-cause : (form : Form) (header : List ℤ) (row_words : ℕ) (room : Bool) → Passes form header row_words → room ≡ true → cause_of form header row_words room ≡ none
+pub passes-cause : (form : Form) (header : List ℤ) (row_words : ℕ) (room : Bool) → Passes form header row_words → room ≡ true → cause_of form header row_words room ≡ None
 unfolding cause_of cause_unless
 passes-cause form header row_words room p r = rw (p.header-fits, p.count-fits, r)
 
-pub cause-room : (form : Form) (header : List ℤ) (row_words : ℕ) (room : Bool) → cause_of form header row_words room ≡ none → room ≡ true
+pub cause-room : (form : Form) (header : List ℤ) (row_words : ℕ) (room : Bool) → cause_of form header row_words room ≡ None → room ≡ true
 unfolding cause_of cause_unless
 cause-room form header row_words true e = refl
 cause-room form header row_words false e =
@@ -83,8 +80,8 @@ module _ (form : Form) (text : List ℕ) (header rows : List ℤ) (headerWords r
       → read_result form text header rows ≡ read_program cause program header rows
       → (read_program cause program header rows).outcome ≡ finished (headerWords ∷ row_words ∷ []) → Accepted form text header rows headerWords row_words
   unfolding read_program read_refused
-  accepted-program (some number) program e c s f = refused-finished f
-  accepted-program none program e c s f =
+  accepted-program (Some number) program e c s f = refused-finished f
+  accepted-program None program e c s f =
       let first : length program.header ≡ headerWords = cc in
       let second : length program.rows ≡ row_words = cc in
       let room = both_hold (length program.header) (length header) (length program.rows) (length rows) (cause-room form program.header (length program.rows) _ c) in
@@ -112,7 +109,7 @@ module _ (form : Form) (text : List ℕ) (header rows : List ℤ) (headerWords r
   accepted f = accepted-parsed (parse form text) refl f
 
   -- of an answer of the reader, and the tables that it left
-  pub read-accepted : (headerLeft rows_left : List ℤ) → Reads (read_result form text header rows) (Read headerWords row_words) headerLeft rows_left → Accepted form text header rows headerWords row_words
+  pub read-accepted : (headerLeft rows_left : List ℤ) → Reads (read_result form text header rows) (Ok (headerWords, row_words)) headerLeft rows_left → Accepted form text header rows headerWords row_words
   read-accepted headerLeft rows_left r = accepted (sym r.outcome)
 
 -- ---- a header and rows that were written
@@ -129,8 +126,8 @@ module _ (form : Form) (header rows : List ℤ) (buffer : List ℕ) (bytes : ℕ
       → write_result form header rows buffer ≡ write_bytes cause (text_bytes header rows) buffer
       → (write_bytes cause (text_bytes header rows) buffer).outcome ≡ finished (bytes ∷ []) → WrittenText form header rows buffer bytes
   unfolding write_bytes
-  written-by (some number) c s f = refused-finished f
-  written-by none c s f =
+  written-by (Some number) c s f = refused-finished f
+  written-by None c s f =
       let same : length (text_bytes header rows) ≡ bytes = cc in
       record {
         passes = cause-none form header (length rows) _ c;
@@ -144,5 +141,5 @@ module _ (form : Form) (header rows : List ℤ) (buffer : List ℕ) (bytes : ℕ
   written f = written-by _ refl refl f
 
   -- of an answer of the writer, and the buffer that it left
-  pub write-written : (left : List ℕ) → Writes (write_result form header rows buffer) (Written bytes) left → WrittenText form header rows buffer bytes
+  pub write-written : (left : List ℕ) → Writes (write_result form header rows buffer) (Ok bytes) left → WrittenText form header rows buffer bytes
   write-written left w = written (sym w.outcome)

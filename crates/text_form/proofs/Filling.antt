@@ -1,7 +1,7 @@
 -- The walk over the lines of the rows that stores their words: those that were read stand at the start of the table.
+use Rattle.std.specs.Prelude.{Some}
 use mathlib.Core.Path.{◌≡◌, sym, ap, ◌∙◌}
 use mathlib.Core.List.{List, ◌++◌}
-use mathlib.Core.Option.{some}
 use Prim.Native.Nat.{ℕ, ◌+◌, ◌*◌, ◌-◌, ◌≤◌, ◌<◌}
 use native.Mathlib.Nat.{mul-zero}
 use native.Mathlib.Omega.{arith}
@@ -43,7 +43,7 @@ fewer before (parsed others) words e =
 pub record NextRow (width : ℕ) (text : List ℕ) (at end : ℕ) : Type 0 where
   pub inside : end < length text
   pub row : List ℤ
-  pub is : row_line width (ended (take (end - at) (drop at text))) ≡ some row
+  pub is : row_line width (ended (take (end - at) (drop at text))) ≡ Some row
 
 module _ {width : ℕ} {text : List ℕ} {at count : ℕ} {table written : List ℤ} (f : Filled width text at count table written) where
   pub filled-length : length written ≡ length table

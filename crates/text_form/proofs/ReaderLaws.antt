@@ -1,7 +1,9 @@
 -- ReaderLaws: the lines of a well-formed text, as the functions that store their numbers are lent them.
-use Rattle.std.specs.Prelude.{◌≡◌, true, List, ℕ, ◌+◌, ◌-◌, ◌≤◌, ℤ, length, take, drop}
-use Rattle.std.proofs.Common.{sym, arith}
-use Rattle.std.proofs.Math.Option.{Option, some}
+use Rattle.std.specs.Prelude.{◌≡◌, refl, true, List, ℕ, ◌+◌, ◌-◌, ◌≤◌, ℤ, length, take, drop, Option, None, Some, Result, Ok, Err, MatchResult}
+use Rattle.std.specs.Option.{ok_or}
+use Rattle.std.specs.Result.{IsErrAnd}
+use Rattle.words.specs.Refusals.{NumberedRefusal}
+use Rattle.std.proofs.Common.{sym, ap, ◌∙◌, arith}
 use Rattle.words.specs.declared.Form.{Form}
 use Rattle.text_lines.specs.Line.{lines_of, fields_of, numbers_of}
 use Rattle.text_form.specs.Text.{parsed, rows_from}
@@ -23,7 +25,7 @@ module _ {read : Option (List ℤ)} {numbers : ℕ} (h : HoldsExactly read numbe
 -- ---- the lines of a well-formed text, as their readers are lent them
 
 module _ {width : ℕ} {form : Form} {text : List ℕ} {end numbers words : ℕ} (l : HasLines width form text end numbers words) where
-  pub lent-line : numbers_of (fields_of (take (end - 0) text)) ≡ some l.program.header
+  pub lent-line : numbers_of (fields_of (take (end - 0) text)) ≡ Some l.program.header
   lent-line = rw (first_of text end) l.first-line
 
   lent_rows : rows_from width 2 (lines_of (take (length text - (end + 1)) (drop (end + 1) text))) ≡ parsed l.program.rows
@@ -46,3 +48,23 @@ module _ {width : ℕ} {form : Form} {text : List ℕ} {end numbers words : ℕ}
 
   pub rows_written : (rows written : List ℤ) → written ≡ over (words_in (rows_from width 2 (lines_of (take (length text - (end + 1)) (drop (end + 1) text))))) rows → written ≡ over l.program.rows rows
   rows_written rows written e = rw lent_rows at e
+
+-- ---- what `?`, `ok_or` and `map_err` hand on
+
+pub err-is : {T E : Type 0} (r : Result T E) (e : E) → IsErrAnd r (λ d. d ≡ e) → r ≡ Err e
+err-is (Ok x) e h = absurd h
+err-is (Err d) e h = ap Err h
+
+pub ok_or-err : {T : Type 0} (o : Option T) (r : Result T ℕ) (d e : ℕ) → r ≡ ok_or o d → r ≡ Err e → (o ≡ None) × (e ≡ d)
+ok_or-err None r d e h f = (refl, (let same : ◌≡◌ {A = Result _ ℕ} (Err d) (Err e) = sym h ∙ f in cc))
+ok_or-err (Some x) r d e h f = absurd (let same : Ok x ≡ Err e = sym h ∙ f in let z : ◌≡◌ {A = ℕ} 0 1 = cc in omega arith)
+
+pub mapped-ok : {T D E : Type 0} (r : Result T E) (m : Result T D) (P : E → D → Type 0) (x : T) → MatchResult r (λ y. m ≡ Ok y) (λ e. IsErrAnd m (P e)) → m ≡ Ok x → r ≡ Ok x
+mapped-ok (Ok y) m P x h f = let same : ◌≡◌ {A = Result _ _} (Ok y) (Ok x) = sym h ∙ f in (let k : y ≡ x = cc in ap Ok k)
+mapped-ok (Err e) m P x h f = absurd (rw f at h)
+
+pub mapped-malformed : {T : Type 0} (r : Result T ℕ) (m : Result T NumberedRefusal) (P : ℕ → NumberedRefusal → Type 0) (d : NumberedRefusal)
+    → MatchResult r (λ y. m ≡ Ok y) (λ e. IsErrAnd m (P e)) → m ≡ Err d → ((e : ℕ) (f : NumberedRefusal) → P e f → f ≡ record { number = 14; place = e })
+    → (line : ℕ) × (r ≡ Err line) × (d ≡ record { number = 14; place = line })
+mapped-malformed (Ok y) m P d h f g = absurd (let same : Ok y ≡ Err d = sym h ∙ f in let z : ◌≡◌ {A = ℕ} 0 1 = cc in omega arith)
+mapped-malformed (Err e) m P d h f g = (e, refl, g e d (rw f at h))

@@ -1,8 +1,8 @@
 -- Whole texts: the ways that reading one can go, by its first line and its rows.
+use Rattle.std.specs.Prelude.{Err, Ok, None, Option, Some}
 use mathlib.Core.Path.{◌≡◌, refl, sym, ap, ◌∙◌}
 use mathlib.Core.Bool.{Bool, true, false}
 use mathlib.Core.List.{List, []}
-use mathlib.Core.Option.{Option, none, some}
 use Prim.Native.Nat.{ℕ, ◌+◌, ◌-◌, ◌≤◌, ◌<◌}
 use native.Mathlib.Omega.{arith}
 use lib.Dec.{leb, ltb}
@@ -12,7 +12,6 @@ use borrow.Author.Tests.{leb-true, le-leb, lt-leb, ltb-true, ltb-false}
 use Rattle.words.specs.Layout.{leading, header_fits, count_fits}
 use Rattle.words.specs.Laws.{by_cases, leading-limits}
 use Rattle.words.specs.declared.Form.{Form}
-use Rattle.text_form.specs.declared.ReadAnswer.TheVariants.{Read, Refused}
 use Rattle.text_lines.specs.Line.{ended, unended, lines_of, fields_of, numbers_of, line_numbers}
 use Rattle.text_form.specs.Text.{keep, header_sized, header_line, Parsed, parsed, malformed, rows_from, with_header, program_of, parse_table, parse}
 use Rattle.words.specs.Over.{over}
@@ -42,11 +41,11 @@ words-parsed (malformed line) count e = not-parsed (sym e)
 
 -- ---- the shape of a text
 
-header-unended : (form : Form) (line : List ℕ) → header_line form (unended line) ≡ none
+header-unended : (form : Form) (line : List ℕ) → header_line form (unended line) ≡ None
 unfolding header_line line_numbers keep
 header-unended form line = refl
 
-with_none : (others : Parsed (List ℤ)) → with_header none others ≡ malformed 1
+with_none : (others : Parsed (List ℤ)) → with_header None others ≡ malformed 1
 unfolding with_header
 with_none others = refl
 
@@ -68,7 +67,7 @@ module _ (width : ℕ) (form : Form) {text : List ℕ} {end : ℕ} (p : Piece 10
     unfolding parse_table
     first = ap (program_of width form) (lines_step p h) ∙ program-first width form _ _
 
-    pub shape-bad : header_line form (ended (take (end - 0) text)) ≡ none → parse_table width form text ≡ malformed 1
+    pub shape-bad : header_line form (ended (take (end - 0) text)) ≡ None → parse_table width form text ≡ malformed 1
     shape-bad e = first ∙ rw e (with_none _)
 
     module _ {numbers : ℕ} (s : Sized (header_line form (ended (take (end - 0) text))) numbers) where
@@ -107,7 +106,7 @@ rows_behind width text k said e = rw (rest_of text k) at e
 
 -- ---- what a reader leaves
 
-pub cause-some : (form : Form) (header : List ℤ) (words number : ℕ) (room : Bool) → cause_of form header words true ≡ some number → cause_of form header words room ≡ some number
+pub cause-some : (form : Form) (header : List ℤ) (words number : ℕ) (room : Bool) → cause_of form header words true ≡ Some number → cause_of form header words room ≡ Some number
 unfolding cause_of cause_unless
 cause-some form header words number room e =
     by_cases (header_fits form header)
@@ -116,7 +115,7 @@ cause-some form header words number room e =
     (λ c. rw (h, c) (rw (h, c) at e)))
     (λ h. rw h (rw h at e))
 
-pub cause-short : (form : Form) (header : List ℤ) (words : ℕ) → cause_of form header words true ≡ none → cause_of form header words false ≡ some 10
+pub cause-short : (form : Form) (header : List ℤ) (words : ℕ) → cause_of form header words true ≡ None → cause_of form header words false ≡ Some 10
 unfolding cause_of cause_unless
 cause-short form header words e =
     by_cases (header_fits form header)
@@ -126,49 +125,49 @@ cause-short form header words e =
     (λ h. not_some (sym (rw h at e)))
 
 pub reads-malformed : (form : Form) (text : List ℕ) (header rows : List ℤ) (line : ℕ) → parse form text ≡ malformed line
-    → Reads (read_result form text header rows) (Refused (record { number = 14; place = line })) header rows
+    → Reads (read_result form text header rows) (Err (record { number = 14; place = line })) header rows
 unfolding read_result read_parsed read_refused
 reads-malformed form text header rows line e = rw e (record { outcome = refl; header_left = refl; rows-left = refl })
 
 -- 10 comes after the other causes
 cause-by : (form : Form) (header : List ℤ) (words : ℕ) (room : Bool) (before : Option ℕ) → cause_of form header words true ≡ before → cause_of form header words room ≡ or_short before room
 unfolding or_short cause_unless
-cause-by form header words room (some number) e = cause-some form header words number room e
-cause-by form header words true none e = e
-cause-by form header words false none e = cause-short form header words e
+cause-by form header words room (Some number) e = cause-some form header words number room e
+cause-by form header words true None e = e
+cause-by form header words false None e = cause-short form header words e
 
 module _ {width : ℕ} {form : Form} {text : List ℕ} {end numbers words : ℕ} (l : HasLines width form text end numbers words) (header rows : List ℤ) where
   read_is : (before : Option ℕ) → read_by before (parse_table width form text) header rows ≡ read_program (or_short before (tables_hold l.program header rows)) l.program header rows
   unfolding read_by
   read_is before = rw l.parses
 
-  refuses : (before : Option ℕ) (number : ℕ) → or_short before (tables_hold l.program header rows) ≡ some number
-      → Reads (read_by before (parse_table width form text) header rows) (Refused (record { number = number; place = 0 })) header rows
+  refuses : (before : Option ℕ) (number : ℕ) → or_short before (tables_hold l.program header rows) ≡ Some number
+      → Reads (read_by before (parse_table width form text) header rows) (Err (record { number = number; place = 0 })) header rows
   unfolding read_program read_refused
   refuses before number e = rw (read_is before, e) (record { outcome = refl; header_left = refl; rows-left = refl })
 
-  pub reads-cause : (before : Option ℕ) (number : ℕ) → before ≡ some number → Reads (read_by before (parse_table width form text) header rows) (Refused (record { number = number; place = 0 })) header rows
+  pub reads-cause : (before : Option ℕ) (number : ℕ) → before ≡ Some number → Reads (read_by before (parse_table width form text) header rows) (Err (record { number = number; place = 0 })) header rows
   unfolding or_short
   reads-cause before number e = refuses before number (rw e)
 
-  module _ {before : Option ℕ} (passes : before ≡ none) where
-    short : tables_hold l.program header rows ≡ false → Reads (read_by before (parse_table width form text) header rows) (Refused (record { number = 10; place = 0 })) header rows
+  module _ {before : Option ℕ} (passes : before ≡ None) where
+    short : tables_hold l.program header rows ≡ false → Reads (read_by before (parse_table width form text) header rows) (Err (record { number = 10; place = 0 })) header rows
     unfolding or_short cause_unless
     short t = refuses before 10 (rw (passes, t))
 
-    pub reads-short-header : length header < numbers → Reads (read_by before (parse_table width form text) header rows) (Refused (record { number = 10; place = 0 })) header rows
+    pub reads-short-header : length header < numbers → Reads (read_by before (parse_table width form text) header rows) (Err (record { number = 10; place = 0 })) header rows
     reads-short-header h = short (rw (l.header_size, lt-leb numbers (length header) h))
 
     module _ (header_room : numbers ≤ length header) where
-      pub reads-short-rows : length rows < words → Reads (read_by before (parse_table width form text) header rows) (Refused (record { number = 10; place = 0 })) header rows
+      pub reads-short-rows : length rows < words → Reads (read_by before (parse_table width form text) header rows) (Err (record { number = 10; place = 0 })) header rows
       reads-short-rows h = short (rw (l.header_size, l.rows_size, le-leb numbers (length header) header_room, lt-leb words (length rows) h))
 
       pub reads_all : words ≤ length rows → (headerWritten rowsWritten : List ℤ) → headerWritten ≡ over l.program.header header → rowsWritten ≡ over l.program.rows rows
-          → Reads (read_by before (parse_table width form text) header rows) (Read numbers words) headerWritten rowsWritten
+          → Reads (read_by before (parse_table width form text) header rows) (Ok (numbers, words)) headerWritten rowsWritten
       unfolding read_program or_short cause_unless
       reads_all h headerWritten rowsWritten e f =
           let room : tables_hold l.program header rows ≡ true = rw (l.header_size, l.rows_size, le-leb numbers (length header) header_room, le-leb words (length rows) h) in
-          let cause : or_short before (tables_hold l.program header rows) ≡ none = rw (passes, room) in
+          let cause : or_short before (tables_hold l.program header rows) ≡ None = rw (passes, room) in
           rw (read_is before, cause) (record { outcome = rw (l.header_size, l.rows_size); header_left = e; rows-left = f })
 
 -- what the reader of programs gives, by the first of the causes 1 and 2

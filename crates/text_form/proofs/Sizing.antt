@@ -1,8 +1,8 @@
 -- How many bytes a text takes, counted word by word; and what a writer leaves.
+use Rattle.std.specs.Prelude.{Err, Ok, None, Some}
 use mathlib.Core.Path.{◌≡◌, refl, sym, ap, ◌∙◌}
 use mathlib.Core.Bool.{true}
 use mathlib.Core.List.{List, [], ◌∷◌}
-use mathlib.Core.Option.{none, some}
 use Prim.Native.Nat.{ℕ, zero, suc, ◌+◌, ◌*◌, ◌≤◌, ◌<◌}
 use native.Mathlib.Nat.{mul-zero, mul-suc}
 use native.Mathlib.Omega.{arith}
@@ -14,7 +14,6 @@ use borrow.Author.Tests.{le-leb, lt-leb}
 use Rattle.words.specs.Laws.{header_fits-facts, count_fits-facts, leading-limits, row_limit-most}
 use Rattle.words.specs.Table.{row_count}
 use Rattle.words.specs.declared.Form.{Form}
-use Rattle.text_form.specs.declared.WriteAnswer.TheVariants.{Written, Refused}
 use Rattle.text_lines.specs.Line.{line_bytes}
 use Rattle.text_form.specs.Text.{rows_bytes, table_bytes, text_bytes}
 use Rattle.text_form.specs.Answers.{finished, cause_of, write_bytes, write_result, Writes}
@@ -45,7 +44,7 @@ bytes-text width count header rows p h e = text-size width count header rows ∙
 
 -- a header and rows that no cause turns away, and the sizes of both
 pub record Sized (form : Form) (header rows : List ℤ) (first others : ℕ) : Type 0 where
-  pub passes : cause_of form header (length rows) true ≡ none
+  pub passes : cause_of form header (length rows) true ≡ None
   pub header_size : Measured header first
   pub rows_size : Measured rows others
 
@@ -56,7 +55,7 @@ pub record Limited (header rows : List ℤ) : Type 0 where
   pub whole : length rows ≡ 6 * row_count rows
   pub rows_few : length rows ≤ 245880
 
-pub limited : (form : Form) (header rows : List ℤ) → cause_of form header (length rows) true ≡ none → Limited header rows
+pub limited : (form : Form) (header rows : List ℤ) → cause_of form header (length rows) true ≡ None → Limited header rows
 limited form header rows e =
     let p = cause-none form header (length rows) true e in
     let h = header_fits-facts form header p.header-fits in
@@ -78,21 +77,21 @@ module _ {form : Form} {header rows : List ℤ} {first others : ℕ} (s : Sized 
   pub sized-fills : (text : List ℕ) → first + others ≤ length text → Fills 6 (row_count rows) header rows text
   sized-fills text h = record { filled = limits.filled; wide = omega arith; whole = limits.whole; room = omega (arith, total) }
 
-  pub writes_short : (text : List ℕ) → length text < first + others → Writes (write_result form header rows text) (Refused (record { number = 10; place = 0 })) text
+  pub writes_short : (text : List ℕ) → length text < first + others → Writes (write_result form header rows text) (Err (record { number = 10; place = 0 })) text
   unfolding write_result write_bytes
   writes_short text h =
       rw (lt-leb (length (text_bytes header rows)) (length text) (omega (arith, total)), cause-short form header (length rows) s.passes)
       (record { outcome = refl; text_left = refl })
 
   pub writes-all : (text : List ℕ) → first + others ≤ length text → (count : ℕ) (left : List ℕ) → Put (text_bytes header rows) text count left
-      → Writes (write_result form header rows text) (Written count) left
+      → Writes (write_result form header rows text) (Ok count) left
   unfolding write_result write_bytes
   writes-all text h count left p =
       rw (le-leb (length (text_bytes header rows)) (length text) (omega (arith, total)), s.passes)
       (record { outcome = ap (λ (n : ℕ). finished (n ∷ [])) p.size; text_left = p.written })
 
-pub writes-cause : (form : Form) (header rows : List ℤ) (text : List ℕ) (number : ℕ) → cause_of form header (length rows) true ≡ some number
-    → Writes (write_result form header rows text) (Refused (record { number = number; place = 0 })) text
+pub writes-cause : (form : Form) (header rows : List ℤ) (text : List ℕ) (number : ℕ) → cause_of form header (length rows) true ≡ Some number
+    → Writes (write_result form header rows text) (Err (record { number = number; place = 0 })) text
 unfolding write_result write_bytes
 writes-cause form header rows text number e =
     rw (cause-some form header (length rows) number (leb (length (text_bytes header rows)) (length text)) e)

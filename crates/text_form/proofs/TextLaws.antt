@@ -1,7 +1,6 @@
 -- Laws of texts: a text is read as the header and rows that it is written for, and no others. TextLine by line.
-use Rattle.std.specs.Prelude.{◌≡◌, refl, Bool, true, false, List, [], ◌∷◌, ◌++◌, map, ℕ, zero, suc, ◌+◌, ◌*◌, ◌<◌, leb, ℤ, length, take, drop}
+use Rattle.std.specs.Prelude.{◌≡◌, refl, Bool, true, false, List, [], ◌∷◌, ◌++◌, map, ℕ, zero, suc, ◌+◌, ◌*◌, ◌<◌, leb, ℤ, length, take, drop, None, Option, Some}
 use Rattle.std.proofs.Common.{sym, ap, ◌∙◌, mul-zero, mul-suc, add-one, arith, length-append, length-drop, take-append-drop, take_at, drop_at, length-take-le, eq-eqb, eqb-true, leb-true}
-use Rattle.std.proofs.Math.Option.{Option, none, some}
 use Rattle.words.specs.Layout.{leading}
 use Rattle.words.specs.Laws.{by_cases, leading-limits}
 use Rattle.words.specs.Table.{row_count}
@@ -36,30 +35,30 @@ words-drop (suc n) (x ∷ xs) a = words-drop n xs a.1
 
 -- ---- numbers that a test lets through
 
-pub keep-is : (test : List ℤ → Bool) (numbers : List ℤ) → test numbers ≡ true → keep test (some numbers) ≡ some numbers
+pub keep-is : (test : List ℤ → Bool) (numbers : List ℤ) → test numbers ≡ true → keep test (Some numbers) ≡ Some numbers
 unfolding keep
 keep-is test numbers t = rw t
 
-pub keep-not : (test : List ℤ → Bool) (numbers : List ℤ) → test numbers ≡ false → keep test (some numbers) ≡ none
+pub keep-not : (test : List ℤ → Bool) (numbers : List ℤ) → test numbers ≡ false → keep test (Some numbers) ≡ None
 unfolding keep
 keep-not test numbers t = rw t
 
-pub keep-none : (test : List ℤ → Bool) → keep test none ≡ none
+pub keep-none : (test : List ℤ → Bool) → keep test None ≡ None
 unfolding keep
 keep-none test = refl
 
 -- what numbers that a test let through are
 pub record Kept (test : List ℤ → Bool) (read : Option (List ℤ)) (numbers : List ℤ) : Type 0 where
-  pub same : read ≡ some numbers
+  pub same : read ≡ Some numbers
   pub passes : test numbers ≡ true
 
-pub keep-reads : (test : List ℤ → Bool) (read : Option (List ℤ)) (numbers : List ℤ) → keep test read ≡ some numbers → Kept test read numbers
+pub keep-reads : (test : List ℤ → Bool) (read : Option (List ℤ)) (numbers : List ℤ) → keep test read ≡ Some numbers → Kept test read numbers
 unfolding keep
-keep-reads test none numbers d = not_some d
-keep-reads test (some kept) numbers d =
+keep-reads test None numbers d = not_some d
+keep-reads test (Some kept) numbers d =
     by_cases (test kept)
     (λ t.
-    let e : some kept ≡ some numbers = rw t at d in
+    let e : Some kept ≡ Some numbers = rw t at d in
     let same : kept ≡ numbers = cc in
     record { same = e; passes = rw (← same) t })
     (λ t. not_some (rw t at d))
@@ -72,15 +71,15 @@ row_more width count = ap (λ (n : ℕ). width * n) (add-one count) ∙ mul-suc 
 
 -- ---- rows that were written are read back
 
-row_shows : (width : ℕ) (row : List ℤ) → 0 < width → length row ≡ width → Words row → row_line width (ended (parted (map number_bytes row))) ≡ some row
+row_shows : (width : ℕ) (row : List ℤ) → 0 < width → length row ≡ width → Words row → row_line width (ended (parted (map number_bytes row))) ≡ Some row
 unfolding row_line
 row_shows width row p h w = rw (line-shows row (omega arith) w) (keep-is (row_sized width) row (eq-eqb (length row) width h))
 
-pub with_none : (number : ℕ) (others : Parsed (List ℤ)) → with_row number none others ≡ malformed number
+pub with_none : (number : ℕ) (others : Parsed (List ℤ)) → with_row number None others ≡ malformed number
 unfolding with_row
 with_none number others = refl
 
-with-parsed : (number : ℕ) (row rows : List ℤ) → with_row number (some row) (parsed rows) ≡ parsed (row ++ rows)
+with-parsed : (number : ℕ) (row rows : List ℤ) → with_row number (Some row) (parsed rows) ≡ parsed (row ++ rows)
 unfolding with_row
 with-parsed number row rows = refl
 
@@ -121,7 +120,7 @@ bytes-more : (width count : ℕ) (row rows : List ℤ) → length row ≡ width 
 unfolding rows_bytes
 bytes-more width count row rows h = rw (take_at row rows width h, drop_at row rows width h)
 
-rows_more : (width : ℕ) (line : TextLine) (lines : List TextLine) (row rows : List ℤ) → row_line width line ≡ some row → AreRows width lines rows → AreRows width (line ∷ lines) (row ++ rows)
+rows_more : (width : ℕ) (line : TextLine) (lines : List TextLine) (row rows : List ℤ) → row_line width line ≡ Some row → AreRows width lines rows → AreRows width (line ∷ lines) (row ++ rows)
 unfolding row_line
 rows_more width line lines row rows d a =
     let k = keep-reads (row_sized width) (line_numbers line) row d in
@@ -137,9 +136,9 @@ rows_more width line lines row rows d a =
 with-reads : (width number : ℕ) (line : TextLine) (lines : List TextLine) (read : Option (List ℤ)) (others : Parsed (List ℤ)) (rows : List ℤ) → row_line width line ≡ read
     → ((more : List ℤ) → others ≡ parsed more → AreRows width lines more) → with_row number read others ≡ parsed rows → AreRows width (line ∷ lines) rows
 unfolding with_row
-with-reads width number line lines none others rows e ih d = not-parsed (sym (with_none number others) ∙ d)
-with-reads width number line lines (some row) (malformed later) rows e ih d = not-parsed d
-with-reads width number line lines (some row) (parsed more) rows e ih d =
+with-reads width number line lines None others rows e ih d = not-parsed (sym (with_none number others) ∙ d)
+with-reads width number line lines (Some row) (malformed later) rows e ih d = not-parsed d
+with-reads width number line lines (Some row) (parsed more) rows e ih d =
     let same : row ++ more ≡ rows = cc in
     rw (← same) (rows_more width line lines row more e (ih more refl))
 
@@ -174,11 +173,11 @@ sized-some form header t =
     (λ e. omega (arith, leb-true (leading form) (length header) e, (leading-limits form).0))
     (λ e. absurd (let f : false ≡ true = rw e at t in let z : ◌≡◌ {A = ℕ} 0 1 = cc in omega arith))
 
-header-shows : (form : Form) (header : List ℤ) → header_sized form header ≡ true → Words header → header_line form (ended (parted (map number_bytes header))) ≡ some header
+header-shows : (form : Form) (header : List ℤ) → header_sized form header ≡ true → Words header → header_line form (ended (parted (map number_bytes header))) ≡ Some header
 unfolding header_line
 header-shows form header t w = rw (line-shows header (sized-some form header t) w) (keep-is (header_sized form) header t)
 
-with-header : (header rows : List ℤ) → with_header (some header) (parsed rows) ≡ parsed (record { header = header; rows = rows })
+with-header : (header rows : List ℤ) → with_header (Some header) (parsed rows) ≡ parsed (record { header = header; rows = rows })
 unfolding with_header
 with-header header rows = refl
 
@@ -199,7 +198,7 @@ pub text-shows : (form : Form) (header rows : List ℤ) → header_sized form he
     → parse form (text_bytes header rows) ≡ parsed (record { header = header; rows = rows })
 text-shows form header rows t e w v = table-shows 6 (row_count rows) form header rows (omega arith) t (sym e) w v
 
-table-of : (width : ℕ) (form : Form) (text : List ℕ) (line : TextLine) (lines : List TextLine) (header rows : List ℤ) → lines_of text ≡ line ∷ lines → header_line form line ≡ some header
+table-of : (width : ℕ) (form : Form) (text : List ℕ) (line : TextLine) (lines : List TextLine) (header rows : List ℤ) → lines_of text ≡ line ∷ lines → header_line form line ≡ Some header
     → rows_from width 2 lines ≡ parsed rows → IsTable width form text (record { header = header; rows = rows })
 unfolding header_line table_bytes
 table-of width form text line lines header rows e h r =
@@ -218,9 +217,9 @@ table-of width form text line lines header rows e h r =
 header-reads : (width : ℕ) (form : Form) (text : List ℕ) (line : TextLine) (lines : List TextLine) (read : Option (List ℤ)) (others : Parsed (List ℤ)) (program : Program)
     → lines_of text ≡ line ∷ lines → header_line form line ≡ read → rows_from width 2 lines ≡ others → with_header read others ≡ parsed program → IsTable width form text program
 unfolding with_header
-header-reads width form text line lines none others program e h r d = not-parsed d
-header-reads width form text line lines (some header) (malformed later) program e h r d = not-parsed d
-header-reads width form text line lines (some header) (parsed rows) program e h r d =
+header-reads width form text line lines None others program e h r d = not-parsed d
+header-reads width form text line lines (Some header) (malformed later) program e h r d = not-parsed d
+header-reads width form text line lines (Some header) (parsed rows) program e h r d =
     let same : ◌≡◌ {A = Program} (record { header = header; rows = rows }) program = cc in
     rw (← same) (table-of width form text line lines header rows e h r)
 

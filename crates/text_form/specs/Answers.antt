@@ -1,15 +1,11 @@
 -- Answers: what reader and writer return and leave, refusals included.
-use Rattle.std.specs.Prelude.{◌≡◌, Bool, ◌&&◌, List, [], ◌∷◌, ℕ, leb, ℤ, length}
-use Rattle.std.proofs.Math.Option.{Option, none, some}
+use Rattle.std.specs.Prelude.{◌≡◌, Bool, ◌&&◌, List, [], ◌∷◌, ℕ, leb, ℤ, length, Err, Ok, Result, None, Option, Some}
+use Rattle.words.specs.Refusals.{NumberedRefusal}
 use Rattle.words.specs.Word.{pick}
 use Rattle.words.specs.Over.{over}
 use Rattle.words.specs.Layout.{header_fits, count_fits}
 use Rattle.words.specs.declared.Form.{Form}
 use Rattle.text_form.specs.Text.{text_bytes, Parsed, parsed, malformed, Program, parse}
-use Rattle.text_form.specs.declared.ReadAnswer.{ReadAnswer}
-use Rattle.text_form.specs.declared.ReadAnswer.TheVariants.{Read, Refused}
-use Rattle.text_form.specs.declared.WriteAnswer.{WriteAnswer}
-use Rattle.text_form.specs.declared.WriteAnswer.TheVariants as write-cases
 
 -- What an answer says: how much was read or written, or document 01's number of the cause and the place.
 pub data TextOutcome : Type 0 where
@@ -17,22 +13,22 @@ pub data TextOutcome : Type 0 where
   refused : (number place : ℕ) → TextOutcome
 
 -- A text that was read has so many header words and row words.
-abbrev pub read_outcome : ReadAnswer → TextOutcome
-read_outcome (Read headerWords row_words) = finished (headerWords ∷ row_words ∷ [])
-read_outcome (Refused refusal) = refused refusal.number refusal.place
+abbrev pub read_outcome : Result (ℕ × ℕ) NumberedRefusal → TextOutcome
+read_outcome (Ok (headerWords, row_words)) = finished (headerWords ∷ row_words ∷ [])
+read_outcome (Err refusal) = refused refusal.number refusal.place
 
 -- A text that was written has so many bytes.
-abbrev pub write_outcome : WriteAnswer → TextOutcome
-write_outcome (write-cases.Written bytes) = finished (bytes ∷ [])
-write_outcome (write-cases.Refused refusal) = refused refusal.number refusal.place
+abbrev pub write_outcome : Result ℕ NumberedRefusal → TextOutcome
+write_outcome (Ok bytes) = finished (bytes ∷ [])
+write_outcome (Err refusal) = refused refusal.number refusal.place
 
 unfoldable pub cause_unless : Bool → ℕ → Option ℕ → Option ℕ
-cause_unless holds number others = pick holds others (some number)
+cause_unless holds number others = pick holds others (Some number)
 
 -- "Then 1, 2 and 10": the number of the first cause that turns a header and so many row words away. Both reader and writer
 -- test these; `room` says whether the output is long enough.
 unfoldable pub cause_of : Form → List ℤ → ℕ → Bool → Option ℕ
-cause_of form header row_words room = cause_unless (header_fits form header) 1 (cause_unless (count_fits form row_words) 2 (cause_unless room 10 none))
+cause_of form header row_words room = cause_unless (header_fits form header) 1 (cause_unless (count_fits form row_words) 2 (cause_unless room 10 None))
 
 -- ---- the reader
 
@@ -46,8 +42,8 @@ unfoldable pub read_refused : ℕ → ℕ → List ℤ → List ℤ → ReadResu
 read_refused number place header rows = record { outcome = refused number place; header = header; rows = rows }
 
 unfoldable pub read_program : Option ℕ → Program → List ℤ → List ℤ → ReadResult
-read_program (some number) program header rows = read_refused number 0 header rows
-read_program none program header rows = record {
+read_program (Some number) program header rows = read_refused number 0 header rows
+read_program None program header rows = record {
   outcome = finished (length program.header ∷ length program.rows ∷ []);
   header = over program.header header;
   rows = over program.rows rows;
@@ -67,7 +63,7 @@ unfoldable pub read_result : Form → List ℕ → List ℤ → List ℤ → Rea
 read_result form text header rows = read_parsed form (parse form text) header rows
 
 -- A reader's answer and the tables that it leaves are those of a result.
-pub record Reads (result : ReadResult) (answer : ReadAnswer) (header rows : List ℤ) : Type 0 where
+pub record Reads (result : ReadResult) (answer : Result (ℕ × ℕ) NumberedRefusal) (header rows : List ℤ) : Type 0 where
   pub outcome : read_outcome answer ≡ result.outcome
   pub header_left : header ≡ result.header
   pub rows-left : rows ≡ result.rows
@@ -79,8 +75,8 @@ pub record WriteResult : Type 0 where
   pub text : List ℕ
 
 unfoldable pub write_bytes : Option ℕ → List ℕ → List ℕ → WriteResult
-write_bytes (some number) bytes text = record { outcome = refused number 0; text = text }
-write_bytes none bytes text = record { outcome = finished (length bytes ∷ []); text = over bytes text }
+write_bytes (Some number) bytes text = record { outcome = refused number 0; text = text }
+write_bytes None bytes text = record { outcome = finished (length bytes ∷ []); text = over bytes text }
 
 -- "The writer tests 1, 2 and 10": what writing a header and rows gives, where the buffer holds `text`.
 unfoldable pub write_result : Form → List ℤ → List ℤ → List ℕ → WriteResult
@@ -89,6 +85,6 @@ write_result form header rows text =
     write_bytes (cause_of form header (length rows) (leb (length bytes) (length text))) bytes text
 
 -- A writer's answer and the buffer that it leaves are those of a result.
-pub record Writes (result : WriteResult) (answer : WriteAnswer) (text : List ℕ) : Type 0 where
+pub record Writes (result : WriteResult) (answer : Result ℕ NumberedRefusal) (text : List ℕ) : Type 0 where
   pub outcome : write_outcome answer ≡ result.outcome
   pub text_left : text ≡ result.text

@@ -1,15 +1,10 @@
 -- Reader: what its inner functions answer, in terms of the definition of texts.
-use Rattle.std.specs.Prelude.{◌≡◌, Bool, true, false, List, [], ℕ, ◌+◌, ◌≤◌, ◌<◌, ℤ, length, take, drop}
-use Rattle.std.proofs.Math.Option.{Option, none, some}
+use Rattle.std.specs.Prelude.{◌≡◌, Bool, true, false, List, [], ℕ, ◌+◌, ◌≤◌, ◌<◌, ℤ, length, take, drop, Err, None, Ok, Result, Some, Option}
 use Rattle.words.specs.declared.Form.{Form}
-use Rattle.text_form.specs.declared.limits.Cause.{Cause}
-use Rattle.text_form.specs.declared.limits.Cause.TheVariants as cause-cases
-use Rattle.text_form.specs.declared.reader.Rows.{Rows}
-use Rattle.text_form.specs.declared.reader.Rows.TheVariants as row-cases
-use Rattle.text_form.specs.declared.reader.TextShape.{TextShape}
-use Rattle.text_form.specs.declared.reader.TextShape.TheVariants as shape-cases
 use Rattle.text_lines.specs.Line.{fields_of, lines_of, numbers_of}
 use Rattle.text_lines.specs.Reader.{numbers_in}
+use Rattle.words.specs.Causes.{cause_number}
+use Rattle.words.specs.declared.Cause.{Cause}
 use Rattle.text_form.specs.Answers.{cause_unless, ReadResult, read_refused, read_program, tables_hold}
 use Rattle.text_form.specs.Text.{Parsed, parsed, malformed, rows_from, Program, parse_table}
 
@@ -17,23 +12,23 @@ use Rattle.text_form.specs.Text.{Parsed, parsed, malformed, rows_from, Program, 
 
 -- So many numbers were read, at most 35.
 pub record HoldsExactly (read : Option (List ℤ)) (count : ℕ) : Type 0 where
-  pub well_formed : read ≡ some (numbers_in read)
+  pub well_formed : read ≡ Some (numbers_in read)
   pub size : length (numbers_in read) ≡ count
   pub few : count ≤ 35
 
 abbrev pub is_found : Option (List ℤ) → Bool
-is_found none = false
-is_found (some numbers) = true
+is_found None = false
+is_found (Some numbers) = true
 
 -- ---- texts
 
-abbrev pub cause_says : Cause → Option ℕ
-cause_says (cause-cases.Number number) = some number
-cause_says cause-cases.Absent = none
+abbrev pub cause_says : Option Cause → Option ℕ
+cause_says (Some cause) = Some (cause_number cause)
+cause_says None = None
 
-abbrev pub rows_say : Rows → Parsed ℕ
-rows_say (row-cases.Words words) = parsed words
-rows_say (row-cases.Malformed line) = malformed line
+abbrev pub rows_say : Result ℕ ℕ → Parsed ℕ
+rows_say (Ok words) = parsed words
+rows_say (Err line) = malformed line
 
 -- How many words were read.
 abbrev pub words_of : Parsed (List ℤ) → Parsed ℕ
@@ -53,21 +48,21 @@ pub record HoldsRows (read : Parsed (List ℤ)) (table : List ℤ) : Type 0 wher
 pub record HasLines (width : ℕ) (form : Form) (text : List ℕ) (end headerWords row_words : ℕ) : Type 0 where
   pub program : Program
   pub inside : end < length text
-  pub first-line : numbers_of (fields_of (take end text)) ≡ some program.header
+  pub first-line : numbers_of (fields_of (take end text)) ≡ Some program.header
   pub other_lines : rows_from width 2 (lines_of (drop (end + 1) text)) ≡ parsed program.rows
   pub header_size : length program.header ≡ headerWords
   pub rows_size : length program.rows ≡ row_words
   pub few : headerWords ≤ 35
   pub parses : parse_table width form text ≡ parsed program
 
-abbrev pub Shaped : ℕ → Form → List ℕ → TextShape → Type 0
-Shaped width form text (shape-cases.Lines end headerWords row_words) = HasLines width form text end headerWords row_words
-Shaped width form text (shape-cases.Malformed line) = parse_table width form text ≡ malformed line
+abbrev pub Shaped : ℕ → Form → List ℕ → Result (ℕ × ℕ × ℕ) ℕ → Type 0
+Shaped width form text (Ok (end, headerWords, row_words)) = HasLines width form text end headerWords row_words
+Shaped width form text (Err line) = parse_table width form text ≡ malformed line
 
 -- The first cause, where `before` is the first of those before 10.
 unfoldable pub or_short : Option ℕ → Bool → Option ℕ
-or_short (some number) room = some number
-or_short none room = cause_unless room 10 none
+or_short (Some number) room = Some number
+or_short None room = cause_unless room 10 None
 
 -- What a reader gives of a text by its first cause between 14 and 10.
 unfoldable pub read_by : Option ℕ → Parsed Program → List ℤ → List ℤ → ReadResult

@@ -1,6 +1,5 @@
 -- Texts: "TextLine 1: V and the array lengths (kernel: V, T, lengths). Each further line is a row's six fields."
-use Rattle.std.specs.Prelude.{Bool, ◌&&◌, List, [], ◌∷◌, ◌++◌, ℕ, zero, suc, ◌+◌, leb, eqb, ℤ, length, take, drop}
-use Rattle.std.proofs.Math.Option.{Option, none, some}
+use Rattle.std.specs.Prelude.{Bool, ◌&&◌, List, [], ◌∷◌, ◌++◌, ℕ, zero, suc, ◌+◌, leb, eqb, ℤ, length, take, drop, None, Option, Some}
 use Rattle.words.specs.Word.{pick}
 use Rattle.words.specs.Layout.{leading}
 use Rattle.words.specs.Table.{row_count}
@@ -26,8 +25,8 @@ text_bytes header rows = table_bytes 6 (row_count rows) header rows
 
 -- Numbers that a test lets through.
 unfoldable pub keep : (List ℤ → Bool) → Option (List ℤ) → Option (List ℤ)
-keep test none = none
-keep test (some numbers) = pick (test numbers) (some numbers) none
+keep test None = None
+keep test (Some numbers) = pick (test numbers) (Some numbers) None
 
 -- "A first line of more than 33 numbers (kernel: 34) or too few" is malformed; Change 11: in the kernel's "35 numbers". V (kernel: V, D and T), and
 -- up to 32 lengths.
@@ -50,9 +49,9 @@ pub data Parsed (A : Type 0) : Type 0 where
 
 -- A line of this number gave words or was malformed, and so did the lines behind it.
 unfoldable pub with_row : ℕ → Option (List ℤ) → Parsed (List ℤ) → Parsed (List ℤ)
-with_row number none others = malformed number
-with_row number (some row) (parsed rows) = parsed (row ++ rows)
-with_row number (some row) (malformed later) = malformed later
+with_row number None others = malformed number
+with_row number (Some row) (parsed rows) = parsed (row ++ rows)
+with_row number (Some row) (malformed later) = malformed later
 
 -- The words of the rows, of `width` words each, whose lines have this number and those that follow.
 unfoldable pub rows_from : ℕ → ℕ → List TextLine → Parsed (List ℤ)
@@ -64,9 +63,9 @@ pub record Program : Type 0 where
   pub rows : List ℤ
 
 unfoldable pub with_header : Option (List ℤ) → Parsed (List ℤ) → Parsed Program
-with_header none others = malformed 1
-with_header (some header) (parsed rows) = parsed (record { header = header; rows = rows })
-with_header (some header) (malformed later) = malformed later
+with_header None others = malformed 1
+with_header (Some header) (parsed rows) = parsed (record { header = header; rows = rows })
+with_header (Some header) (malformed later) = malformed later
 
 -- "The first such line is named, 1 for an empty text."
 unfoldable pub program_of : ℕ → Form → List TextLine → Parsed Program

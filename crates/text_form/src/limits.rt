@@ -3,25 +3,18 @@ ghost use Rattle.std.specs.Prelude.{◌≡◌, true};
 ghost use Rattle.text_form.specs.Answers.{cause_of};
 ghost use Rattle.text_form.specs.Reader.{cause_says};
 
-use words::Form;
 use words::layout::{count_fits, header_fits};
-
-// The number of the cause that turns a program away, if any does.
-#[derive(Clone, Copy)]
-pub enum Cause {
-    Number(u32),
-    Absent,
-}
+use words::{Cause, Form};
 
 // The first of the causes 1 and 2 that a header and so many row words meet.
-pub fn first_cause(form: Form, header: &[i32], words: usize) -> Cause
+pub fn first_cause(form: Form, header: &[i32], words: usize) -> Option<Cause>
     ensures { cause_says result ≡ cause_of form header.now words true }
 {
     if !header_fits(form, header) {
-        return Cause::Number(1);
+        return Some(Cause::Header);
     }
     if !count_fits(form, words) {
-        return Cause::Number(2);
+        return Some(Cause::RowCount);
     }
-    Cause::Absent
+    None
 }

@@ -14,12 +14,10 @@ fn put_rows(width: usize, count: usize, rows: &[i32], text: &mut [u8]) -> usize
     ensures { Put (rows_bytes width count rows.now) text.old result text.new }
 {
     let mut at: usize = 0;
-    let mut row: usize = 0;
-    while row < count {
+    for row in 0..count {
         let start = width * row;
         let end = start + width;
         at += put_line(&rows[start..end], &mut text[at..]);
-        row += 1;
     }
     at
 }

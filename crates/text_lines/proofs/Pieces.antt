@@ -1,62 +1,50 @@
 -- The walk over the fields of a line and over the lines of a text: where a piece ends, which are passed, which numbers they gave.
+use Rattle.std.specs.Prelude.{None, Option, Some, cond}
+use Rattle.std.specs.Option.{unwrap_or}
+use Rattle.std.specs.List.{position_or_len, slice_split, onto_first, enumerate_from}
 use mathlib.Core.Path.{◌≡◌, refl, sym, ap, ◌∙◌}
 use mathlib.Core.Bool.{false}
 use mathlib.Core.List.{List, [], ◌∷◌, ◌++◌, append_assoc, append-nil}
-use mathlib.Core.Option.{Option, none, some}
 use Prim.Native.Nat.{ℕ, suc, ◌+◌, ◌-◌, ◌≤◌, ◌<◌}
 use native.Mathlib.Omega.{arith}
 use native.Mathlib.Numerals.{add-one}
-use lib.Dec.{leb, eqb, ltb}
+use lib.Dec.{eqb, ltb}
 use lib.IntN.{ℤ}
 use lib.ListN.{length, take, drop, get_or, length-drop, length-append, drop_of_length-le}
 use lib.Seq.{drop-cons, drop-drop, take_all}
-use borrow.Author.Tests.{eq-eqb, ne_eqb, eqb-true, eqb-false, le-leb, lt-leb, ltb-true, ltb-false}
-use Rattle.words.specs.Word.{pick}
+use borrow.Author.Tests.{eqb-true, eqb-false, ltb-false}
+use Rattle.std.proofs.lemmas.List.FromFn.{length-enumerate_from, get_or-enumerate_from}
 use Rattle.words.specs.Laws.{by_cases}
 use Rattle.text_numbers.specs.Number.{number_of}
-use Rattle.text_lines.specs.Line.{fields_of, together, numbers_of, ended, unended, lines_of}
+use Rattle.text_lines.specs.Line.{longer_field, fields_of, together, numbers_of, ended, unended, lines_of}
 use Rattle.text_numbers.specs.NumberLaws.{Free}
-use Rattle.text_lines.specs.LineLaws.{fields-last, fields-more, lines-ended, lines-unended}
+use Rattle.text_lines.specs.LineLaws.{lines-ended, lines-unended}
 use Rattle.text_lines.specs.Reader.{piece_end, number_count}
 
 -- ---- where a piece ends
-
--- the bytes from `at` up to `end` are no separators
-pub record Passed (separator : ℕ) (bytes : List ℕ) (at end : ℕ) : Type 0 where
-  pub from : at ≤ end
-  pub inside : end ≤ length bytes
-  pub same : at + piece_end separator (drop at bytes) ≡ end + piece_end separator (drop end bytes)
-
-pub passed_start : (separator : ℕ) (bytes : List ℕ) (at : ℕ) → at ≤ length bytes → Passed separator bytes at at
-passed_start separator bytes at h = record { from = omega arith; inside = h; same = refl }
-
-piece-here : (separator : ℕ) (bytes : List ℕ) (i : ℕ) → i < length bytes → get_or bytes i 0 ≡ separator → piece_end separator (drop i bytes) ≡ 0
-unfolding piece_end
-piece-here separator bytes i h e = rw (drop-cons bytes i 0 h, eq-eqb _ _ e)
-
-piece-next : (separator : ℕ) (bytes : List ℕ) (i : ℕ) → i < length bytes → (get_or bytes i 0 ≡ separator → ⊥) → piece_end separator (drop i bytes) ≡ suc (piece_end separator (drop (i + 1) bytes))
-unfolding piece_end
-piece-next separator bytes i h e = rw (add-one i, drop-cons bytes i 0 h, ne_eqb _ _ e)
-
-piece-none : (separator : ℕ) (bytes : List ℕ) (i : ℕ) → length bytes ≤ i → piece_end separator (drop i bytes) ≡ 0
-unfolding piece_end
-piece-none separator bytes i h = rw (drop_of_length-le bytes {i = i} h)
-
-module _ {separator : ℕ} {bytes : List ℕ} {at end : ℕ} (p : Passed separator bytes at end) where
-  pub passed_here : end < length bytes → get_or bytes end 0 ≡ separator → end ≡ at + piece_end separator (drop at bytes)
-  passed_here h e = omega (arith, p.same, piece-here separator bytes end h e)
-
-  pub passed-next : end < length bytes → (get_or bytes end 0 ≡ separator → ⊥) → Passed separator bytes at (end + 1)
-  passed-next h e = record { from = omega (arith, p.from); inside = omega arith; same = omega (arith, p.same, piece-next separator bytes end h e) }
-
-  pub passed-end : length bytes ≤ end → end ≡ at + piece_end separator (drop at bytes)
-  passed-end h = omega (arith, p.same, piece-none separator bytes end h)
 
 piece_inside : (separator : ℕ) (bytes : List ℕ) → piece_end separator bytes ≤ length bytes
 unfolding piece_end
 piece_inside separator [] = omega arith
 piece_inside separator (byte ∷ bytes) =
     by_cases (eqb byte separator) (λ t. rw t (omega arith)) (λ t. rw t (omega (arith, piece_inside separator bytes)))
+
+pub piece_position : (separator : ℕ) (bytes : List ℕ) → piece_end separator bytes ≡ position_or_len (λ byte. eqb byte separator) bytes
+unfolding piece_end
+piece_position separator [] = refl
+piece_position separator (byte ∷ bytes) =
+    by_cases (eqb byte separator) (λ t. rw t) (λ t. rw (t, piece_position separator bytes) (omega arith))
+
+-- what `position` and `unwrap_or` give
+pub piece-found : (separator : ℕ) (bytes : List ℕ) (r : Option ℕ)
+    → r ≡ cond (ltb (position_or_len (λ byte. eqb byte separator) bytes) (length bytes)) (Some (position_or_len (λ byte. eqb byte separator) bytes)) None
+    → unwrap_or r (length bytes) ≡ piece_end separator bytes
+piece-found separator bytes r e =
+    by_cases (ltb (position_or_len (λ byte. eqb byte separator) bytes) (length bytes))
+    (λ t. let f : r ≡ Some (position_or_len (λ byte. eqb byte separator) bytes) = rw t at e in rw f (sym (piece_position separator bytes)))
+    (λ t. let f : r ≡ None = rw t at e in
+    let l : length bytes ≤ position_or_len (λ byte. eqb byte separator) bytes = ltb-false _ _ t in
+    rw f (omega (arith, piece_position separator bytes, piece_inside separator bytes)))
 
 piece-free : (separator : ℕ) (bytes : List ℕ) → Free separator (take (piece_end separator bytes) bytes)
 unfolding piece_end Free
@@ -98,101 +86,99 @@ piece_of separator bytes at end h e =
       last = λ l. sym (take_all (end - at) (drop at bytes) (rw length-drop (omega arith)));
     }
 
--- ---- the fields that are left
+-- ---- the fields of a line
 
--- the fields from byte `at` on; none are left behind the line's end
-unfoldable pub fields_from : ℕ → List ℕ → List (List ℕ)
-fields_from at line = pick (leb at (length line)) (fields_of (drop at line)) []
+-- the fields are what `split` gives
+pub fields_split : (bytes : List ℕ) → slice_split (λ byte. eqb byte 9) bytes ≡ fields_of bytes
+unfolding fields_of
+fields_split [] = refl
+fields_split (byte ∷ bytes) =
+    by_cases (eqb byte 9)
+    (λ t. rw (t, fields_split bytes))
+    (λ t. rw (t, fields_split bytes) (onto-longer (fields_of bytes)))
+  where
+    onto-longer : (fields : List (List ℕ)) → onto_first byte fields ≡ longer_field byte fields
+    onto-longer [] = refl
+    onto-longer (field ∷ fields) = refl
 
-fields_at : (at : ℕ) (line : List ℕ) → at ≤ length line → fields_from at line ≡ fields_of (drop at line)
-unfolding fields_from
-fields_at at line h = rw (le-leb at (length line) h)
+-- a part that `split` gave is the next field
+pub next-field : (line : List ℕ) (count n : ℕ) (field : List ℕ) → count ≡ n
+    → (n < length (slice_split (λ byte. eqb byte 9) line)) × (field ≡ get_or (slice_split (λ byte. eqb byte 9) line) n field)
+    → (count < length (fields_of line)) × (field ≡ get_or (fields_of line) count field)
+next-field line count n field e t = rw (e, ← fields_split line) t
 
-fields-behind : (at : ℕ) (line : List ℕ) → length line < at → fields_from at line ≡ []
-unfolding fields_from
-fields-behind at line h = rw (lt-leb at (length line) h)
-
-fields-step : {line : List ℕ} {at end : ℕ} → Piece 9 line at end → fields_from at line ≡ take (end - at) (drop at line) ∷ fields_from (end + 1) line
-fields-step {line = line} {at = at} {end = end} p =
-    fields_at at line (omega (arith, p.from, p.inside)) ∙ by_cases (ltb end (length line))
-    (λ t.
-    let h : end < length line = ltb-true _ _ t in
-    ap fields_of (p.splits h) ∙ fields-more (take (end - at) (drop at line)) (drop (end + 1) line) p.free
-    ∙ ap (λ (l : List (List ℕ)). take (end - at) (drop at line) ∷ l) (sym (fields_at (end + 1) line (omega arith))))
-    (λ t.
-    let h : length line ≤ end = ltb-false _ _ t in
-    ap fields_of (p.last h) ∙ fields-last (take (end - at) (drop at line)) p.free
-    ∙ ap (λ (l : List (List ℕ)). take (end - at) (drop at line) ∷ l) (sym (fields-behind (end + 1) line (omega arith))))
+-- a part that `split` and `enumerate` gave is the next field, with its number
+pub numbered-field : (line : List ℕ) (n count : ℕ) (field : List ℕ)
+    → (n < length (enumerate_from 0 (slice_split (λ byte. eqb byte 9) line))) × ((count, field) ≡ get_or (enumerate_from 0 (slice_split (λ byte. eqb byte 9) line)) n (count, field))
+    → (count ≡ n) × ((count < length (fields_of line)) × (field ≡ get_or (fields_of line) count field))
+numbered-field line n count field t =
+    let parts : List (List ℕ) = slice_split (λ byte. eqb byte 9) line in
+    let l : n < length parts = omega (arith, t.0, length-enumerate_from 0 parts) in
+    let e : ◌≡◌ {A = ℕ × List ℕ} (count, field) (0 + n, get_or parts n field) = t.1 ∙ get_or-enumerate_from 0 parts n (count, field) l in
+    let same : count ≡ n = omega (arith, ap (λ (p : ℕ × List ℕ). p.0) e) in
+    (same, next-field line count n field same (l, ap (λ (p : ℕ × List ℕ). p.1) e))
 
 -- ---- the numbers that were read
 
 -- numbers, and then those that are left
 unfoldable pub behind : List ℤ → Option (List ℤ) → Option (List ℤ)
-behind before none = none
-behind before (some others) = some (before ++ others)
+behind before None = None
+behind before (Some others) = Some (before ++ others)
 
 behind-nil : (read : Option (List ℤ)) → read ≡ behind [] read
 unfolding behind
-behind-nil none = refl
-behind-nil (some numbers) = refl
+behind-nil None = refl
+behind-nil (Some numbers) = refl
 
-behind_more : (before : List ℤ) (z : ℤ) (read : Option (List ℤ)) → behind before (together (some z) read) ≡ behind (before ++ (z ∷ [])) read
+behind_more : (before : List ℤ) (z : ℤ) (read : Option (List ℤ)) → behind before (together (Some z) read) ≡ behind (before ++ (z ∷ [])) read
 unfolding behind together
-behind_more before z none = refl
-behind_more before z (some numbers) = ap some (sym (append_assoc before (z ∷ []) numbers))
+behind_more before z None = refl
+behind_more before z (Some numbers) = ap Some (sym (append_assoc before (z ∷ []) numbers))
 
--- the fields before byte `at` gave `count` numbers
-pub record Counted (line : List ℕ) (at count : ℕ) : Type 0 where
-  pub inside : at ≤ length line + 1
-  pub fewer : count ≤ at
+-- the first fields gave `count` numbers
+pub record Counted (fields : List (List ℕ)) (count : ℕ) : Type 0 where
   pub before : List ℤ
   pub size : length before ≡ count
-  pub same : numbers_of (fields_of line) ≡ behind before (numbers_of (fields_from at line))
+  pub same : numbers_of fields ≡ behind before (numbers_of (drop count fields))
 
-pub counted_start : (line : List ℕ) → Counted line 0 0
-counted_start line = record {
-  inside = omega arith;
-  fewer = omega arith;
-  before = [];
-  size = refl;
-  same = behind-nil (numbers_of (fields_of line)) ∙ ap (λ (l : List (List ℕ)). behind [] (numbers_of l)) (sym (fields_at 0 line (omega arith)));
-}
+pub counted_start : (fields : List (List ℕ)) → Counted fields 0
+counted_start fields = record { before = []; size = refl; same = behind-nil (numbers_of fields) }
 
-pub start-before : (line : List ℕ) → (counted_start line).before ≡ []
+pub start-before : (fields : List (List ℕ)) → (counted_start fields).before ≡ []
 unfolding counted_start
-start-before line = refl
+start-before fields = refl
 
 numbers-cons : (field : List ℕ) (fields : List (List ℕ)) → numbers_of (field ∷ fields) ≡ together (number_of field) (numbers_of fields)
 unfolding numbers_of
 numbers-cons field fields = refl
 
-module _ {line : List ℕ} {at count : ℕ} (c : Counted line at count) where
+module _ {fields : List (List ℕ)} {count : ℕ} (c : Counted fields count) where
   -- all the numbers were read
-  pub counted-end : length line < at → numbers_of (fields_of line) ≡ some c.before
+  pub counted-end : count ≡ length fields → numbers_of fields ≡ Some c.before
   unfolding numbers_of behind
-  counted-end h = c.same ∙ rw (fields-behind at line h) (ap some (append-nil c.before))
+  counted-end h = c.same ∙ rw (drop_of_length-le fields {i = count} (omega arith)) (ap Some (append-nil c.before))
 
-  pub counted-says : length line < at → some count ≡ number_count (numbers_of (fields_of line))
-  counted-says h = rw (counted-end h) (ap some (sym c.size))
+  pub counted-says : count ≡ length fields → Some count ≡ number_count (numbers_of fields)
+  counted-says h = rw (counted-end h) (ap Some (sym c.size))
 
-  module _ {end : ℕ} (p : Piece 9 line at end) where
-    step : numbers_of (fields_of line) ≡ behind c.before (together (number_of (take (end - at) (drop at line))) (numbers_of (fields_from (end + 1) line)))
-    step = c.same ∙ ap (λ (l : List (List ℕ)). behind c.before (numbers_of l)) (fields-step p) ∙ ap (behind c.before) (numbers-cons _ _)
+  module _ (field : List ℕ) (next : (count < length fields) × (field ≡ get_or fields count field)) where
+    step : numbers_of fields ≡ behind c.before (together (number_of field) (numbers_of (drop (count + 1) fields)))
+    step =
+        let d : drop count fields ≡ field ∷ drop (count + 1) fields = rw add-one (drop-cons fields count field next.0 ∙ ap (λ (l : List ℕ). l ∷ drop (suc count) fields) (sym next.1)) in
+        c.same ∙ ap (λ (l : List (List ℕ)). behind c.before (numbers_of l)) d ∙ ap (behind c.before) (numbers-cons _ _)
 
-    pub counted-bad : number_of (take (end - at) (drop at line)) ≡ none → numbers_of (fields_of line) ≡ none
+    pub counted-bad : number_of field ≡ None → numbers_of fields ≡ None
     unfolding behind together
     counted-bad e = step ∙ rw e
 
-    pub counted_next : (z : ℤ) → number_of (take (end - at) (drop at line)) ≡ some z → Counted line (end + 1) (count + 1)
+    pub counted_next : (z : ℤ) → number_of field ≡ Some z → Counted fields (count + 1)
     counted_next z e = record {
-      inside = omega (arith, p.inside);
-      fewer = omega (arith, p.from, c.fewer);
       before = c.before ++ (z ∷ []);
       size = length-append c.before (z ∷ []) ∙ omega (arith, c.size);
-      same = step ∙ rw e (behind_more c.before z (numbers_of (fields_from (end + 1) line)));
+      same = step ∙ rw e (behind_more c.before z (numbers_of (drop (count + 1) fields)));
     }
 
-    pub next-before : (z : ℤ) (e : number_of (take (end - at) (drop at line)) ≡ some z) → (counted_next z e).before ≡ c.before ++ (z ∷ [])
+    pub next-before : (z : ℤ) (e : number_of field ≡ Some z) → (counted_next z e).before ≡ c.before ++ (z ∷ [])
     unfolding counted_next
     next-before z e = refl
 

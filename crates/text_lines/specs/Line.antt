@@ -1,6 +1,5 @@
 -- Lines: "Fields are parted by one tab; each line ends in a newline".
-use Rattle.std.specs.Prelude.{List, [], ◌∷◌, ◌++◌, map, ℕ, eqb, ℤ}
-use Rattle.std.proofs.Math.Option.{Option, none, some}
+use Rattle.std.specs.Prelude.{List, [], ◌∷◌, ◌++◌, map, ℕ, eqb, ℤ, None, Option, Some}
 use Rattle.words.specs.Word.{pick}
 use Rattle.text_numbers.specs.Number.{number_bytes, number_of}
 
@@ -52,15 +51,15 @@ lines_of (byte ∷ bytes) = pick (eqb byte newline) (ended [] ∷ lines_of bytes
 
 -- All of them, where there is none missing.
 unfoldable pub together : {A : Type 0} → Option A → Option (List A) → Option (List A)
-together (some first) (some others) = some (first ∷ others)
-together (some first) none = none
-together none others = none
+together (Some first) (Some others) = Some (first ∷ others)
+together (Some first) None = None
+together None others = None
 
 unfoldable pub numbers_of : List (List ℕ) → Option (List ℤ)
-numbers_of [] = some []
+numbers_of [] = Some []
 numbers_of (field ∷ fields) = together (number_of field) (numbers_of fields)
 
 -- The numbers of a line; none where it is malformed.
 unfoldable pub line_numbers : TextLine → Option (List ℤ)
 line_numbers (ended line) = numbers_of (fields_of line)
-line_numbers (unended line) = none
+line_numbers (unended line) = None

@@ -1,8 +1,7 @@
 -- Laws of lines: the fields of a line and the lines of a text are what its separators part; a line of numbers is read back,
 -- and one that was read is written alike.
-use Rattle.std.specs.Prelude.{◌≡◌, refl, List, [], ◌∷◌, ◌++◌, map, ℕ, ◌+◌, ◌^◌, ◌≤◌, ◌<◌, eqb, ℤ, length}
+use Rattle.std.specs.Prelude.{◌≡◌, refl, List, [], ◌∷◌, ◌++◌, map, ℕ, ◌+◌, ◌^◌, ◌≤◌, ◌<◌, eqb, ℤ, length, None, Option, Some}
 use Rattle.std.proofs.Common.{sym, ap, ◌∙◌, append_assoc, arith, ne_eqb, eqb-true}
-use Rattle.std.proofs.Math.Option.{Option, none, some}
 use Rattle.std.specs.Int.Signed.{mag}
 use Rattle.std.proofs.lemmas.List.{length-map}
 use Rattle.words.specs.Laws.{by_cases}
@@ -136,22 +135,22 @@ numbers_more : {field : List ℕ} {fields : List (List ℕ)} {z : ℤ} {zs : Lis
 unfolding Words
 numbers_more n r = record { written = rw (n.written, r.written); fits = (n.fits, r.fits) }
 
-together-reads : (field : List ℕ) (fields : List (List ℕ)) (first : Option ℤ) (others : Option (List ℤ)) (numbers : List ℤ) → number_of field ≡ first → ((zs : List ℤ) → others ≡ some zs → AreNumbers fields zs)
-    → together first others ≡ some numbers → AreNumbers (field ∷ fields) numbers
+together-reads : (field : List ℕ) (fields : List (List ℕ)) (first : Option ℤ) (others : Option (List ℤ)) (numbers : List ℤ) → number_of field ≡ first → ((zs : List ℤ) → others ≡ Some zs → AreNumbers fields zs)
+    → together first others ≡ Some numbers → AreNumbers (field ∷ fields) numbers
 unfolding together
-together-reads field fields none others numbers e ih d = not_some d
-together-reads field fields (some z) none numbers e ih d = not_some d
-together-reads field fields (some z) (some zs) numbers e ih d =
+together-reads field fields None others numbers e ih d = not_some d
+together-reads field fields (Some z) None numbers e ih d = not_some d
+together-reads field fields (Some z) (Some zs) numbers e ih d =
     let same : z ∷ zs ≡ numbers = cc in
     rw (← same) (numbers_more (number-reads field z e) (ih zs refl))
 
-pub numbers-reads : (fields : List (List ℕ)) (numbers : List ℤ) → numbers_of fields ≡ some numbers → AreNumbers fields numbers
+pub numbers-reads : (fields : List (List ℕ)) (numbers : List ℤ) → numbers_of fields ≡ Some numbers → AreNumbers fields numbers
 unfolding numbers_of
 numbers-reads [] numbers d = let same : [] ≡ numbers = cc in rw (← same) numbers-none
 numbers-reads (field ∷ fields) numbers d =
     together-reads field fields (number_of field) (numbers_of fields) numbers refl (numbers-reads fields) d
 
-pub numbers-shows : (numbers : List ℤ) → Words numbers → numbers_of (map number_bytes numbers) ≡ some numbers
+pub numbers-shows : (numbers : List ℤ) → Words numbers → numbers_of (map number_bytes numbers) ≡ Some numbers
 unfolding numbers_of Words together
 numbers-shows [] w = refl
 numbers-shows (z ∷ zs) w = rw (number-shows z w.0, numbers-shows zs w.1)
@@ -172,7 +171,7 @@ parted-free [] = tt
 parted-free (z ∷ []) = number-free 10 z (omega arith)
 parted-free (z ∷ (y ∷ zs)) = free-append 10 (number_bytes z) _ (number-free 10 z (omega arith)) (λ e. omega arith, parted-free (y ∷ zs))
 
-pub line-shows : (numbers : List ℤ) → 0 < length numbers → Words numbers → line_numbers (ended (parted (map number_bytes numbers))) ≡ some numbers
+pub line-shows : (numbers : List ℤ) → 0 < length numbers → Words numbers → line_numbers (ended (parted (map number_bytes numbers))) ≡ Some numbers
 unfolding line_numbers
 line-shows numbers h w = ap numbers_of (fields-shows numbers h) ∙ numbers-shows numbers w
 
@@ -193,7 +192,7 @@ pub record IsLine (line : TextLine) (numbers : List ℤ) : Type 0 where
 numbers-many : (fields : List (List ℕ)) (numbers : List ℤ) → AreNumbers fields numbers → length fields ≡ length numbers
 numbers-many fields numbers a = ap length a.written ∙ length-map numbers number_bytes
 
-pub line_reads : (line : TextLine) (numbers : List ℤ) → line_numbers line ≡ some numbers → IsLine line numbers
+pub line_reads : (line : TextLine) (numbers : List ℤ) → line_numbers line ≡ Some numbers → IsLine line numbers
 unfolding line_numbers joined line_bytes
 line_reads (ended line) numbers d =
     let a = numbers-reads (fields_of line) numbers d in
@@ -206,5 +205,5 @@ line_reads (ended line) numbers d =
 line_reads (unended line) numbers d = not_some d
 
 -- a line has as many bytes as numbers, its newline counted
-pub line-few : (line : List ℕ) (numbers : List ℤ) → numbers_of (fields_of line) ≡ some numbers → length numbers ≤ length line + 1
+pub line-few : (line : List ℕ) (numbers : List ℤ) → numbers_of (fields_of line) ≡ Some numbers → length numbers ≤ length line + 1
 line-few line numbers d = omega (arith, fields-few line, numbers-many (fields_of line) numbers (numbers-reads (fields_of line) numbers d))

@@ -2,48 +2,32 @@
 ghost use Rattle.std.specs.Prelude.{◌≡◌, ◌+◌, ◌≤◌, length, drop};
 ghost use Rattle.text_lines.specs.Line.{fields_of, numbers_of};
 ghost use Rattle.words.specs.Over.{over};
-ghost use Rattle.text_lines.specs.Reader.{piece_end, number_count, count_says, Holds, numbers_in};
+ghost use Rattle.text_lines.specs.Reader.{piece_end, number_count, Holds, numbers_in};
 
-use text_numbers::number::{Field, number};
-
-// How many numbers a line has, where it is well formed.
-#[derive(Clone, Copy)]
-pub enum Count {
-    Numbers(usize),
-    Malformed,
-}
+use text_numbers::number::number;
 
 // Where the first `separator` from `at` on stands; the end, where there is none.
 pub fn piece_end(bytes: &[u8], at: usize, separator: u8) -> usize
     requires { at ≤ length bytes.now }
     ensures { result ≡ at + piece_end separator (drop at bytes.now) }
 {
-    let mut end = at;
-    while end < bytes.len() {
-        if bytes[end] == separator {
-            return end;
-        }
-        end += 1;
-    }
-    end
+    let rest = &bytes[at..];
+    at + rest
+        .iter()
+        .position(|&byte| byte == separator)
+        .unwrap_or(rest.len())
 }
 
 // Counts the numbers of a line.
-pub fn count_numbers(line: &[u8]) -> Count
-    ensures { count_says result ≡ number_count (numbers_of (fields_of line.now)) }
+pub fn count_numbers(line: &[u8]) -> Option<usize>
+    ensures { result ≡ number_count (numbers_of (fields_of line.now)) }
 {
-    let mut at: usize = 0;
     let mut count: usize = 0;
-    while at <= line.len() {
-        let end = piece_end(line, at, b'\t');
-        let field = number(&line[at..end]);
-        let Field::Number(_) = field else {
-            return Count::Malformed;
-        };
+    for field in line.split(|&byte| byte == b'\t') {
+        number(field)?;
         count += 1;
-        at = end + 1;
     }
-    Count::Numbers(count)
+    Some(count)
 }
 
 // Writes the numbers of a line at the start of `table`.
@@ -51,16 +35,11 @@ pub fn store_numbers(line: &[u8], table: &mut [i32])
     requires { Holds (numbers_of (fields_of line.now)) table.old }
     ensures { table.new ≡ over (numbers_in (numbers_of (fields_of line.now))) table.old }
 {
-    let mut at: usize = 0;
-    let mut count: usize = 0;
-    while at <= line.len() {
-        let end = piece_end(line, at, b'\t');
-        let field = number(&line[at..end]);
-        let Field::Number(value) = field else {
+    let fields = line.split(|&byte| byte == b'\t');
+    for (count, field) in fields.enumerate() {
+        let Some(value) = number(field) else {
             return;
         };
         table[count] = value;
-        count += 1;
-        at = end + 1;
     }
 }

@@ -12,10 +12,8 @@ pub fn size_of(words: &[i32]) -> usize
     ensures { Measured words.now result }
 {
     let mut size: usize = 0;
-    let mut i: usize = 0;
-    while i < words.len() {
-        size += number_size(words[i]) + 1;
-        i += 1;
+    for &word in words {
+        size += number_size(word) + 1;
     }
     size
 }

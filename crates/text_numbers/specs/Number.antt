@@ -1,6 +1,5 @@
 -- Numbers: how one is written, and which bytes are one. "Decimal, no plus, no leading zero, no −0."
-use Rattle.std.specs.Prelude.{Bool, true, false, ◌&&◌, List, [], ◌∷◌, ◌++◌, ℕ, zero, suc, ◌+◌, ◌*◌, ◌-◌, ◌/◌, ◌%◌, ltb, leb, eqb, ℤ, pos, negsuc}
-use Rattle.std.proofs.Math.Option.{Option, none, some}
+use Rattle.std.specs.Prelude.{Bool, true, false, ◌&&◌, List, [], ◌∷◌, ◌++◌, ℕ, zero, suc, ◌+◌, ◌*◌, ◌-◌, ◌/◌, ◌%◌, ltb, leb, eqb, ℤ, pos, negsuc, None, Option, Some}
 use Rattle.words.specs.Word.{is_word, pick}
 
 -- The bytes '0' and '-'.
@@ -39,30 +38,30 @@ is_digit byte = leb zero_digit byte && leb byte (zero_digit + 9)
 
 -- The value of digits that stand behind others, whose value is given; none where a byte is no digit.
 unfoldable pub decimal : ℕ → List ℕ → Option ℕ
-decimal value [] = some value
-decimal value (byte ∷ bytes) = pick (is_digit byte) (decimal (10 * value + (byte - zero_digit)) bytes) none
+decimal value [] = Some value
+decimal value (byte ∷ bytes) = pick (is_digit byte) (decimal (10 * value + (byte - zero_digit)) bytes) None
 
 -- At least one digit; "no leading zero": a first digit 0 stands alone.
 unfoldable pub natural_of : List ℕ → Option ℕ
-natural_of [] = none
+natural_of [] = None
 natural_of (byte ∷ []) = decimal 0 (byte ∷ [])
-natural_of (first ∷ (second ∷ others)) = pick (eqb first zero_digit) none (decimal 0 (first ∷ (second ∷ others)))
+natural_of (first ∷ (second ∷ others)) = pick (eqb first zero_digit) None (decimal 0 (first ∷ (second ∷ others)))
 
 -- "A number outside 32 signed bits .. is malformed."
 unfoldable pub word : ℤ → Option ℤ
-word z = pick (is_word z) (some z) none
+word z = pick (is_word z) (Some z) None
 
 unfoldable pub positive : Option ℕ → Option ℤ
-positive none = none
-positive (some n) = word (pos n)
+positive None = None
+positive (Some n) = word (pos n)
 
 -- "No −0".
 unfoldable pub negative : Option ℕ → Option ℤ
-negative none = none
-negative (some zero) = none
-negative (some (suc n)) = word (negsuc n)
+negative None = None
+negative (Some zero) = None
+negative (Some (suc n)) = word (negsuc n)
 
 -- The number that bytes are; none where they are malformed.
 unfoldable pub number_of : List ℕ → Option ℤ
-number_of [] = none
+number_of [] = None
 number_of (first ∷ others) = pick (eqb first minus_sign) (negative (natural_of others)) (positive (natural_of (first ∷ others)))

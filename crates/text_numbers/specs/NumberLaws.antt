@@ -1,15 +1,14 @@
 -- Laws of numbers: the bytes that are read as a number are those it is written with, and no others.
 -- Digits are followed from the front: those behind digits of a number that is not 0 only lengthen its digits.
-use Rattle.std.specs.Prelude.{◌≡◌, refl, true, false, List, [], ◌∷◌, ◌++◌, ℕ, zero, suc, ◌+◌, ◌*◌, ◌-◌, ◌/◌, ◌%◌, ◌^◌, ◌≤◌, ◌<◌, ltb, leb, eqb, ℤ, pos, negsuc, length, get_or}
+use Rattle.std.specs.Prelude.{◌≡◌, refl, true, false, List, [], ◌∷◌, ◌++◌, ℕ, zero, suc, ◌+◌, ◌*◌, ◌-◌, ◌/◌, ◌%◌, ◌^◌, ◌≤◌, ◌<◌, ltb, leb, eqb, ℤ, pos, negsuc, length, get_or, None, Option, Some}
 use Rattle.std.proofs.Common.{sym, ap, ◌∙◌, append_assoc, append-nil, arith, length-append, ltb-true, ltb-false, lt-ltb, le-ltb, le-leb, leb-true, ne_eqb, eqb-true}
-use Rattle.std.proofs.Math.Option.{Option, none, some}
 use Rattle.std.specs.Int.Signed.{mag}
 use Rattle.std.proofs.lemmas.Bool.{eqb-false}
 use Rattle.words.specs.Word.{is_word}
 use Rattle.words.specs.Laws.{by_cases}
 use Rattle.text_numbers.specs.Number.{digits_within, digits, number_bytes, is_digit, decimal, natural_of, word, positive, negative, number_of}
 
-pub not_some : {A G : Type 0} {a : A} → none ≡ some a → G
+pub not_some : {A G : Type 0} {a : A} → None ≡ Some a → G
 not_some {a = a} e = absurd (let z : ◌≡◌ {A = ℕ} 0 1 = cc in omega arith)
 
 -- ---- digits
@@ -100,7 +99,7 @@ pub decimal_digit : (value byte : ℕ) (bytes : List ℕ) → is_digit byte ≡ 
 unfolding decimal
 decimal_digit value byte bytes h = rw h
 
-pub decimal-other : (value byte : ℕ) (bytes : List ℕ) → is_digit byte ≡ false → decimal value (byte ∷ bytes) ≡ none
+pub decimal-other : (value byte : ℕ) (bytes : List ℕ) → is_digit byte ≡ false → decimal value (byte ∷ bytes) ≡ None
 unfolding decimal
 decimal-other value byte bytes h = rw h
 
@@ -121,7 +120,7 @@ within-shows (suc k) n rest h =
     ∙ decimal-shows (n / 10) (n % 10) rest (omega arith)
     ∙ ap (λ (v : ℕ). decimal v rest) (omega arith)))
 
-digits-shows : (n : ℕ) → decimal 0 (digits n) ≡ some n
+digits-shows : (n : ℕ) → decimal 0 (digits n) ≡ Some n
 unfolding digits decimal
 digits-shows n = rw append-nil at (within-shows n n [] (omega arith))
 
@@ -137,15 +136,15 @@ length_some n =
     by_cases (ltb n 10) (λ e. omega (arith, length-one n (ltb-true n 10 e)))
     (λ e. omega (arith, length_more n (ltb-false n 10 e)))
 
-natural-zero : natural_of (digits 0) ≡ some 0
+natural-zero : natural_of (digits 0) ≡ Some 0
 unfolding natural_of digits digits_within decimal is_digit
 natural-zero = refl
 
-pub natural-shows : (n : ℕ) → natural_of (digits n) ≡ some n
+pub natural-shows : (n : ℕ) → natural_of (digits n) ≡ Some n
 natural-shows zero = natural-zero
 natural-shows (suc n) = natural-is (digits (suc n)) (omega (arith, length_some (suc n))) (λ e. omega (arith, head-digits (suc n) (omega arith))) ∙ digits-shows (suc n)
 
-pub word-is : (z : ℤ) → mag z < 2 ^ 31 → word z ≡ some z
+pub word-is : (z : ℤ) → mag z < 2 ^ 31 → word z ≡ Some z
 unfolding word is_word
 word-is z h = rw (lt-ltb (mag z) (2 ^ 31) h)
 
@@ -163,7 +162,7 @@ head-shown zero = rw (digits-one 0 (omega arith)) (omega arith)
 head-shown (suc n) = omega (arith, head-digits (suc n) (omega arith))
 
 -- a number that was written is read back
-pub number-shows : (z : ℤ) → mag z < 2 ^ 31 → number_of (number_bytes z) ≡ some z
+pub number-shows : (z : ℤ) → mag z < 2 ^ 31 → number_of (number_bytes z) ≡ Some z
 unfolding number_bytes positive negative
 number-shows (pos n) h =
     number-plain (digits n) (omega (arith, length_some n)) (λ e. omega (arith, head-shown n))
@@ -173,7 +172,7 @@ number-shows (negsuc n) h = number-minus (digits (suc n)) ∙ ap negative (natur
 -- ---- what was read is written alike
 
 -- digits behind those of a number that is not 0
-decimal-reads : (bytes front : List ℕ) (value n : ℕ) → front ≡ digits value → 0 < value → decimal value bytes ≡ some n → front ++ bytes ≡ digits n
+decimal-reads : (bytes front : List ℕ) (value n : ℕ) → front ≡ digits value → 0 < value → decimal value bytes ≡ Some n → front ++ bytes ≡ digits n
 unfolding decimal
 decimal-reads [] front value n e h d = let same : value ≡ n = cc in append-nil front ∙ e ∙ ap digits same
 decimal-reads (byte ∷ bytes) front value n e h d =
@@ -186,19 +185,19 @@ decimal-reads (byte ∷ bytes) front value n e h d =
     ∙ decimal-reads bytes (front ++ (byte ∷ [])) (10 * value + (byte - 48)) n more (omega arith) (rw t at d))
     (λ t. not_some (rw t at d))
 
-one-reads : (byte n : ℕ) → decimal 0 (byte ∷ []) ≡ some n → byte ∷ [] ≡ digits n
+one-reads : (byte n : ℕ) → decimal 0 (byte ∷ []) ≡ Some n → byte ∷ [] ≡ digits n
 unfolding decimal
 one-reads byte n d =
     by_cases (is_digit byte)
     (λ t.
     let r = digit-range byte t in
-    let f : some (10 * 0 + (byte - 48)) ≡ some n = rw t at d in
+    let f : Some (10 * 0 + (byte - 48)) ≡ Some n = rw t at d in
     let v : 10 * 0 + (byte - 48) ≡ n = cc in
     let b : 48 + n ≡ byte = omega arith in
     rw (digits-one n (omega arith), b))
     (λ t. not_some (rw t at d))
 
-more-reads : (first : ℕ) (others : List ℕ) (n : ℕ) → (first ≡ 48 → ⊥) → decimal 0 (first ∷ others) ≡ some n → first ∷ others ≡ digits n
+more-reads : (first : ℕ) (others : List ℕ) (n : ℕ) → (first ≡ 48 → ⊥) → decimal 0 (first ∷ others) ≡ Some n → first ∷ others ≡ digits n
 unfolding decimal
 more-reads first others n f d =
     by_cases (is_digit first)
@@ -208,7 +207,7 @@ more-reads first others n f d =
     decimal-reads others (first ∷ []) (10 * 0 + (first - 48)) n (sym (digits-one _ (omega arith) ∙ rw b)) (omega arith) (rw t at d))
     (λ t. not_some (rw t at d))
 
-natural-reads : (bytes : List ℕ) (n : ℕ) → natural_of bytes ≡ some n → bytes ≡ digits n
+natural-reads : (bytes : List ℕ) (n : ℕ) → natural_of bytes ≡ Some n → bytes ≡ digits n
 unfolding natural_of
 natural-reads [] n d = not_some d
 natural-reads (byte ∷ []) n d = one-reads byte n d
@@ -222,30 +221,30 @@ pub record IsNumber (bytes : List ℕ) (z : ℤ) : Type 0 where
   pub written : bytes ≡ number_bytes z
   pub fits : mag z < 2 ^ 31
 
-word-reads : (y z : ℤ) → word y ≡ some z → (y ≡ z) × (mag z < 2 ^ 31)
+word-reads : (y z : ℤ) → word y ≡ Some z → (y ≡ z) × (mag z < 2 ^ 31)
 unfolding word is_word
 word-reads y z d =
     by_cases (ltb (mag y) (2 ^ 31))
-    (λ t. let f : some y ≡ some z = rw t at d in let same : y ≡ z = cc in (same, rw (← same) (ltb-true _ _ t)))
+    (λ t. let f : Some y ≡ Some z = rw t at d in let same : y ≡ z = cc in (same, rw (← same) (ltb-true _ _ t)))
     (λ t. not_some (rw t at d))
 
-positive-reads : (bytes : List ℕ) (value : Option ℕ) (z : ℤ) → natural_of bytes ≡ value → positive value ≡ some z → IsNumber bytes z
+positive-reads : (bytes : List ℕ) (value : Option ℕ) (z : ℤ) → natural_of bytes ≡ value → positive value ≡ Some z → IsNumber bytes z
 unfolding positive number_bytes
-positive-reads bytes none z e d = not_some d
-positive-reads bytes (some n) z e d =
+positive-reads bytes None z e d = not_some d
+positive-reads bytes (Some n) z e d =
     let w = word-reads (pos n) z d in
     record { written = natural-reads bytes n e ∙ ap number_bytes w.0; fits = w.1 }
 
-negative-reads : (bytes : List ℕ) (value : Option ℕ) (z : ℤ) → natural_of bytes ≡ value → negative value ≡ some z → IsNumber (45 ∷ bytes) z
+negative-reads : (bytes : List ℕ) (value : Option ℕ) (z : ℤ) → natural_of bytes ≡ value → negative value ≡ Some z → IsNumber (45 ∷ bytes) z
 unfolding negative number_bytes
-negative-reads bytes none z e d = not_some d
-negative-reads bytes (some zero) z e d = not_some d
-negative-reads bytes (some (suc n)) z e d =
+negative-reads bytes None z e d = not_some d
+negative-reads bytes (Some zero) z e d = not_some d
+negative-reads bytes (Some (suc n)) z e d =
     let w = word-reads (negsuc n) z d in
     record { written = ap (λ (l : List ℕ). 45 ∷ l) (natural-reads bytes (suc n) e) ∙ ap number_bytes w.0; fits = w.1 }
 
 -- a number that was read is written alike
-pub number-reads : (bytes : List ℕ) (z : ℤ) → number_of bytes ≡ some z → IsNumber bytes z
+pub number-reads : (bytes : List ℕ) (z : ℤ) → number_of bytes ≡ Some z → IsNumber bytes z
 unfolding number_of
 number-reads [] z d = not_some d
 number-reads (byte ∷ bytes) z d =

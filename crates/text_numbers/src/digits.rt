@@ -1,17 +1,7 @@
 // Numbers of a text: how many bytes one is written with, and those bytes.
-ghost use Rattle.std.specs.Prelude.{◌≡◌, ◌≤◌, length, nat_abs};
+ghost use Rattle.std.specs.Prelude.{◌≡◌, ◌≤◌, length};
 ghost use Rattle.text_numbers.specs.Number.{digits, number_bytes};
 ghost use Rattle.text_numbers.specs.Writer.{Put};
-
-// The size of a number, its sign left out.
-fn magnitude(number: i32) -> u64
-    ensures { result ≡ nat_abs number }
-{
-    if number < 0 {
-        return (0 - (number as i64)) as u64;
-    }
-    number as u64
-}
 
 // How many digits `n` is written with.
 fn digit_count(n: u64) -> usize
@@ -28,7 +18,7 @@ fn digit_count(n: u64) -> usize
 pub fn number_size(number: i32) -> usize
     ensures { result ≡ length (number_bytes number) }
 {
-    let count = digit_count(magnitude(number));
+    let count = digit_count(u64::from(number.unsigned_abs()));
     if number < 0 {
         return count + 1;
     }
@@ -54,7 +44,7 @@ pub fn put_number(number: i32, text: &mut [u8]) -> usize
     requires { length (number_bytes number) ≤ length text.old }
     ensures { Put (number_bytes number) text.old result text.new }
 {
-    let n = magnitude(number);
+    let n = u64::from(number.unsigned_abs());
     if number < 0 {
         text[0] = b'-';
         return put_digits(n, &mut text[1..]) + 1;

@@ -1,110 +1,57 @@
 // Numbers of a text: the number without a sign that bytes are, up to a limit, and the word that a field's bytes are.
 ghost use Rattle.std.specs.Prelude.{◌≡◌};
-ghost use Rattle.text_numbers.specs.Number.{is_digit, decimal as decimal_of, natural_of, positive as positive_of, negative as negative_of, number_of};
-ghost use Rattle.text_numbers.specs.Reader.{at_most, digits_value, field_number};
-
-// The value of digits, where they are well formed and it is within the limit.
-#[derive(Clone, Copy)]
-pub enum Digits {
-    Value(u32),
-    Malformed,
-}
-
-// The number that a field is, where it is well formed.
-#[derive(Clone, Copy)]
-pub enum Field {
-    Number(i32),
-    Malformed,
-}
-
-fn is_digit(byte: u8) -> bool
-    ensures { result ≡ is_digit byte }
-{
-    if byte < b'0' {
-        return false;
-    }
-    byte <= b'9'
-}
-
-fn wide(digit: u8) -> u64
-    ensures { result ≡ digit }
-{
-    digit as u64
-}
+ghost use Rattle.text_numbers.specs.Number.{decimal as decimal_of, natural_of, positive as positive_of, negative as negative_of, number_of};
+ghost use Rattle.text_numbers.specs.Reader.{at_most};
 
 // The value of decimal digits. It stops above the limit, so that no value wraps.
-fn decimal(bytes: &[u8], limit: u32) -> Digits
-    ensures { digits_value result ≡ at_most limit (decimal_of 0 bytes.now) }
+fn decimal(bytes: &[u8], limit: u32) -> Option<u32>
+    ensures { result ≡ at_most limit (decimal_of 0 bytes.now) }
 {
     let mut value: u64 = 0;
-    let mut i: usize = 0;
-    while i < bytes.len() {
-        let byte = bytes[i];
-        if !is_digit(byte) {
-            return Digits::Malformed;
+    for &byte in bytes {
+        if !byte.is_ascii_digit() {
+            return None;
         }
-        value = 10 * value + wide(byte - b'0');
-        if value > limit as u64 {
-            return Digits::Malformed;
+        value = 10 * value + u64::from(byte - b'0');
+        if value > u64::from(limit) {
+            return None;
         }
-        i += 1;
     }
-    Digits::Value(value as u32)
+    Some(value as u32)
 }
 
 // At least one digit, and no leading zero.
-pub fn natural_of(bytes: &[u8], limit: u32) -> Digits
-    ensures { digits_value result ≡ at_most limit (natural_of bytes.now) }
+pub fn natural_of(bytes: &[u8], limit: u32) -> Option<u32>
+    ensures { result ≡ at_most limit (natural_of bytes.now) }
 {
-    let length = bytes.len();
-    if length == 0 {
-        return Digits::Malformed;
-    }
-    if length == 1 {
-        return decimal(bytes, limit);
-    }
-    if bytes[0] == b'0' {
-        return Digits::Malformed;
+    if bytes.is_empty() || (bytes.len() > 1 && bytes[0] == b'0') {
+        return None;
     }
     decimal(bytes, limit)
 }
 
-fn positive(digits: Digits) -> Field
-    ensures { field_number result ≡ positive_of (digits_value digits) }
+fn positive(digits: Option<u32>) -> Option<i32>
+    ensures { result ≡ positive_of digits }
 {
-    let Digits::Value(value) = digits else {
-        return Field::Malformed;
-    };
-    if value > 2147483647 {
-        return Field::Malformed;
-    }
-    Field::Number(value as i32)
+    i32::try_from(digits?).ok()
 }
 
 // A number after a minus sign, which is not 0.
-fn negative(digits: Digits) -> Field
-    ensures { field_number result ≡ negative_of (digits_value digits) }
+fn negative(digits: Option<u32>) -> Option<i32>
+    ensures { result ≡ negative_of digits }
 {
-    let Digits::Value(value) = digits else {
-        return Field::Malformed;
-    };
+    let value = digits?;
     if value == 0 {
-        return Field::Malformed;
+        return None;
     }
-    if value > 2147483648 {
-        return Field::Malformed;
-    }
-    Field::Number((0 - (value as i64)) as i32)
+    i32::try_from(-i64::from(value)).ok()
 }
 
 // The number that a field is.
-pub fn number(field: &[u8]) -> Field
-    ensures { field_number result ≡ number_of field.now }
+pub fn number(field: &[u8]) -> Option<i32>
+    ensures { result ≡ number_of field.now }
 {
-    if field.len() == 0 {
-        return Field::Malformed;
-    }
-    if field[0] == b'-' {
+    if !field.is_empty() && field[0] == b'-' {
         return negative(natural_of(&field[1..], 2147483648));
     }
     positive(natural_of(field, 2147483648))

@@ -14,12 +14,9 @@ pub fn put_bytes(bytes: &[u8], text: &mut [u8]) -> usize
     requires { length bytes.now ≤ length text.old }
     ensures { Put bytes.now text.old result text.new }
 {
-    let mut i: usize = 0;
-    while i < bytes.len() {
-        text[i] = bytes[i];
-        i += 1;
-    }
-    i
+    let size = bytes.len();
+    text[..size].copy_from_slice(bytes);
+    size
 }
 
 // A number without a sign: at most twenty digits.
@@ -46,10 +43,8 @@ pub fn put_words(words: &[i32], text: &mut [u8]) -> usize
     ensures upper_bound { result ≤ 12 * length words.now }
 {
     let mut at: usize = 0;
-    let mut i: usize = 0;
-    while i < words.len() {
-        at += put_word(words[i], &mut text[at..]);
-        i += 1;
+    for &word in words {
+        at += put_word(word, &mut text[at..]);
     }
     at
 }
@@ -59,10 +54,7 @@ pub fn put_ending_name(ending: Ending, text: &mut [u8]) -> usize
     requires { 8 ≤ length text.old }
     ensures { Put (ending_name ending) text.old result text.new }
 {
-    let name = ending_name(ending);
-    let bytes = name.bytes;
-    let size = name.size;
-    put_bytes(&bytes[..size], text)
+    put_bytes(ending_name(ending).as_bytes(), text)
 }
 
 pub fn put_ending(ending: Ending, text: &mut [u8]) -> usize

@@ -8,14 +8,23 @@ ghost use Rattle.text_report.specs.Lines.{blank, spaced, line_room, refused_line
 use super::field::{put_bytes, put_count, put_ending, put_words};
 use words::{Ending, Refusal};
 
+// The place of a refusal.
+fn put_place(place: usize, text: &mut [u8]) -> usize
+    requires { 21 ≤ length text.old }
+    ensures put { Put (blank ∷ digits place) text.old result text.new }
+    ensures upper_bound { result ≤ 21 }
+{
+    put_count(place as u64, text)
+}
+
 // "refused, number, place".
 pub fn refused_line(refusal: Refusal, text: &mut [u8]) -> usize
     requires { line_room 0 ≤ length text.old }
     ensures { Put (refused_line refusal.number refusal.place) text.old result text.new }
 {
     let named = put_bytes(b"refused", text);
-    let numbered = named + put_count(refusal.number as u64, &mut text[named..]);
-    let end = numbered + put_count(refusal.place as u64, &mut text[numbered..]);
+    let numbered = named + put_count(refusal.cause.number() as u64, &mut text[named..]);
+    let end = numbered + put_place(refusal.place, &mut text[numbered..]);
     text[end] = b'\n';
     end + 1
 }

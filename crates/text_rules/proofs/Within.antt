@@ -1,8 +1,8 @@
 -- A text within the limits: it is read into tables of 35 and 768 words, and what its rule is.
+use Rattle.std.specs.Prelude.{Err, Ok, Result, None, Option, Some}
 use mathlib.Core.Path.{◌≡◌, sym, ap, ◌∙◌}
 use mathlib.Core.Bool.{◌&&◌}
 use mathlib.Core.List.{List, [], ◌∷◌}
-use mathlib.Core.Option.{Option, none, some}
 use Prim.Native.Nat.{ℕ, ◌-◌, ◌*◌, ◌≤◌, ◌<◌}
 use native.Mathlib.Omega.{arith}
 use lib.Dec.{leb}
@@ -12,23 +12,20 @@ use borrow.Author.Tests.{leb-true, le-leb, lt-leb}
 use Rattle.words.specs.Layout.{header_fits, count_fits, layout_of, store_size}
 use Rattle.words.specs.Laws.{both, by_cases, header_fits-facts}
 use Rattle.words.specs.declared.Form.TheVariants.{Source}
-use Rattle.words.specs.declared.Refusal.{Refusal}
-use Rattle.words.specs.declared.Verdict.{Verdict}
-use Rattle.words.specs.declared.Verdict.TheVariants as verdicts
+use Rattle.words.specs.Refusals.{NumberedRefusal}
 use Rattle.check_source.specs.Refusal.{refusal}
 use Rattle.text_lines.specs.Line.{fields_of, numbers_of}
 use Rattle.text_form.specs.Text.{malformed, parse}
 use Rattle.words.specs.Over.{over}
 use Rattle.words.specs.OverLaws.{written-part}
 use Rattle.text_form.specs.Answers.{finished, cause_unless, read_result, Reads}
-use Rattle.text_form.specs.declared.ReadAnswer.TheVariants.{Read, Refused}
 use Rattle.text_numbers.specs.NumberLaws.{not_some}
 use Rattle.text_form.specs.Passing.{Passes}
 use Rattle.text_form.proofs.AnswerLaws.{read-passing, refused-finished}
 use Rattle.text_lines.specs.Reader.{numbers_in}
 use Rattle.text_form.specs.Reader.{HasLines}
 use Rattle.text_form.proofs.ReaderLaws.{line-exactly, lent-line, scratch-part}
-use Rattle.text_rules.specs.Rules.{most_bytes, most_rows, most_words, refused, accepted, checked_rule, trial_cause, limited_rule, parsed_rule, rule_of, WithinLimits, IsAccepted, Holds}
+use Rattle.text_rules.specs.Rules.{most_bytes, most_rows, most_words, refused, checked_rule, trial_cause, limited_rule, parsed_rule, rule_of, WithinLimits, Holds}
 
 -- ---- the length of a text
 
@@ -52,7 +49,7 @@ record Small (header : List ℤ) (row_words : ℕ) : Type 0 where
   few_words : store_size (layout_of Source header) ≤ most_words
   few_rows : row_words ≤ 6 * most_rows
 
-no-cause-small : (header : List ℤ) (row_words : ℕ) → trial_cause header row_words ≡ none → Small header row_words
+no-cause-small : (header : List ℤ) (row_words : ℕ) → trial_cause header row_words ≡ None → Small header row_words
 unfolding trial_cause cause_unless
 no-cause-small header row_words e =
     by_cases (header_fits Source header && leb (store_size (layout_of Source header)) most_words)
@@ -74,11 +71,11 @@ module _ {text : List ℕ} {end numbers row_words : ℕ} (l : HasLines 6 Source 
       let part : take (numbers - 0) written ≡ l.program.header = scratch-part (line-exactly l) table written w ∙ ap numbers_in (lent-line l) in
       rw (l.rows_size, ← part) (sym e)
 
-  pub lines-refused : (number : ℕ) → trial_cause l.program.header (length l.program.rows) ≡ some number → parsed_rule (parse Source text) ≡ refused number 0
+  pub lines-refused : (number : ℕ) → trial_cause l.program.header (length l.program.rows) ≡ Some number → parsed_rule (parse Source text) ≡ refused number 0
   unfolding parsed_rule limited_rule
   lines-refused number e = rw (l.parses, e)
 
-  pub lines-within : trial_cause l.program.header (length l.program.rows) ≡ none → WithinLimits text
+  pub lines-within : trial_cause l.program.header (length l.program.rows) ≡ None → WithinLimits text
   lines-within e = record { program = l.program; parses = l.parses; no_cause = e }
 
 -- ---- a text within the limits
@@ -106,7 +103,7 @@ module _ {text : List ℕ} (w : WithinLimits text) where
         ≡ record { outcome = finished (length w.program.header ∷ length w.program.rows ∷ []); header = over w.program.header header; rows = over w.program.rows rows }
     reads = read-passing Source text w.program w.parses small.passes header rows (omega (arith, few-numbers)) (omega (arith, small.few_rows))
 
-    pub within-read : (headerWords row_words : ℕ) → Reads (read_result Source text header rows) (Read headerWords row_words) headerLeft rows_left → Tables headerWords row_words headerLeft rows_left
+    pub within-read : (headerWords row_words : ℕ) → Reads (read_result Source text header rows) (Ok (headerWords, row_words)) headerLeft rows_left → Tables headerWords row_words headerLeft rows_left
     within-read headerWords row_words d =
         let counts : finished (headerWords ∷ row_words ∷ []) ≡ finished (length w.program.header ∷ length w.program.rows ∷ []) = rw reads at d.outcome in
         let first : headerWords ≡ length w.program.header = cc in
@@ -118,22 +115,22 @@ module _ {text : List ℕ} (w : WithinLimits text) where
           rows_read = written-part w.program.rows rows rows_left row_words second (rw reads at d.rows-left);
         }
 
-    pub within-accepted : {G : Type 0} (refusal : Refusal) → Reads (read_result Source text header rows) (Refused refusal) headerLeft rows_left → G
+    pub within-accepted : {G : Type 0} (refusal : NumberedRefusal) → Reads (read_result Source text header rows) (Err refusal) headerLeft rows_left → G
     within-accepted refusal d = refused-finished (rw reads at d.outcome)
 
   -- what the check says of the tables
   module _ {headerWords row_words : ℕ} {headerLeft rows_left : List ℤ} (t : Tables headerWords row_words headerLeft rows_left) where
-    verdict-is : (verdict : Verdict) → verdict ≡ refusal (take (headerWords - 0) headerLeft) (take (row_words - 0) rows_left) → refusal w.program.header w.program.rows ≡ verdict
+    verdict-is : (verdict : Result (Unit {0}) NumberedRefusal) → verdict ≡ refusal (take (headerWords - 0) headerLeft) (take (row_words - 0) rows_left) → refusal w.program.header w.program.rows ≡ verdict
     verdict-is verdict e = rw (← t.header_read, ← t.rows_read) (sym e)
 
-    pub table-refused : (cause : Refusal) → verdicts.Refused cause ≡ refusal (take (headerWords - 0) headerLeft) (take (row_words - 0) rows_left) → parsed_rule (parse Source text) ≡ refused cause.number cause.place
+    pub table-refused : (cause : NumberedRefusal) → Err cause ≡ refusal (take (headerWords - 0) headerLeft) (take (row_words - 0) rows_left) → parsed_rule (parse Source text) ≡ refused cause.number cause.place
     unfolding checked_rule
-    table-refused cause e = within-rule ∙ rw (verdict-is (verdicts.Refused cause) e)
+    table-refused cause e = within-rule ∙ rw (verdict-is (Err cause) e)
 
-    pub table-accepted : verdicts.Accepted ≡ refusal (take (headerWords - 0) headerLeft) (take (row_words - 0) rows_left) → Holds (parsed_rule (parse Source text)) headerWords row_words headerLeft rows_left
+    pub table-accepted : (Ok tt) ≡ refusal (take (headerWords - 0) headerLeft) (take (row_words - 0) rows_left) → Holds (parsed_rule (parse Source text)) headerWords row_words headerLeft rows_left
     unfolding checked_rule
     table-accepted e =
-        let checked = verdict-is verdicts.Accepted e in
+        let checked = verdict-is (Ok tt) e in
         record {
           program = w.program;
           is = within-rule ∙ rw checked;

@@ -1,17 +1,13 @@
 -- Rules: what a rule's text gives within the trial program's limits. Document 01, the end of "Text".
-use Rattle.std.specs.Prelude.{◌≡◌, true, ◌&&◌, List, ℕ, ◌+◌, ◌-◌, ◌*◌, ◌≤◌, leb, ℤ, length, take}
-use Rattle.std.proofs.Math.Option.{Option, none, some}
+use Rattle.std.specs.Prelude.{◌≡◌, true, ◌&&◌, List, ℕ, ◌+◌, ◌-◌, ◌*◌, ◌≤◌, leb, ℤ, length, take, Err, Ok, Result, None, Option, Some}
+use Rattle.words.specs.Refusals.{NumberedRefusal}
 use Rattle.words.specs.Word.{pick}
 use Rattle.words.specs.Declarations.{declaration_limit}
 use Rattle.words.specs.Layout.{header_fits, count_fits, layout_of, store_size}
 use Rattle.words.specs.declared.Form.TheVariants.{Source}
-use Rattle.words.specs.declared.Verdict.{Verdict}
-use Rattle.words.specs.declared.Verdict.TheVariants.{Accepted, Refused}
 use Rattle.check_source.specs.Refusal.{refusal}
 use Rattle.text_form.specs.Text.{Parsed, parsed, malformed, Program, parse}
 use Rattle.text_form.specs.Answers.{cause_unless}
-use Rattle.text_rules.specs.declared.RuleAnswer.{RuleAnswer}
-use Rattle.text_rules.specs.declared.RuleAnswer.TheVariants as answers
 
 -- "A text over 16,384 bytes"; "at most 128 rows"; "S at most 1,024"; "with budget 100,000".
 abbrev pub most_bytes : ℕ
@@ -36,19 +32,19 @@ pub data Rule : Type 0 where
   refused : (number place : ℕ) → Rule
 
 -- The check.
-unfoldable pub checked_rule : Verdict → Program → Rule
-checked_rule (Refused cause) program = refused cause.number cause.place
-checked_rule Accepted program = accepted program
+unfoldable pub checked_rule : Result (Unit {0}) NumberedRefusal → Program → Rule
+checked_rule (Err cause) program = refused cause.number cause.place
+checked_rule (Ok tt) program = accepted program
 
 -- "S over 1,024 prints 1 and more than 128 rows print 2, both with place 0", and so do the check's own grounds for 1 and 2.
 unfoldable pub trial_cause : List ℤ → ℕ → Option ℕ
 trial_cause header row_words =
     cause_unless (header_fits Source header && leb (store_size (layout_of Source header)) most_words) 1
-    (cause_unless (count_fits Source row_words && leb row_words (6 * most_rows)) 2 none)
+    (cause_unless (count_fits Source row_words && leb row_words (6 * most_rows)) 2 None)
 
 unfoldable pub limited_rule : Option ℕ → Program → Rule
-limited_rule (some number) program = refused number 0
-limited_rule none program = checked_rule (refusal program.header program.rows) program
+limited_rule (Some number) program = refused number 0
+limited_rule None program = checked_rule (refusal program.header program.rows) program
 
 -- "Then 14 comes first; after it" 1 and 2.
 unfoldable pub parsed_rule : Parsed Program → Rule
@@ -65,14 +61,14 @@ rule_of text = pick (leb (length text) most_bytes) (parsed_rule (parse Source te
 pub record WithinLimits (text : List ℕ) : Type 0 where
   pub program : Program
   pub parses : parse Source text ≡ parsed program
-  pub no_cause : trial_cause program.header (length program.rows) ≡ none
+  pub no_cause : trial_cause program.header (length program.rows) ≡ None
 
 -- A program is within the limits, and the check accepts it.
 pub record IsAccepted (header rows : List ℤ) : Type 0 where
   pub header-fits : header_fits Source header ≡ true
   pub few_words : store_size (layout_of Source header) ≤ most_words
   pub few_rows : length rows ≤ 6 * most_rows
-  pub checked : refusal header rows ≡ Accepted
+  pub checked : refusal header rows ≡ Ok tt
 
 -- So many words at the start of each table are the program's.
 pub record Holds (rule : Rule) (headerWords row_words : ℕ) (header rows : List ℤ) : Type 0 where
@@ -84,6 +80,6 @@ pub record Holds (rule : Rule) (headerWords row_words : ℕ) (header rows : List
   pub header_read : take (headerWords - 0) header ≡ program.header
   pub rows_read : take (row_words - 0) rows ≡ program.rows
 
-abbrev pub RuleRead : Rule → RuleAnswer → List ℤ → List ℤ → Type 0
-RuleRead rule (answers.Accepted headerWords row_words) header rows = Holds rule headerWords row_words header rows
-RuleRead rule (answers.Refused cause) header rows = rule ≡ refused cause.number cause.place
+abbrev pub RuleRead : Rule → Result (ℕ × ℕ) NumberedRefusal → List ℤ → List ℤ → Type 0
+RuleRead rule (Ok (headerWords, row_words)) header rows = Holds rule headerWords row_words header rows
+RuleRead rule (Err cause) header rows = rule ≡ refused cause.number cause.place

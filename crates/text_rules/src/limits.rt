@@ -3,25 +3,24 @@ ghost use Rattle.std.specs.Prelude.{◌≡◌};
 ghost use Rattle.text_form.specs.Reader.{cause_says};
 ghost use Rattle.text_rules.specs.Rules.{trial_cause};
 
-use text_form::limits::Cause;
-use words::Form;
 use words::layout::{count_fits, header_fits, store_size};
+use words::{Cause, Form};
 
 // All grounds for 1, then all grounds for 2.
-pub fn trial_cause(header: &[i32], row_words: usize) -> Cause
+pub fn trial_cause(header: &[i32], row_words: usize) -> Option<Cause>
     ensures { cause_says result ≡ trial_cause header.now row_words }
 {
     if !header_fits(Form::Source, header) {
-        return Cause::Number(1);
+        return Some(Cause::Header);
     }
     if store_size(Form::Source, header) > 1024 {
-        return Cause::Number(1);
+        return Some(Cause::Header);
     }
     if !count_fits(Form::Source, row_words) {
-        return Cause::Number(2);
+        return Some(Cause::RowCount);
     }
     if row_words > 768 {
-        return Cause::Number(2);
+        return Some(Cause::RowCount);
     }
-    Cause::Absent
+    None
 }

@@ -11,72 +11,24 @@ mod source; // source.rt: the input's lines, and the texts that they stand for
 
 ghost use Rattle.std.specs.Prelude.{◌≡◌, ◌≤◌, length};
 
-use self::source::{expanded, line_end};
-use console::{print_decimal, read_full, write_all};
+use self::source::expanded;
+use console::read_full;
 use std::io;
-use text_form::{ReadAnswer, WriteAnswer};
 use words::{Form, Refusal};
 
-fn print_space(rt: &impl Print, n: usize) -> io::Result<()> {
-    write_all(rt, &[b' '])?;
-    print_decimal(rt, n as u64)
-}
-
-fn print_refusal(rt: &impl Print, refusal: Refusal) -> io::Result<()> {
-    let number = refusal.number;
-    let place = refusal.place;
-    write_all(rt, &[b'r', b'e', b'f', b'u', b's', b'e', b'd'])?;
-    print_space(rt, number as usize)?;
-    print_space(rt, place)
-}
-
 // The number of the cause; 0 where there is none.
-fn read_number(answer: ReadAnswer) -> usize {
-    match answer {
-        ReadAnswer::Read(_, _) => 0,
-        ReadAnswer::Refused(refusal) => refusal.number as usize,
+fn number_of(refusal: Option<Refusal>) -> u32 {
+    match refusal {
+        Some(refusal) => refusal.cause.number(),
+        None => 0,
     }
-}
-
-fn write_number(answer: WriteAnswer) -> usize {
-    match answer {
-        WriteAnswer::Written(_) => 0,
-        WriteAnswer::Refused(refusal) => refusal.number as usize,
-    }
-}
-
-// Whether the first `n` bytes of `written` are `text`.
-fn is_same(text: &[u8], written: &[u8], n: usize) -> bool {
-    if n != text.len() {
-        return false;
-    }
-    let mut i: usize = 0;
-    while i < text.len() {
-        if i >= written.len() {
-            return false;
-        }
-        if text[i] != written[i] {
-            return false;
-        }
-        i += 1;
-    }
-    true
 }
 
 // One less than `n`, within `most`.
 fn less_one(n: usize, most: usize) -> usize
     ensures { result ≤ most }
 {
-    if n == 0 {
-        return 0;
-    }
-    least(n - 1, most)
-}
-
-fn least(n: usize, most: usize) -> usize
-    ensures { result ≤ most }
-{
-    if n < most { n } else { most }
+    n.saturating_sub(1).min(most)
 }
 
 // Prints what a text buffer too short by one gives.
@@ -89,10 +41,8 @@ fn write_short(
     buffer: &mut [u8],
 ) -> io::Result<()> {
     let short = less_one(n, buffer.len());
-    print_space(
-        rt,
-        write_number(text_form::write(form, header, rows, &mut buffer[0..short])),
-    )
+    let answer = text_form::write(form, header, rows, &mut buffer[0..short]);
+    print!(rt; " {}", number_of(answer.err()))
 }
 
 // Writes a header and rows, and prints whether that gave the text.
@@ -104,12 +54,11 @@ fn write_again(
     rows: &[i32],
     buffer: &mut [u8],
 ) -> io::Result<()> {
-    let answer = text_form::write(form, header, rows, buffer);
-    let WriteAnswer::Written(n) = answer else {
+    let Ok(n) = text_form::write(form, header, rows, buffer) else {
         return Ok(());
     };
-    if is_same(text, buffer, n) {
-        write_all(rt, &[b' ', b's', b'a', b'm', b'e'])?;
+    if n <= buffer.len() && &buffer[..n] == text {
+        print!(rt; " same")?;
     }
     write_short(rt, form, header, rows, n, buffer)
 }
@@ -124,10 +73,8 @@ fn read_short_header(
     rows: &mut [i32],
 ) -> io::Result<()> {
     let short = less_one(words, header.len());
-    print_space(
-        rt,
-        read_number(text_form::read(form, text, &mut header[0..short], rows)),
-    )
+    let answer = text_form::read(form, text, &mut header[0..short], rows);
+    print!(rt; " {}", number_of(answer.err()))
 }
 
 // Prints what a row table too short by one gives.
@@ -140,10 +87,8 @@ fn read_short_rows(
     rows: &mut [i32],
 ) -> io::Result<()> {
     let short = less_one(words, rows.len());
-    print_space(
-        rt,
-        read_number(text_form::read(form, text, header, &mut rows[0..short])),
-    )
+    let answer = text_form::read(form, text, header, &mut rows[0..short]);
+    print!(rt; " {}", number_of(answer.err()))
 }
 
 // Reads a text, and prints the answer.
@@ -155,15 +100,12 @@ fn read_text(
     header: &mut [i32],
     rows: &mut [i32],
 ) -> io::Result<()> {
-    let answer = text_form::read(form, text, header, rows);
-    match answer {
-        ReadAnswer::Refused(refusal) => print_refusal(rt, refusal),
-        ReadAnswer::Read(header_words, row_words) => {
-            write_all(rt, &[b'r', b'e', b'a', b'd'])?;
-            print_space(rt, header_words)?;
-            print_space(rt, row_words)?;
-            let numbers = least(header_words, header.len());
-            let words = least(row_words, rows.len());
+    match text_form::read(form, text, header, rows) {
+        Err(refusal) => print!(rt; "refused {} {}", refusal.cause.number(), refusal.place),
+        Ok((header_words, row_words)) => {
+            print!(rt; "read {header_words} {row_words}")?;
+            let numbers = header_words.min(header.len());
+            let words = row_words.min(rows.len());
             write_again(rt, form, text, &header[0..numbers], &rows[0..words], buffer)?;
             read_short_header(rt, form, text, header_words, header, rows)?;
             read_short_rows(rt, form, text, row_words, header, rows)
@@ -193,7 +135,7 @@ fn read_line(
     let form = form_of(line[0]);
     let n = expanded(line, text);
     read_text(rt, form, &text[0..n], buffer, header, rows)?;
-    write_all(rt, &[b'\n'])
+    println!(rt)
 }
 
 fn read_lines(
@@ -204,11 +146,8 @@ fn read_lines(
     header: &mut [i32],
     rows: &mut [i32],
 ) -> io::Result<()> {
-    let mut at: usize = 0;
-    while at < input.len() {
-        let end = line_end(input, at);
-        read_line(rt, &input[at..end], text, buffer, header, rows)?;
-        at = end + 1;
+    for line in input.split(|byte| *byte == b'\n') {
+        read_line(rt, line, text, buffer, header, rows)?;
     }
     Ok(())
 }

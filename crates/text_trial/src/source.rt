@@ -1,22 +1,6 @@
 // The input's lines, and the texts that they stand for.
 ghost use Rattle.std.specs.Prelude.{◌≤◌, length};
 
-// Where the line from `at` on ends.
-pub fn line_end(input: &[u8], at: usize) -> usize
-    requires { at ≤ length input.now }
-    ensures upper_bound { result ≤ length input.now }
-    ensures lower_bound { at ≤ result }
-{
-    let mut end = at;
-    while end < input.len() {
-        if input[end] == b'\n' {
-            return end;
-        }
-        end += 1;
-    }
-    end
-}
-
 // Puts a byte at `at`, if there is room, and answers what follows.
 fn put_byte(byte: u8, text: &mut [u8], at: usize) -> usize
     requires { at ≤ length text.old }
@@ -31,18 +15,14 @@ fn put_byte(byte: u8, text: &mut [u8], at: usize) -> usize
 
 // Puts `count` rows' lines.
 fn put_rows(count: usize, text: &mut [u8], at: usize) -> usize
-    requires count_bound { count ≤ 2048 }
-    requires at_in_bounds { at ≤ length text.old }
+    requires { at ≤ length text.old }
     ensures { result ≤ length text.old }
 {
-    let row = [
-        b'1', b'\t', b'0', b'\t', b'0', b'\t', b'0', b'\t', b'0', b'\t', b'0', b'\n',
-    ];
     let mut end = at;
-    let mut i: usize = 0;
-    while i < 12 * count {
-        end = put_byte(row[i % 12], text, end);
-        i += 1;
+    for _row in 0..count {
+        for byte in b"1\t0\t0\t0\t0\t0\n" {
+            end = put_byte(*byte, text, end);
+        }
     }
     end
 }
@@ -66,12 +46,9 @@ fn put_symbol(symbol: u8, text: &mut [u8], at: usize) -> usize
 pub fn expanded(line: &[u8], text: &mut [u8]) -> usize
     ensures { result ≤ length text.old }
 {
-    let mut end: usize = 0;
-    let mut i: usize = 1;
-    while i < line.len() {
-        let symbol = line[i];
-        end = put_symbol(symbol, text, end);
-        i += 1;
+    let mut end = 0;
+    for symbol in line.iter().skip(1) {
+        end = put_symbol(*symbol, text, end);
     }
     end
 }

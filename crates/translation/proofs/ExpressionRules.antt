@@ -1,6 +1,7 @@
 -- An expression and its code go alike: a rule a kind, over any computation and any code of its parts. Straight code computes; each
 -- rule follows the source's computation by cases and pays for the kernel's steps.
-use Rattle.std.specs.Prelude.{◌≡◌, Bool, ℕ, zero, suc, ◌+◌, ◌*◌, ◌-◌, ◌≤◌, ◌<◌, pos, negsuc}
+use Rattle.std.specs.Prelude.{◌≡◌, Bool, ℕ, zero, suc, ◌+◌, ◌*◌, ◌-◌, ◌≤◌, ◌<◌, pos, negsuc, Ok, Result as Outcome}
+use Rattle.words.specs.declared.FaultSort.{FaultSort}
 use Rattle.std.proofs.Math.Path.{refl}
 use Rattle.std.proofs.Common.{◌∙◌, arith}
 use Rattle.std.proofs.Math.Bool.{true, false}
@@ -9,7 +10,7 @@ use Rattle.std.proofs.Math.IntN.{ℤ}
 use Rattle.std.proofs.Math.ListN.{get_or}
 use Rattle.words.specs.Word.{same_word, pick}
 use Rattle.words.specs.Layout.{array_base, array_length}
-use Rattle.arithmetic.specs.Arithmetic.{Outcome, value, is_true, truth, bit, logical_not, apply, minus as minus_word, element as element_word}
+use Rattle.arithmetic.specs.Arithmetic.{is_true, truth, bit, logical_not, apply, minus as minus_word, element as element_word}
 use Rattle.words.specs.Laws.{by_cases}
 use Rattle.words.specs.declared.Operator.{Operator}
 use Rattle.words.specs.declared.Operator.TheVariants.{Equal, NotEqual}
@@ -31,13 +32,13 @@ use Rattle.translation.specs.Related.{Setting, kernel_in, Frame, Related, Alike,
 use Rattle.translation.proofs.Held.{Holds, holds-number, holds-word, holds-top, Keeps, holds_later, holds-stored, holds-saved, after-step, holds-depth, source, kernel, kernel-append, see, release, Kept, kept-later, keep, Aims, aims-variable, aims-element, aims-inside, aims-release, see-place, aims-under}
 
 -- == 0 and != 0 give the truth of a value.
-zero-equal : (v : ℤ) → apply Equal v (pos 0) ≡ value (logical_not v)
+zero-equal : (v : ℤ) → apply Equal v (pos 0) ≡ Ok (logical_not v)
 unfolding apply logical_not bit is_true same_word
 zero-equal (pos zero) = refl
 zero-equal (pos (suc n)) = rw (eqb-suc-zero n)
 zero-equal (negsuc n) = refl
 
-zero-differs : (v : ℤ) → apply NotEqual v (pos 0) ≡ value (truth v)
+zero-differs : (v : ℤ) → apply NotEqual v (pos 0) ≡ Ok (truth v)
 unfolding apply truth bit is_true same_word
 zero-differs (pos zero) = refl
 zero-differs (pos (suc n)) = rw (eqb-suc-zero n)
@@ -94,7 +95,7 @@ module _ {setting : Setting} (fr : Frame setting) {C D : Type 0} (R : C → D �
   -- once and the kernel's when it uses the place.
   pub record Points (W : ℕ → Bool) (F : Stack ℤ) (m : Computation ℕ) (xs : Items) (q : Place) (n k : ℕ) : Type 0 where
     pub goes : (x : ℕ) (σ κ : State) (f : ℕ → State → Result C) (g : Signal → State → Result D) → Related fr F x σ κ
-        → ((o : Outcome ℕ) (F' : Stack ℤ) (τ ν : State) → Keeps fr W σ τ → Aims fr F q o F' n τ → depth F' ≡ depth F + k → Related fr F' x τ ν → Alike setting.measure R (source fr (settle o) τ f) (g next ν))
+        → ((o : Outcome ℕ FaultSort) (F' : Stack ℤ) (τ ν : State) → Keeps fr W σ τ → Aims fr F q o F' n τ → depth F' ≡ depth F + k → Related fr F' x τ ν → Alike setting.measure R (source fr (settle o) τ f) (g next ν))
         → Alike setting.measure R (source fr m σ f) (kernel fr xs next κ g)
 
 -- ---- what an expression leaves alone
@@ -154,7 +155,7 @@ module _ {setting : Setting} (fr : Frame setting) {C D : Type 0} {R : C → D �
 
   pub points-variable : {W : ℕ → Bool} (i : ℕ) → i < setting.measure.words → Points fr R W F (ret i) none (variable i) 0 0
   unfolding run_then items
-  points-variable i b = record { goes = λ x σ κ f g n k. k (value i) F σ κ (record { keeps = λ i b e. refl }) (aims-variable b) (omega arith) n }
+  points-variable i b = record { goes = λ x σ κ f g n k. k (Ok i) F σ κ (record { keeps = λ i b e. refl }) (aims-variable b) (omega arith) n }
 
 -- There is room for a result: its temporary is one of T, or its variable one of the source's.
 abbrev pub UseRoom : {setting : Setting} → Frame setting → Use → ℕ → Type 0
@@ -358,7 +359,7 @@ module _ {setting : Setting} (fr : Frame setting) {C D : Type 0} {R : C → D �
         through (kept-later fr h W (after-step fr kept) s.1) aims (omega arith) room x (x + (14 + 2 * rows)) ν f g m (omega arith) k)));
   }
     where
-      through : {q : Place} {n u : ℕ} {w right : ℤ} {o : Outcome ℕ} {G : Stack ℤ} {τ : State} → Kept fr F (held h W) right w τ → Aims fr (F ▹ w) q o G n τ → depth G ≡ u → u < fr.temporaries
+      through : {q : Place} {n u : ℕ} {w right : ℤ} {o : Outcome ℕ FaultSort} {G : Stack ℤ} {τ : State} → Kept fr F (held h W) right w τ → Aims fr (F ▹ w) q o G n τ → depth G ≡ u → u < fr.temporaries
           → (x y : ℕ) (ν : State) (f : ℤ → State → Result C) (g : Signal → State → Result D) → Related fr G y τ ν → x + (14 + 2 * n) ≤ y → ValueFollows fr R F top x f g
           → Alike setting.measure R (source fr (do position ← settle o; update operator position right new_value) τ f)
           (kernel fr (assigning fr.first (temporary fr.first u) (read q) (assigning fr.first (temporary fr.first t) (binary operator (read (temporary fr.first u)) (atom fr.first t (held h W))) (assigning fr.first q (read (temporary fr.first t)) none))) next ν g)
@@ -401,7 +402,7 @@ module _ {setting : Setting} (fr : Frame setting) {C D : Type 0} {R : C → D �
         through aims (omega arith) room x y ν f g m le k);
   }
     where
-      through : {q : Place} {n u : ℕ} {w : ℤ} {o : Outcome ℕ} {G : Stack ℤ} {τ : State} → Aims fr (F ▹ w) q o G n τ → depth G ≡ u → u < fr.temporaries
+      through : {q : Place} {n u : ℕ} {w : ℤ} {o : Outcome ℕ FaultSort} {G : Stack ℤ} {τ : State} → Aims fr (F ▹ w) q o G n τ → depth G ≡ u → u < fr.temporaries
           → (x y : ℕ) (ν : State) (f : ℤ → State → Result C) (g : Signal → State → Result D) → Related fr G y τ ν → x + (14 + 2 * n) ≤ y → ValueFollows fr R F top x f g
           → Alike setting.measure R (source fr (do position ← settle o; update operator position (pos 1) old_value) τ f)
           (kernel fr (assigning fr.first (temporary fr.first t) (read q) (assigning fr.first (temporary fr.first u) (binary operator (read (temporary fr.first t)) (constant (pos 1))) (assigning fr.first q (read (temporary fr.first u)) none))) next ν g)

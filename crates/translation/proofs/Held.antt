@@ -1,11 +1,12 @@
 -- What an atom holds, and where a place lies, told by the stack of temporaries; and what the kernel reads there.
-use Rattle.std.specs.Prelude.{◌≡◌, Bool, true, false, List, [], ◌∷◌, ℕ, zero, suc, ◌+◌, ◌≤◌, ◌<◌, ℤ, pos, get_or, set}
+use Rattle.std.specs.Prelude.{◌≡◌, Bool, true, false, List, [], ◌∷◌, ℕ, zero, suc, ◌+◌, ◌≤◌, ◌<◌, ℤ, pos, get_or, set, Ok, Result as Outcome}
+use Rattle.words.specs.declared.FaultSort.{FaultSort}
 use Rattle.std.proofs.Math.Path.{refl, ap, fun_ext}
 use Rattle.std.proofs.Common.{◌∙◌, arith, add-one, get_or-set_same}
 use Rattle.std.proofs.Math.Nat.{add-zero}
 use Rattle.words.specs.Word.{pick}
 use Rattle.words.specs.Layout.{array_base, array_length}
-use Rattle.arithmetic.specs.Arithmetic.{Outcome, value, element as element_word}
+use Rattle.arithmetic.specs.Arithmetic.{element as element_word}
 use Rattle.arithmetic.proofs.Laws.{element-inside}
 use Rattle.computation.specs.Computation.{Computation, ret, settle}
 use Rattle.computation.specs.Run.{Write, State, stepped, written, Result}
@@ -110,20 +111,20 @@ module _ {setting : Setting} (fr : Frame setting) where
   keep h holds-top m = (_, record { under = _; holds = holds-top; pops = λ n. n }, m)
 
   -- A kernel place above the stack F stands for the outcome o of the bounds test; n is the number of rows below its own.
-  pub data Aims (F : Stack ℤ) : Place → Outcome ℕ → Stack ℤ → ℕ → State → Type 0 where
-    aims-variable : {i : ℕ} {σ : State} → i < setting.measure.words → Aims F (variable i) (value i) F 0 σ
+  pub data Aims (F : Stack ℤ) : Place → Outcome ℕ FaultSort → Stack ℤ → ℕ → State → Type 0 where
+    aims-variable : {i : ℕ} {σ : State} → i < setting.measure.words → Aims F (variable i) (Ok i) F 0 σ
     aims-element : {array t : ℕ} {h : Atom} {v : ℤ} {F' : Stack ℤ} {σ : State} → array_base setting.layout array + array_length setting.layout array ≤ setting.measure.words → depth F ≡ t → Holds F h v F' σ
         → Aims F (element array (atom fr.first t h)) (element_word (array_base setting.layout array) (array_length setting.layout array) v) F' 1 σ
 
-  pub aims-inside : {F F' : Stack ℤ} {q : Place} {o : Outcome ℕ} {n : ℕ} {σ : State} → Aims F q o F' n σ → (i : ℕ) → o ≡ value i → i < setting.measure.words
+  pub aims-inside : {F F' : Stack ℤ} {q : Place} {o : Outcome ℕ FaultSort} {n : ℕ} {σ : State} → Aims F q o F' n σ → (i : ℕ) → o ≡ Ok i → i < setting.measure.words
   aims-inside (aims-variable {i = j} h) i e = let z : j ≡ i = cc in omega arith
   aims-inside (aims-element {v = v} h at k) i e = omega (arith, (element-inside _ _ v i e).most)
 
-  pub aims-release : {F F' : Stack ℤ} {q : Place} {o : Outcome ℕ} {n x : ℕ} {ρ σ κ : State} → Aims F q o F' n ρ → Related fr F' x σ κ → Related fr F x σ κ
+  pub aims-release : {F F' : Stack ℤ} {q : Place} {o : Outcome ℕ FaultSort} {n x : ℕ} {ρ σ κ : State} → Aims F q o F' n ρ → Related fr F' x σ κ → Related fr F x σ κ
   aims-release (aims-variable h) m = m
   aims-release (aims-element h at k) m = release k m
 
-  pub see-place : {D : Type 0} {F F' : Stack ℤ} {q : Place} {o : Outcome ℕ} {n x : ℕ} {σ κ : State} → Aims F q o F' n σ → Related fr F' x σ κ
+  pub see-place : {D : Type 0} {F F' : Stack ℤ} {q : Place} {o : Outcome ℕ FaultSort} {n x : ℕ} {σ κ : State} → Aims F q o F' n σ → Related fr F' x σ κ
       → (u : ℕ) (ws : List Write) (k : ℕ → State → Result D)
       → source (locate (kernel_in setting) q) (record { store = κ.store; count = u; writes = ws }) k ≡ source (settle o) (record { store = κ.store; count = u + n; writes = ws }) k
   unfolding run_then evaluate
@@ -131,7 +132,7 @@ module _ {setting : Setting} (fr : Frame setting) where
   see-place (aims-element h at a) m u ws k = rw (see at a m, add-one)
 
   -- The temporary under a place's index is written over; the place stays.
-  pub aims-under : {F F' : Stack ℤ} {w : ℤ} {q : Place} {o : Outcome ℕ} {n x t : ℕ} {ρ σ κ : State} (v : ℤ) → depth F ≡ t → Aims (F ▹ w) q o F' n ρ → Related fr F' x σ κ
+  pub aims-under : {F F' : Stack ℤ} {w : ℤ} {q : Place} {o : Outcome ℕ FaultSort} {n x t : ℕ} {ρ σ κ : State} (v : ℤ) → depth F ≡ t → Aims (F ▹ w) q o F' n ρ → Related fr F' x σ κ
       → (F'' : Stack ℤ) × (depth F'' ≡ depth F') × Aims (F ▹ v) q o F'' n ρ × Related fr F'' x σ (written (fr.first + t) v κ)
   aims-under v at (aims-variable h) m = (_, refl, aims-variable h, related-over v at m)
   aims-under v at (aims-element h e holds-number) m = (_, refl, aims-element h e holds-number, related-over v at m)

@@ -1,11 +1,10 @@
 -- When a source run and a kernel run go alike: a relation of their states, kept by every step and store, and of their results. A
 -- source step brings `rate` credits and a kernel step takes one, so the bound on counts falls out.
-use Rattle.std.specs.Prelude.{◌≡◌, refl, Bool, false, List, [], ◌∷◌, ◌++◌, ℕ, zero, suc, ◌+◌, ◌*◌, ◌≤◌, ◌<◌, ℤ, pos, length, get_or}
+use Rattle.std.specs.Prelude.{◌≡◌, refl, Bool, false, List, [], ◌∷◌, ◌++◌, ℕ, zero, suc, ◌+◌, ◌*◌, ◌≤◌, ◌<◌, ℤ, pos, length, get_or, Err, Ok, Result as Outcome}
 use Rattle.std.proofs.Common.{ap, ◌∙◌, append_assoc, arith, add-zero, length-set, length-append}
 use Rattle.std.proofs.Math.ListN.{get_or-append}
 use Rattle.std.proofs.lemmas.List.{set-append_left}
 use Rattle.words.specs.Layout.{Layout, array_base, array_length}
-use Rattle.arithmetic.specs.Arithmetic.{Outcome, value, fault as faulty}
 use Rattle.words.specs.declared.FaultSort.{FaultSort}
 use Rattle.computation.specs.Computation.{Turn, again, leave, Computation}
 use Rattle.computation.specs.Run.{Write, State, stepped, written, spent, fault, Result, ok, stopped, and_then}
@@ -205,9 +204,9 @@ module _ {μ : Measure} {A B C D : Type 0} {Q : A → B → State → State → 
 
 -- ---- cases
 
-pub by-outcome : {A G : Type 0} (o : Outcome A) → ((a : A) → o ≡ value a → G) → ((sort : FaultSort) → o ≡ faulty sort → G) → G
-by-outcome (value a) y n = y a refl
-by-outcome (faulty sort) y n = n sort refl
+pub by-outcome : {A G : Type 0} (o : Outcome A FaultSort) → ((a : A) → o ≡ Ok a → G) → ((sort : FaultSort) → o ≡ Err sort → G) → G
+by-outcome (Ok a) y n = y a refl
+by-outcome (Err sort) y n = n sort refl
 
 -- ---- two loops go round together: P holds before each round, and Q where they are left
 

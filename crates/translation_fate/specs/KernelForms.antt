@@ -1,10 +1,9 @@
 -- Kernel forms: the kernel header and rows of a source program, and what holds of them.
-use Rattle.std.specs.Prelude.{◌≡◌, List, ◌+◌, ◌*◌, ◌≤◌, ℤ}
+use Rattle.std.specs.Prelude.{◌≡◌, List, ◌+◌, ◌*◌, ◌≤◌, ℤ, Ok}
 use Rattle.words.specs.Table.{row_count}
 use Rattle.words.specs.Declarations.{declaration_count}
 use Rattle.words.specs.Layout.{layout_of, store_words, temporaries_of}
 use Rattle.words.specs.declared.Form.TheVariants.{Source, Kernel}
-use Rattle.words.specs.declared.Verdict.TheVariants.{Accepted}
 use Rattle.language.specs.Trees.{block}
 use Rattle.language.specs.Decode.{decode}
 use Rattle.language.specs.Program.{contents}
@@ -30,7 +29,7 @@ kernel_rows_of header rows = emit (block (translate (store_words Source header r
 -- What a kernel header and kernel rows have to be for a source program.
 pub record KernelFormOf (header rows kernel_header kernel_rows : List ℤ) : Type 0 where
   -- Demand 2: "The translation of an accepted program is a legal kernel program."
-  pub accepted : kernel_refusal kernel_header kernel_rows ≡ Accepted
+  pub accepted : kernel_refusal kernel_header kernel_rows ≡ Ok tt
   -- Demand 3.
   pub share_fate : ShareFate header rows kernel_header kernel_rows
   -- Change 14: the same writes, also where the runs never end.
@@ -48,4 +47,4 @@ pub record KernelFormOf (header rows kernel_header kernel_rows : List ℤ) : Typ
 
 -- What holds of every source program that the check accepts.
 abbrev pub HasKernelForm : List ℤ → List ℤ → Type 0
-HasKernelForm header rows = source_refusal header rows ≡ Accepted → KernelFormOf header rows (kernel_header_of header rows) (kernel_rows_of header rows)
+HasKernelForm header rows = source_refusal header rows ≡ Ok tt → KernelFormOf header rows (kernel_header_of header rows) (kernel_rows_of header rows)

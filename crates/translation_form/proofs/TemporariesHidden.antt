@@ -1,22 +1,22 @@
 -- Two runs of a translation that start alike but for the temporaries show the same. The code of a function is blind as that of the main part is, by
 -- induction on the calls within calls: what is known where a function is called stays known.
 use Rattle.std.specs.Prelude.{◌≡◌, refl, Bool, true, false, eqb, ℤ, pos, length, get_or, take}
-use Rattle.std.proofs.Common.{sym, ◌∙◌, ap, subst, arith, length-append}
+use Rattle.std.proofs.Common.{sym, ◌∙◌, ap, arith, length-append}
 use mathlib.Core.List.{List, [], ◌∷◌, ◌++◌}
 use Prim.Native.Nat.{ℕ, zero, suc, ◌+◌, ◌≤◌, ◌<◌}
 use Rattle.std.proofs.Math.ListN.{get_or-append}
 use Rattle.words.specs.Word.{pick}
-use Rattle.words.specs.Layout.{Layout, store_size, array_base, array_length}
+use Rattle.words.specs.Layout.{Layout, store_size}
 use Rattle.words.specs.Laws.{array-in-store}
 use Rattle.computation.specs.Computation.{Computation}
-use Rattle.computation.specs.Run.{spent, fault, State, Result, Limit, run, start, final, ending_of}
+use Rattle.computation.specs.Run.{spent, fault, State, Result, start, final, ending_of}
 use Rattle.computation.specs.Agreement.{Words, ◌within◌, Agree}
 use Rattle.computation.proofs.AgreementLaws.{Same, same_ok, same-stopped, Blind, blind-ret, blind-then, blind-step, blind-save}
 use Rattle.language.specs.Trees.{block, Items, none, ◌then◌, ◌here◌, define}
-use Rattle.language.specs.Meaning.{Signal, next, breaking, continuing, seeking, returning, perform, items, exec}
+use Rattle.language.specs.Meaning.{Signal, next, breaking, continuing, seeking, returning, perform, exec}
 use Rattle.language.specs.Functions.{Function, function_of, function_count, storing, returned, invoke, context_by, call_by, context_of}
 use Rattle.language.specs.FunctionWrites.{functions_write}
-use Rattle.language.specs.WellFormed.{NamedStatement, NamedItems, SourceName, SourceTree}
+use Rattle.language.specs.WellFormed.{NamedItems, SourceName, SourceTree}
 use Rattle.translation.specs.Translate.{exits, items_labels, items_code, program_levels, program_code, translate}
 use Rattle.translation.proofs.PassedCode.{labelled-items, labelled-count}
 use Rattle.translation.proofs.FunctionCode.{main_of, main_label, main-named, code-main}

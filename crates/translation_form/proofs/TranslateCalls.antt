@@ -1,8 +1,8 @@
 -- The calls of a translation are in order: each goes where the source's goes, with as many arguments, and definitions keep their numbers. By
 -- induction on the tree.
-use Rattle.std.specs.Prelude.{◌≡◌, Bool, true, List, [], ℕ, suc, ◌+◌, ◌≤◌, ◌<◌, eqb, pos, length}
+use Rattle.std.specs.Prelude.{◌≡◌, Bool, true, ℕ, suc, ◌+◌, eqb, pos, length}
 use Rattle.std.proofs.Math.Path.{refl, sym, ap, fun_ext}
-use Rattle.std.proofs.Common.{◌∙◌, subst, arith}
+use Rattle.std.proofs.Common.{◌∙◌, arith}
 use Rattle.std.proofs.Math.Bool.{false}
 use Rattle.words.specs.Word.{pick}
 use Rattle.words.specs.Layout.{Layout}

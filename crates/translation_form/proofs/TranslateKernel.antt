@@ -1,17 +1,17 @@
 -- Every translation of a source program is a kernel program's tree, and its header a kernel header. Put together from the files on form,
 -- labels, names, bounds and depth.
-use Rattle.std.specs.Prelude.{◌≡◌, refl, true, false, List, [], ◌∷◌, map, ◌⊎◌, ℕ, ◌+◌, ◌-◌, ◌≤◌, ◌<◌, ℤ, pos, length}
+use Rattle.std.specs.Prelude.{◌≡◌, refl, true, List, [], ◌∷◌, map, ◌⊎◌, ℕ, ◌+◌, ◌-◌, ◌≤◌, ◌<◌, ℤ, pos, length}
 use Rattle.std.proofs.Common.{ap, subst, inl, inr, arith}
 use Rattle.std.proofs.lemmas.List.{length-map}
 use Rattle.words.specs.Word.{natural}
 use Rattle.words.specs.Layout.{Layout, store_size, layout_of, declared_of, temporaries_of, behind_of, header_fits}
 use Rattle.words.specs.Laws.{header_fits-facts, facts-header_fits}
 use Rattle.words.specs.declared.Form.TheVariants.{Source, Kernel}
-use Rattle.language.specs.Trees.{block, Items, none}
+use Rattle.language.specs.Trees.{block, Items}
 use Rattle.language.specs.Sizes.{statement_rows, statement_depth}
 use Rattle.language.specs.WellFormed.{SourceName, SourceTree}
 use Rattle.language.specs.FunctionWrites.{functions_write}
-use Rattle.translation.specs.Translate.{exits, translate, temporaries, kernel_header}
+use Rattle.translation.specs.Translate.{translate, temporaries, kernel_header}
 use Rattle.translation.specs.KernelForm.{KernelTree, KernelName, name_variable, name_temporary}
 use Rattle.translation_form.specs.TranslateForm.{form-program}
 use Rattle.translation.proofs.TranslateLabels.{labels-distinct}

@@ -1,11 +1,12 @@
 -- Blind code: kernel code that reads no temporary before it has written it. What two runs of it agree on only grows, so a set of known
 -- words goes through it; a rule for each form of the kernel's statements. A call leaves known what was known before it.
-use Rattle.std.specs.Prelude.{◌≡◌, Bool, true, false, List, [], ◌∷◌, ℕ, ◌+◌, ◌<◌, ℤ, pos}
+use Rattle.std.specs.Prelude.{◌≡◌, Bool, true, false, List, [], ◌∷◌, ℕ, ◌+◌, ◌<◌, ℤ, pos, Err, Ok, Result}
+use Rattle.words.specs.declared.FaultSort.{FaultSort}
 use Rattle.std.proofs.Math.Path.{refl, ap, fun_ext}
 use Rattle.std.proofs.Common.{◌∙◌, arith}
 use Rattle.words.specs.Word.{pick}
 use Rattle.words.specs.Layout.{array_base, array_length}
-use Rattle.arithmetic.specs.Arithmetic.{Outcome, value as given, fault as faulty, is_true, apply, minus as minus_word, element as element_word}
+use Rattle.arithmetic.specs.Arithmetic.{is_true, apply, minus as minus_word, element as element_word}
 use Rattle.arithmetic.proofs.Laws.{element-inside}
 use Rattle.words.specs.declared.Operator.{Operator}
 use Rattle.words.specs.declared.FaultSort.TheVariants.{Guard}
@@ -86,16 +87,16 @@ module _ (G : Ground) where
     enter-blind : {A : Type 0} {Q : A → Words} {m : Computation A} → Blind Seen P Q m → Blind Seen P Q (enter m)
     enter-blind b = blind-then Seen (blind-step Seen sees) (λ _. b)
 
-    settled : {A : Type 0} (o : Outcome A) → Blind Seen P (λ _. P) (settle o)
-    settled (given a) = blind-ret Seen a (λ i k. k)
-    settled (faulty sort) = blind-fail Seen sort sees
+    settled : {A : Type 0} (o : Result A FaultSort) → Blind Seen P (λ _. P) (settle o)
+    settled (Ok a) = blind-ret Seen a (λ i k. k)
+    settled (Err sort) = blind-fail Seen sort sees
 
     mutual
       unfolding evaluate
 
       reads-blind : {e : Expression} → Reads P e → Blind Seen P (λ _. P) (evaluate C e)
       reads-blind reads-constant = blind-ret Seen _ (λ i k. k)
-      reads-blind (reads_word {i} b) = blind-settle Seen (given i) load sees (λ j e. let same : i ≡ j = cc in blind-load Seen j (rw (← same) b))
+      reads-blind (reads_word {i} b) = blind-settle Seen (Ok i) load sees (λ j e. let same : i ≡ j = cc in blind-load Seen j (rw (← same) b))
       reads-blind (reads-element {array} {e} b r) =
           blind-again Seen (enter (evaluate C e)) (λ index. settle (element_word (array_base C.layout array) (array_length C.layout array) index)) load
           (blind-then Seen (enter-blind (reads-blind r)) (λ index. blind-settle Seen (element_word (array_base C.layout array) (array_length C.layout array) index) load sees
@@ -114,7 +115,7 @@ module _ (G : Ground) where
     unfolding perform evaluate
     assign-blind i r =
         blind-then Seen (enter-blind (blind-then Seen (enter-blind (reads-blind r)) (λ v. blind-again Seen step (λ _. ret i) _ (blind-then Seen (blind-step Seen sees) (λ _.
-        blind-settle Seen (given i) _ sees (λ j f. let same : i ≡ j = cc in
+        blind-settle Seen (Ok i) _ sees (λ j f. let same : i ≡ j = cc in
         blind-then Seen (blind-save Seen j v (λ k q d. (elim q [ old p ↦ p | new e ↦ absurd (d (e ∙ same)) ]))) (λ _. blind-ret Seen v (λ j k. k))))))))
         (λ _. blind-ret Seen next (λ j k. k))
 

@@ -16,7 +16,7 @@ use Rattle.translation.specs.declared.Use.{Use}
 use Rattle.translation.specs.declared.Use.TheVariants.{Dropped as dropped, Wanted as wanted, Stored as stored}
 use Rattle.translation.specs.Translate.{Atom, number, word, top, held, together, nothing, landed, updated, taken, arguments_taken, atom_of, atom, copy_code, move_code, store_code, target, kernel_place, assigning, choosing, temporary, update_code, step_code, postfix_code, argument_atoms, expression_code, index_code, arguments_code, part_code, or_empty, test_code, loop_code, case_tests, rounds_code, labels, Exits, exits, statement_code, arms_code, items_code}
 use Rattle.translation.specs.Holding.{hold_code}
-use Rattle.translation_form.specs.BlindCode.{And, old, new, and-more, Ground, Seen, ArrayKnown, Reads, ReadsAll, reads_none, reads-also, reads-call, reads-constant, reads_word, reads-element, reads-minus, reads-binary, reads_more, after, BlindItems, items-less, items-none, items-here, items-empty, items-assign, items-element, items-block, items-if, items-goto, items-abort, items-return, items-while, items-append}
+use Rattle.translation_form.specs.BlindCode.{And, old, new, and-more, Ground, Seen, ArrayKnown, Reads, ReadsAll, reads_none, reads-also, reads-call, reads-constant, reads_word, reads-element, reads-minus, reads-binary, reads_more, BlindItems, items-less, items-none, items-here, items-empty, items-assign, items-element, items-block, items-if, items-goto, items-abort, items-return, items-while, items-append}
 
 -- Source trees name words below `first`, which are known all along; the temporaries of their code begin at S, wherever that is.
 module _ (G : Ground) (L : Layout) (first : ℕ) (seen : (i : ℕ) → i < first → G.known i) (arrays-known : (array : ℕ) → array < length L.lengths → ArrayKnown G array) (called : ℕ → ℕ → Bool) (S : ℕ) where

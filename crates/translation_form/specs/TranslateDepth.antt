@@ -6,7 +6,7 @@ use Rattle.words.specs.declared.Operator.{Operator}
 use Rattle.language.specs.Trees.{Expression, constant, read, minus, not, binary, and, or, comma, conditional, assign, compound, prefix, postfix, call, Place, variable, element, Arguments, no_more, ◌also◌, Part, absent, present, Mark, case, default, label, Statement, empty, express, block, if_then, if_else, while, do_while, for, switch, break, continue, goto, guarded_if, guarded_do, abort, declare, give_back, Arms, no_arm, arm, Items, none, ◌then◌, ◌here◌, define, ◌⧺◌}
 use Rattle.language.specs.Writes.{writes, index_writes}
 use Rattle.language.specs.FunctionWrites.{functions_write}
-use Rattle.language.specs.Sizes.{expression_depth, place_depth, arguments_depth, parameters_depth, part_depth, statement_depth, arms_depth, items_depth}
+use Rattle.language.specs.Sizes.{expression_depth, place_depth, arguments_depth, part_depth, statement_depth, arms_depth, items_depth}
 use Rattle.translation.specs.Holding.{hold_code}
 use Rattle.translation.proofs.HeldCode.{hold-either, store-either}
 use Rattle.translation.specs.Uses.{use_for, passed_on, direct}

@@ -1,6 +1,6 @@
 -- Laws of an accepted source program: what the measures and the writers ask of its resolved table, and that its kernel form is as large as it
 -- is measured.
-use Rattle.std.specs.Prelude.{◌≡◌, refl, true, List, ℕ, ◌+◌, ◌*◌, ◌≤◌, ◌<◌, ℤ, length}
+use Rattle.std.specs.Prelude.{◌≡◌, refl, true, List, ℕ, ◌+◌, ◌*◌, ◌≤◌, ◌<◌, ℤ, length, Ok}
 use Rattle.std.proofs.Math.Path.{sym, ap, ap₂}
 use Rattle.std.proofs.Common.{subst, ◌∙◌, arith}
 use Rattle.std.proofs.Math.Logic.{⊎_elim}
@@ -14,7 +14,6 @@ use Rattle.words.specs.declared.Form.TheVariants.{Source as SourceForm}
 use Rattle.words.specs.declared.Kind.TheVariants.{OfExpression, OfStatement}
 use Rattle.words.specs.declared.ExpressionKind.TheVariants.{Variable}
 use Rattle.words.specs.declared.StatementKind.TheVariants.{Block, Declare}
-use Rattle.words.specs.declared.Verdict.TheVariants.{Accepted}
 use Rattle.language.specs.Trees.{block}
 use Rattle.language.specs.Decode.{expression_at}
 use Rattle.language.specs.Program.{contents}
@@ -48,7 +47,7 @@ use Rattle.writers_programs.specs.Asks.{ProgramAsks, kernel_program}
 use Rattle.translation_fate.specs.KernelForms.{kernel_header_of, kernel_rows_of}
 use Rattle.translator.specs.HeaderLaws.{kernel-header-length}
 
-module _ (header rows : List ℤ) (accepted : source_refusal header rows ≡ Accepted) where
+module _ (header rows : List ℤ) (accepted : source_refusal header rows ≡ (Ok tt)) where
   legal : Legal header rows
   legal = (accepts-legal header rows).0 accepted
 

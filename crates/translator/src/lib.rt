@@ -3,7 +3,6 @@
 
 ghost use Rattle.std.specs.Prelude.{◌≡◌};
 ghost use Rattle.words.specs.declared.Form.TheVariants.{Source};
-ghost use Rattle.words.specs.declared.Verdict.TheVariants.{Accepted};
 ghost use Rattle.language_programs.specs.Program.{resolved_rows};
 ghost use Rattle.check_source.specs.Refusal.{refusal as source_refusal};
 ghost use Rattle.measures_table.specs.Measures.{Measured};
@@ -16,17 +15,10 @@ use measures::pass::measure;
 use measures::program::measured_program;
 use words::declarations::declaration_count;
 use words::layout::store_size;
-use words::{Form, Refusal, Verdict};
+use words::{Cause, Form, Refusal};
 use writers_programs::program::write_program;
 
 pub mod header; // header.rt: the kernel header
-
-// What the translation answers: how many words the kernel header and the kernel rows have.
-#[derive(Clone, Copy)]
-pub enum TranslateAnswer {
-    Translated(usize, usize),
-    Refused(Refusal),
-}
 
 // Writes both tables of an accepted program, whose resolved table `table` measures: cause 10, before the first word is written.
 fn write_measured(
@@ -36,22 +28,22 @@ fn write_measured(
     table: &[usize],
     kernel_header: &mut [i32],
     kernel_rows: &mut [i32],
-) -> TranslateAnswer
-    requires { (source_refusal header.now rows.now ≡ Accepted) × (resolved.now ≡ resolved_rows Source header.now rows.now) × Measured resolved.now table.now }
-    ensures { answer_and_tables result kernel_header.new kernel_rows.new ≡ translate_after Accepted header.now rows.now kernel_header.old kernel_rows.old }
+) -> Result<(usize, usize), Refusal>
+    requires { (source_refusal header.now rows.now ≡ (Ok tt)) × (resolved.now ≡ resolved_rows Source header.now rows.now) × Measured resolved.now table.now }
+    ensures { answer_and_tables result kernel_header.new kernel_rows.new ≡ translate_after (Ok tt) header.now rows.now kernel_header.old kernel_rows.old }
 {
     let program = measured_program(resolved, table);
     let header_words = header.len() + 2;
     if header_words > kernel_header.len() {
-        return TranslateAnswer::Refused(Refusal {
-            number: 10,
+        return Err(Refusal {
+            cause: Cause::NoRoom,
             place: 0,
         });
     }
     let row_words = 6 * (1 + program.rows);
     if row_words > kernel_rows.len() {
-        return TranslateAnswer::Refused(Refusal {
-            number: 10,
+        return Err(Refusal {
+            cause: Cause::NoRoom,
             place: 0,
         });
     }
@@ -66,7 +58,7 @@ fn write_measured(
         program.levels,
         kernel_rows,
     );
-    TranslateAnswer::Translated(header_words, row_words)
+    Ok((header_words, row_words))
 }
 
 // Measures and writes an accepted program from its resolved table.
@@ -76,9 +68,9 @@ fn translate_table(
     resolved: &[i32],
     kernel_header: &mut [i32],
     kernel_rows: &mut [i32],
-) -> TranslateAnswer
-    requires { (source_refusal header.now rows.now ≡ Accepted) × (resolved.now ≡ resolved_rows Source header.now rows.now) }
-    ensures { answer_and_tables result kernel_header.new kernel_rows.new ≡ translate_after Accepted header.now rows.now kernel_header.old kernel_rows.old }
+) -> Result<(usize, usize), Refusal>
+    requires { (source_refusal header.now rows.now ≡ (Ok tt)) × (resolved.now ≡ resolved_rows Source header.now rows.now) }
+    ensures { answer_and_tables result kernel_header.new kernel_rows.new ≡ translate_after (Ok tt) header.now rows.now kernel_header.old kernel_rows.old }
 {
     let store = store_size(Form::Source, header);
     let mut table = [0usize; 38912];
@@ -92,9 +84,9 @@ fn translate_resolved(
     rows: &[i32],
     kernel_header: &mut [i32],
     kernel_rows: &mut [i32],
-) -> TranslateAnswer
-    requires { source_refusal header.now rows.now ≡ Accepted }
-    ensures { answer_and_tables result kernel_header.new kernel_rows.new ≡ translate_after Accepted header.now rows.now kernel_header.old kernel_rows.old }
+) -> Result<(usize, usize), Refusal>
+    requires { source_refusal header.now rows.now ≡ (Ok tt) }
+    ensures { answer_and_tables result kernel_header.new kernel_rows.new ≡ translate_after (Ok tt) header.now rows.now kernel_header.old kernel_rows.old }
 {
     let words = rows.len();
     let mut resolved = [0i32; 12288];
@@ -115,8 +107,8 @@ pub fn translate_accepted(
     rows: &[i32],
     kernel_header: &mut [i32],
     kernel_rows: &mut [i32],
-) -> TranslateAnswer
-    requires { source_refusal header.now rows.now ≡ Accepted }
+) -> Result<(usize, usize), Refusal>
+    requires { source_refusal header.now rows.now ≡ (Ok tt) }
     ensures kernel_rows_after { answer_and_tables result kernel_header.new kernel_rows.new ≡ translate_result header.now rows.now kernel_header.old kernel_rows.old }
     ensures has_kernel_form { HasKernelForm header.now rows.now }
     ensures writes_kernel_form { WritesKernelForm header.now rows.now result kernel_header.new kernel_rows.new }
@@ -134,14 +126,11 @@ pub fn translate(
     rows: &[i32],
     kernel_header: &mut [i32],
     kernel_rows: &mut [i32],
-) -> TranslateAnswer
+) -> Result<(usize, usize), Refusal>
     ensures kernel_rows_after { answer_and_tables result kernel_header.new kernel_rows.new ≡ translate_result header.now rows.now kernel_header.old kernel_rows.old }
     ensures has_kernel_form { HasKernelForm header.now rows.now }
     ensures writes_kernel_form { WritesKernelForm header.now rows.now result kernel_header.new kernel_rows.new }
 {
-    let verdict = check_source::check(header, rows);
-    match verdict {
-        Verdict::Accepted => translate_accepted(header, rows, kernel_header, kernel_rows),
-        Verdict::Refused(refusal) => TranslateAnswer::Refused(refusal),
-    }
+    check_source::check(header, rows)?;
+    translate_accepted(header, rows, kernel_header, kernel_rows)
 }

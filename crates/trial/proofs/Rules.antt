@@ -1,11 +1,11 @@
 -- A rule that was read and checked: its program is within the limits, and what is printed for it.
+use Rattle.std.specs.Prelude.{Ok}
 use mathlib.Core.Path.{◌≡◌}
 use mathlib.Core.List.{List}
 use Prim.Native.Nat.{ℕ, ◌-◌, ◌≤◌}
 use lib.IntN.{ℤ}
 use lib.ListN.{take}
 use Rattle.words.specs.declared.Form.TheVariants.{Source}
-use Rattle.words.specs.declared.Verdict.TheVariants.{Accepted}
 use Rattle.text_report.specs.Lines.{refused_line}
 use Rattle.program_runs.specs.Runs.{refusal_of}
 use Rattle.text_rules.specs.Rules.{refused, rule_of, Holds}
@@ -21,7 +21,7 @@ module _ (text : List ℕ) {headerWords row_words : ℕ} {header rows : List ℤ
   unfolding trial_output rule_output
   rule-output = rw (h.is, h.header_read, h.rows_read)
 
-  pub rule-accepted : refusal_of Source (take (headerWords - 0) header) (take (row_words - 0) rows) ≡ Accepted
+  pub rule-accepted : refusal_of Source (take (headerWords - 0) header) (take (row_words - 0) rows) ≡ (Ok tt)
   rule-accepted = rw (h.header_read, h.rows_read) h.allowed.checked
 
   pub rule_fits : (room : ℕ) → trial_room ≤ room → Fits (take (headerWords - 0) header) (take (row_words - 0) rows) room

@@ -1,4 +1,5 @@
 -- The kernel form of a program within the limits: 35 and 15,480 words hold its tables, 1,600 its store. So neither 10 nor 11 comes.
+use Rattle.std.specs.Prelude.{Err, Ok, Result}
 use mathlib.Core.Path.{◌≡◌, sym, ◌∙◌}
 use mathlib.Core.List.{List}
 use Prim.Native.Nat.{ℕ, ◌+◌, ◌≤◌}
@@ -10,14 +11,12 @@ use Rattle.words.specs.Layout.{layout_of, store_size, header_store, store_words,
 use Rattle.words.specs.Laws.{header_fits-facts, count_fits-facts}
 use Rattle.words.specs.StoreLaws.{kernel-store}
 use Rattle.words.specs.declared.Form.TheVariants.{Source, Kernel}
-use Rattle.words.specs.declared.Refusal.{Refusal}
-use Rattle.words.specs.declared.Verdict.TheVariants.{Accepted, Refused as CheckRefused}
+use Rattle.words.specs.Refusals.{NumberedRefusal}
 use Rattle.language.specs.Program.{contents}
 use Rattle.language_programs.specs.Program.{resolved_rows}
 use Rattle.translation.specs.Translate.{temporaries}
 use Rattle.translation_form.proofs.TranslateKernel.{header-layout, header-declared}
 use Rattle.translation_fate.specs.KernelForms.{kernel_header_of, kernel_rows_of, KernelFormOf, HasKernelForm}
-use Rattle.translator.specs.declared.TranslateAnswer.TheVariants.{Refused}
 use Rattle.translator.specs.Translation.{answer_and_tables, translate_result}
 use Rattle.translator.proofs.TranslationLaws.{HasRoom, translation-refused}
 use Rattle.program_runs.proofs.AcceptedLaws.{accepted-header, accepted-count, accepted-declarations}
@@ -67,7 +66,7 @@ module _ {header rows : List ℤ} {room : ℕ} (t : Translates header rows room)
     has-room : HasRoom header rows outHeader outRows
     has-room = record { header_room = omega (arith, few-numbers); rows_room = omega (arith, few-row-words) }
 
-    pub translated-accepted : {G : Type 0} (headerLeft rows_left : List ℤ) (refusal : Refusal) → answer_and_tables (Refused refusal) headerLeft rows_left ≡ translate_result header rows outHeader outRows → G
+    pub translated-accepted : {G : Type 0} (headerLeft rows_left : List ℤ) (refusal : NumberedRefusal) → answer_and_tables (Err refusal) headerLeft rows_left ≡ translate_result header rows outHeader outRows → G
     translated-accepted headerLeft rows_left refusal e =
-        let d : Accepted ≡ CheckRefused refusal = sym t.accepted ∙ translation-refused header rows outHeader outRows headerLeft rows_left refusal (λ a. has-room) e in
+        let d : ◌≡◌ {A = Result (Unit {0}) NumberedRefusal} (Ok tt) (Err refusal) = sym t.accepted ∙ translation-refused header rows outHeader outRows headerLeft rows_left refusal (λ a. has-room) e in
         absurd (let z : ◌≡◌ {A = ℕ} 0 1 = cc in omega arith)

@@ -6,7 +6,6 @@ ghost use Rattle.trial.specs.Conditions.{trial_room};
 
 use super::runs::run_source;
 use text_report::line::refused_line;
-use text_rules::RuleAnswer;
 use text_rules::rule::read_rule;
 
 // Document 01, the end of "Text": the rule is read and checked, then both forms run.
@@ -18,11 +17,11 @@ pub fn trial(text: &[u8], output: &mut [u8]) -> usize
     let mut rows = [0i32; 768];
     let answer = read_rule(text, &mut header, &mut rows);
     match answer {
-        RuleAnswer::Accepted(header_words, row_words) => run_source(
+        Ok((header_words, row_words)) => run_source(
             &header[0..header_words],
             &rows[0..row_words],
             output,
         ),
-        RuleAnswer::Refused(refusal) => refused_line(refusal, output),
+        Err(refusal) => refused_line(refusal, output),
     }
 }

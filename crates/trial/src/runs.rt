@@ -2,7 +2,6 @@
 ghost use Rattle.std.specs.Prelude.{◌≡◌, length};
 ghost use Rattle.words.specs.Layout.{layout_of, store_size};
 ghost use Rattle.words.specs.declared.Form.TheVariants.{Source};
-ghost use Rattle.words.specs.declared.Verdict.TheVariants.{Accepted};
 ghost use Rattle.text_numbers.specs.Writer.{Put};
 ghost use Rattle.translation_fate.specs.KernelForms.{kernel_header_of, kernel_rows_of};
 ghost use Rattle.program_runs.specs.Runs.{refusal_of};
@@ -11,7 +10,7 @@ ghost use Rattle.trial.specs.Conditions.{Fits, FromZeros, KernelFits, KernelFrom
 
 use program_runs::run_accepted;
 use text_report::line::{kernel_line, refused_line, source_line};
-use translator::{TranslateAnswer, translate_accepted};
+use translator::translate_accepted;
 use words::Form;
 use words::layout::{store_size, store_words};
 use write_sets_entry::accepted_count;
@@ -52,13 +51,13 @@ fn run_translation(header: &[i32], rows: &[i32], output: &mut [u8]) -> usize
     let mut kernel_rows = [0i32; 15480];
     let answer = translate_accepted(header, rows, &mut kernel_header, &mut kernel_rows);
     match answer {
-        TranslateAnswer::Translated(header_words, row_words) => run_kernel(
+        Ok((header_words, row_words)) => run_kernel(
             &kernel_header[0..header_words],
             &kernel_rows[0..row_words],
             words,
             output,
         ),
-        TranslateAnswer::Refused(refusal) => refused_line(refusal, output),
+        Err(refusal) => refused_line(refusal, output),
     }
 }
 
@@ -78,7 +77,7 @@ fn run_source_on(header: &[i32], rows: &[i32], store: &mut [i32], output: &mut [
 // Both lines of an accepted program within the limits.
 pub fn run_source(header: &[i32], rows: &[i32], output: &mut [u8]) -> usize
     requires fits { Fits header.now rows.now (length output.old) }
-    requires rows_value { refusal_of Source header.now rows.now ≡ Accepted }
+    requires rows_value { refusal_of Source header.now rows.now ≡ (Ok tt) }
     ensures { Put (runs_output header.now rows.now) output.old result output.new }
 {
     let size = store_words(Form::Source, header, rows);

@@ -1,11 +1,10 @@
 -- Answers: the papers' numbers and words for each case of an enum.
-use Rattle.std.specs.Prelude.{List, [], ◌∷◌, ◌≡◌, ℕ, eqb, length, take}
+use Rattle.std.specs.Prelude.{List, [], ◌∷◌, ℕ, eqb}
 use Rattle.words.specs.Word.{pick}
 use Rattle.words.specs.declared.FaultSort.{FaultSort}
 use Rattle.words.specs.declared.FaultSort.TheVariants.{Overflow, ZeroDivisor, Index, Guard}
 use Rattle.words.specs.declared.Ending.{Ending}
 use Rattle.words.specs.declared.Ending.TheVariants.{Plain, Spent, Fault}
-use Rattle.words.specs.declared.Name.{Name}
 
 -- "A run ends plainly, spent, or with a fault", of one of four sorts. Each ending has a number, in the answers of the library and of
 -- the machine, and a word: "Output: form, ending (ended, spent, overflow, zero, index)", "a fourth fault, printed `guard`", as bytes.
@@ -46,8 +45,3 @@ other_faults = Overflow ∷ ZeroDivisor ∷ Guard ∷ []
 
 unfoldable pub fault_numbered : ℕ → FaultSort
 fault_numbered number = fault_among other_faults number
-
--- The code's name is these bytes.
-pub record Names (told : Name) (bytes : List ℕ) : Type 0 where
-  pub long : told.size ≡ length bytes
-  pub word : take told.size told.bytes ≡ bytes

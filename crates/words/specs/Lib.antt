@@ -17,6 +17,10 @@ pub mod Search
 pub mod Links
 -- Over: what stands in a table or a buffer after values were written from its start.
 pub mod Over
+-- Causes: the number of each, in document 01's table.
+pub mod Causes
+-- Refusals: a cause by its number, and its place.
+pub mod Refusals
 -- Answers: the papers' numbers and words for each case of an enum.
 pub mod Answers
 -- Numbers: an entry's answer in document 01's numbers.

@@ -1,13 +1,11 @@
 -- Links: what a row is, which row a field links and which rows fit there; and what is handed along the links, from each row to those that
 -- it links.
-use Rattle.std.specs.Prelude.{Bool, false, ◌&&◌, ◌||◌, List, ℕ, zero, suc, ◌*◌, ◌/◌, ◌%◌, eqb, ℤ}
+use Rattle.std.specs.Prelude.{Bool, false, ◌&&◌, ◌||◌, List, ℕ, zero, suc, ◌*◌, ◌/◌, ◌%◌, eqb, ℤ, None, Option, Some}
 use Rattle.words.specs.Word.{pick}
 use Rattle.words.specs.Table.{number_at}
 use Rattle.words.specs.Declarations.{is_declaration}
 use Rattle.words.specs.Kinds.{expression, optional_expression, place, optional_item, body_block, optional_arm, optional_argument, optional_parameter, absent_link, expression_row, place_row, statement_row, arm_row, argument_row, between, is_link, sort_at}
 use Rattle.words.specs.Search.{lowest}
-use Rattle.words.specs.declared.Found.{Found}
-use Rattle.words.specs.declared.Found.TheVariants.{At, Nothing}
 
 -- "Kinds 1 to 30 are expressions", places among them, and so is a call; "the rest statements".
 unfoldable pub is_expression : List ℤ → ℕ → Bool
@@ -57,14 +55,14 @@ unfoldable pub target : List ℤ → ℕ → ℕ
 target rows word = link rows (word / 6) (word % 6)
 
 -- The word that links a row; in a table whose rows are linked more than once, the first such word.
-unfoldable pub linker : List ℤ → ℕ → Found
+unfoldable pub linker : List ℤ → ℕ → Option ℕ
 linker rows row = lowest (λ word. eqb (target rows word) row) 0 (6 * row)
 
 -- A note that each row gets from the row that links it, its owner or the item before: `hand owner field note` is what a row with
 -- this note hands to the row that its field links. Row 0 has the note `first`, and so has a row that no row links.
-unfoldable pub received : (ℕ → ℕ → ℕ → ℕ) → ℕ → (ℕ → ℕ) → Found → ℕ
-received hand first note_of Nothing = first
-received hand first note_of (At word) = hand (word / 6) (word % 6) (note_of (word / 6))
+unfoldable pub received : (ℕ → ℕ → ℕ → ℕ) → ℕ → (ℕ → ℕ) → Option ℕ → ℕ
+received hand first note_of None = first
+received hand first note_of (Some word) = hand (word / 6) (word % 6) (note_of (word / 6))
 
 -- Links lead to later rows, so `row` links are enough to come from row 0 to a row.
 unfoldable pub note_by : ℕ → (ℕ → ℕ → ℕ → ℕ) → ℕ → List ℤ → ℕ → ℕ

@@ -1,11 +1,9 @@
 -- Numbers: an entry's answer in document 01's numbers. Cause 0 means that the entry did its work, and two values say what it gave;
 -- else the cause's number, with the place as the first value.
-use Rattle.std.specs.Prelude.{ℕ}
+use Rattle.std.specs.Prelude.{ℕ, Err, Ok, Result}
+use Rattle.words.specs.declared.RunAnswer.{RunAnswer}
+use Rattle.words.specs.Refusals.{NumberedRefusal}
 use Rattle.words.specs.Answers.{ending_number}
-use Rattle.words.specs.declared.Verdict.{Verdict}
-use Rattle.words.specs.declared.Verdict.TheVariants.{Accepted, Refused}
-use Rattle.words.specs.declared.RunVerdict.{RunVerdict}
-use Rattle.words.specs.declared.RunVerdict.TheVariants.{Ran, Refused as RunRefused}
 
 pub record Numbers : Type 0 where
   pub cause : ℕ
@@ -19,11 +17,11 @@ abbrev pub refused : ℕ → ℕ → Numbers
 refused number place = record { cause = number; first = place; second = 0 }
 
 -- A check: nothing more than acceptance, or the refusal.
-abbrev pub verdict_numbers : Verdict → Numbers
-verdict_numbers Accepted = done 0 0
-verdict_numbers (Refused refusal) = refused refusal.number refusal.place
+abbrev pub verdict_numbers : Result (Unit {0}) NumberedRefusal → Numbers
+verdict_numbers (Ok tt) = done 0 0
+verdict_numbers (Err refusal) = refused refusal.number refusal.place
 
 -- A run: the ending's number and the count, or the refusal.
-abbrev pub run_numbers : RunVerdict → Numbers
-run_numbers (Ran run) = done (ending_number run.ending) run.count
-run_numbers (RunRefused refusal) = refused refusal.number refusal.place
+abbrev pub run_numbers : Result RunAnswer NumberedRefusal → Numbers
+run_numbers (Ok run) = done (ending_number run.ending) run.count
+run_numbers (Err refusal) = refused refusal.number refusal.place

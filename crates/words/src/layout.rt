@@ -59,9 +59,8 @@ fn lengths_fit(lengths: &[i32], variables: usize) -> bool
     ensures { result ≡ (all_within 4096 (map natural_of lengths.now) && leb (variables + sum (map natural_of lengths.now)) 8192) }
 {
     let mut total = variables;
-    let mut i: usize = 0;
-    while i < lengths.len() {
-        let words = natural(lengths[i]);
+    for length in lengths {
+        let words = natural(*length);
         if words < 1 {
             return false;
         }
@@ -69,7 +68,6 @@ fn lengths_fit(lengths: &[i32], variables: usize) -> bool
             return false;
         }
         total += words;
-        i += 1;
     }
     total <= 8192
 }
@@ -118,10 +116,8 @@ fn sum_of(lengths: &[i32]) -> usize
     ensures { result ≡ sum (map natural_of lengths.now) }
 {
     let mut total: usize = 0;
-    let mut i: usize = 0;
-    while i < lengths.len() {
-        total += natural(lengths[i]);
-        i += 1;
+    for length in lengths {
+        total += natural(*length);
     }
     total
 }

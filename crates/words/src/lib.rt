@@ -1,33 +1,106 @@
 // Words, tables and layouts: the leaves that every other crate stands on, and the answers they share.
 #![tactic(auto)]
 
+ghost use Rattle.std.specs.Prelude.{◌≡◌};
+ghost use Rattle.words.specs.Causes.{cause_number};
+
+use std::marker::Model;
+
 pub mod declarations; // declarations.rt: which rows are declarations, and how many there are
 pub mod layout; // layout.rt: the header's limits, and the sizes it gives
 pub mod table; // table.rt: the words of a row, and the numbers they name
 
 // The two forms of a program.
-#[derive(Clone, Copy)]
+#[derive(Clone, Copy, PartialEq, Eq)]
 pub enum Form {
     Source,
     Kernel,
 }
 
-// Why an entry did nothing: document 01's number of the cause, and the place.
-#[derive(Clone, Copy)]
+// Why an entry did nothing, in the order of document 01's table of causes.
+#[derive(Clone, Copy, PartialEq, Eq, PartialOrd, Ord)]
+pub enum Cause {
+    Header,
+    RowCount,
+    Foreign,
+    Mislinked,
+    NotLinkedOnce,
+    NumberOutside,
+    Misplaced,
+    RepeatedMark,
+    TooDeep,
+    NoRoom,
+    StoreSize,
+    NotKernelForm,
+    LabelFault,
+    MalformedText,
+    ScratchSize,
+    HeadersDiffer,
+    TooManyRows,
+    NamesItself,
+    DeclaredTwice,
+    TooManyDeclared,
+    MalformedDay,
+    DayVariable,
+    FunctionOrder,
+    WrongCall,
+    DefinesFunctions,
+}
+
+impl Cause {
+    // Document 01's number of the cause.
+    pub fn number(self) -> u32
+        ensures { result ≡ cause_number self }
+    {
+        match self {
+            Cause::Header => 1,
+            Cause::RowCount => 2,
+            Cause::Foreign => 3,
+            Cause::Mislinked => 4,
+            Cause::NotLinkedOnce => 5,
+            Cause::NumberOutside => 6,
+            Cause::Misplaced => 7,
+            Cause::RepeatedMark => 8,
+            Cause::TooDeep => 9,
+            Cause::NoRoom => 10,
+            Cause::StoreSize => 11,
+            Cause::NotKernelForm => 12,
+            Cause::LabelFault => 13,
+            Cause::MalformedText => 14,
+            Cause::ScratchSize => 15,
+            Cause::HeadersDiffer => 16,
+            Cause::TooManyRows => 17,
+            Cause::NamesItself => 18,
+            Cause::DeclaredTwice => 19,
+            Cause::TooManyDeclared => 20,
+            Cause::MalformedDay => 21,
+            Cause::DayVariable => 22,
+            Cause::FunctionOrder => 23,
+            Cause::WrongCall => 24,
+            Cause::DefinesFunctions => 25,
+        }
+    }
+}
+
+// A cause and its place: a row, a line, or 0. Clauses see the cause by its number.
+#[derive(Clone, Copy, PartialEq, Eq)]
 pub struct Refusal {
-    pub number: u32,
+    pub cause: Cause,
     pub place: usize,
 }
 
-// What a check answers.
-#[derive(Clone, Copy)]
-pub enum Verdict {
-    Accepted,
-    Refused(Refusal),
+impl Model for Refusal {
+    ghost use Rattle.words.specs.Refusals.{NumberedRefusal, numbered, cause_numbered};
+
+    ghost Value = { NumberedRefusal };
+
+    ghost view = { λ r. numbered r.cause r.place };
+
+    ghost inverse = { λ n. record { cause = cause_numbered n.number; place = n.place } };
 }
 
 // Document 01's "fault of one of three sorts", and document 02's fourth: no guard was true.
-#[derive(Clone, Copy)]
+#[derive(Clone, Copy, PartialEq, Eq)]
 pub enum FaultSort {
     Overflow,
     ZeroDivisor,
@@ -36,36 +109,22 @@ pub enum FaultSort {
 }
 
 // "A run ends plainly, spent, or with a fault", of one of four sorts.
-#[derive(Clone, Copy)]
+#[derive(Clone, Copy, PartialEq, Eq)]
 pub enum Ending {
     Plain,
     Spent,
     Fault(FaultSort),
 }
 
-// The word that is printed for an ending: the first `size` bytes.
-#[derive(Clone, Copy)]
-pub struct Name {
-    pub bytes: [u8; 8],
-    pub size: usize,
-}
-
 // How a run ended, and "the number of steps that the run made".
-#[derive(Clone, Copy)]
+#[derive(Clone, Copy, PartialEq, Eq)]
 pub struct RunAnswer {
     pub ending: Ending,
     pub count: u32,
 }
 
-// What a public run answers.
-#[derive(Clone, Copy)]
-pub enum RunVerdict {
-    Ran(RunAnswer),
-    Refused(Refusal),
-}
-
 // Kinds 6 to 16, and the operators of kinds 22 to 30.
-#[derive(Clone, Copy)]
+#[derive(Clone, Copy, PartialEq, Eq)]
 pub enum Operator {
     Add,
     Subtract,
@@ -81,7 +140,7 @@ pub enum Operator {
 }
 
 // Kinds 1 to 31. Kinds that differ in an operator are one variant.
-#[derive(Clone, Copy)]
+#[derive(Clone, Copy, PartialEq, Eq)]
 pub enum ExpressionKind {
     Constant,
     Variable,
@@ -101,7 +160,7 @@ pub enum ExpressionKind {
 }
 
 // Statements that are no marks.
-#[derive(Clone, Copy)]
+#[derive(Clone, Copy, PartialEq, Eq)]
 pub enum StatementKind {
     Empty,
     Express,
@@ -122,7 +181,7 @@ pub enum StatementKind {
 }
 
 // Statements that a jump can go to.
-#[derive(Clone, Copy)]
+#[derive(Clone, Copy, PartialEq, Eq)]
 pub enum MarkKind {
     Case,
     Default,
@@ -130,7 +189,7 @@ pub enum MarkKind {
 }
 
 // Rows of a list that is no list of items: they are neither expressions nor statements.
-#[derive(Clone, Copy)]
+#[derive(Clone, Copy, PartialEq, Eq)]
 pub enum MemberKind {
     Arm,
     Argument,
@@ -138,7 +197,7 @@ pub enum MemberKind {
 
 // The kinds of rows, in groups: a function that says something of one group has one case for each other group. The definition of a function is a
 // group by itself: an item that a run passes over.
-#[derive(Clone, Copy)]
+#[derive(Clone, Copy, PartialEq, Eq)]
 pub enum Kind {
     OfExpression(ExpressionKind),
     OfStatement(StatementKind),
@@ -146,11 +205,4 @@ pub enum Kind {
     OfMember(MemberKind),
     Definition,
     Other,
-}
-
-// What a search finds: the lowest row that it looks for.
-#[derive(Clone, Copy)]
-pub enum Found {
-    At(usize),
-    Nothing,
 }

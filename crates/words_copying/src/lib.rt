@@ -9,7 +9,5 @@ pub fn put(words: &[i32], out: &mut [i32])
     requires { length words.now ≤ length out.old }
     ensures { out.new ≡ over words.now out.old }
 {
-    for i in 0..words.len() {
-        out[i] = words[i];
-    }
+    out[..words.len()].copy_from_slice(words);
 }

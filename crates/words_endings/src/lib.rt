@@ -2,9 +2,9 @@
 #![tactic(auto)]
 
 ghost use Rattle.std.specs.Prelude.{◌≡◌};
-ghost use Rattle.words.specs.Answers.{fault_number, fault_numbered, fault_name, ending_number, ending_name, Names};
+ghost use Rattle.words.specs.Answers.{fault_number, fault_numbered, fault_name, ending_number, ending_name};
 
-use words::{Ending, FaultSort, Name};
+use words::{Ending, FaultSort};
 
 pub fn fault_number(sort: FaultSort) -> u32
     ensures { result ≡ fault_number sort }
@@ -29,26 +29,14 @@ pub fn fault_numbered(number: u64) -> FaultSort
     }
 }
 
-pub fn fault_name(sort: FaultSort) -> Name
-    ensures { Names result (fault_name sort) }
+pub fn fault_name(sort: FaultSort) -> &'static str
+    ensures { result.now ≡ fault_name sort }
 {
     match sort {
-        FaultSort::Overflow => Name {
-            bytes: *b"overflow",
-            size: 8,
-        },
-        FaultSort::ZeroDivisor => Name {
-            bytes: *b"zero    ",
-            size: 4,
-        },
-        FaultSort::Index => Name {
-            bytes: *b"index   ",
-            size: 5,
-        },
-        FaultSort::Guard => Name {
-            bytes: *b"guard   ",
-            size: 5,
-        },
+        FaultSort::Overflow => "overflow",
+        FaultSort::ZeroDivisor => "zero",
+        FaultSort::Index => "index",
+        FaultSort::Guard => "guard",
     }
 }
 
@@ -62,18 +50,12 @@ pub fn ending_number(ending: Ending) -> u32
     }
 }
 
-pub fn ending_name(ending: Ending) -> Name
-    ensures { Names result (ending_name ending) }
+pub fn ending_name(ending: Ending) -> &'static str
+    ensures { result.now ≡ ending_name ending }
 {
     match ending {
-        Ending::Plain => Name {
-            bytes: *b"ended   ",
-            size: 5,
-        },
-        Ending::Spent => Name {
-            bytes: *b"spent   ",
-            size: 5,
-        },
+        Ending::Plain => "ended",
+        Ending::Spent => "spent",
         Ending::Fault(sort) => fault_name(sort),
     }
 }

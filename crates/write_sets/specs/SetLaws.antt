@@ -1,14 +1,19 @@
 -- Laws of sets: what is in the empty set, in a set of one, in either of two sets; bit by bit, and for the words that names mean.
-use Rattle.std.specs.Prelude.{◌≡◌, refl, false, ◌&&◌, ◌||◌, ℕ, zero, suc, ◌+◌, ◌-◌, ◌/◌, ◌%◌, ◌^◌, ◌≤◌, ◌<◌, eqb, ltb}
+use Rattle.std.specs.Prelude.{◌≡◌, refl, false, List, [], ◌∷◌, length, set, get_or, ◌&&◌, ◌||◌, ℕ, zero, suc, ◌+◌, ◌-◌, ◌*◌, ◌/◌, ◌%◌, ◌^◌, ◌≤◌, ◌<◌, eqb, ltb}
 use Rattle.std.proofs.Common.{sym, ap, ◌∙◌, mod-lt, zero-lt-suc, arith, eq-eqb, ne_eqb, eqb-true, ltb-true, ltb-false, lt-ltb, le-ltb}
 use Rattle.std.proofs.Math.Bool.{and-false}
 use Rattle.std.proofs.lemmas.Bool.{eqb-false}
+use Rattle.std.proofs.lemmas.List.{get_or-set_same, get_or-set_other}
+use native.Mathlib.Decide.{ℕ_discrete}
+use native.Mathlib.Nat.{one-mul}
+use lib.Dec.{lit<}
+use lib.Pow.{shl_exact}
 use Rattle.std.specs.Int.Bits.{bit_or, or_zero_l}
 use Rattle.words.specs.Word.{pick}
 use Rattle.words.specs.Laws.{by_cases}
 use Rattle.write_sets.specs.Bits.{has_bit, bit-or, bit-none, bit-single, bit-shift}
 use Rattle.write_sets.specs.Named.{Named}
-use Rattle.write_sets.specs.Sets.{bit_of, word_of, member, variable_bit, declared_bit, member_array, nothing, join, bit_in, single}
+use Rattle.write_sets.specs.Sets.{bit_of, word_of, bit_at, member, variable_bit, declared_bit, member_array, nothing, join, bit_in, single}
 use Rattle.write_sets.specs.declared.Bit.{Bit}
 use Rattle.write_sets.specs.declared.WriteSet.{WriteSet}
 
@@ -56,7 +61,7 @@ variable-join a b i = ap (λ (n : ℕ). has_bit n (i % 64)) (word-join a b (i / 
 
 pub declared-join : (a b : WriteSet) (i : ℕ) → declared_bit (join a b) i ≡ (declared_bit a i || declared_bit b i)
 unfolding declared_bit
-declared-join a b i = bit-or a.word4 b.word4 i
+declared-join a b i = bit-or (word_of a 4) (word_of b 4) i
 
 -- ---- in the empty set
 
@@ -140,14 +145,6 @@ pub array-shift : (arrays array : ℕ) → eqb (arrays / 2 ^ array % 2) 1 ≡ me
 unfolding member_array
 array-shift arrays array = bit-shift arrays array
 
-pub word-rest : (s : WriteSet) (k : ℕ) → 4 < k → 0 ≡ word_of s k
-word-rest s zero h = absurd (omega arith)
-word-rest s (suc zero) h = absurd (omega arith)
-word-rest s (suc (suc zero)) h = absurd (omega arith)
-word-rest s (suc (suc (suc zero))) h = absurd (omega arith)
-word-rest s (suc (suc (suc (suc zero)))) h = absurd (omega arith)
-word-rest s (suc (suc (suc (suc (suc k))))) h = refl
-
 -- the bit of a variable, and of a word behind the first S
 pub found_below : (S i : ℕ) → i < S → ◌≡◌ {A = Bit} (record { word = i / 64; place = i % 64 }) (bit_of S i)
 found_below S i h = sym (bit-variable S i h)
@@ -161,18 +158,48 @@ pub place-below : (S i : ℕ) {at : Bit} → at ≡ bit_of S i → at.place < 64
 unfolding bit_of
 place-below S i e = rw e (by_cases (ltb i S) (λ t. rw t (mod-lt i (zero-lt-suc 63))) (λ t. rw t (mod-lt (i - S) (zero-lt-suc 63))))
 
-pub member-shift : (S : ℕ) (s : WriteSet) (i : ℕ) {at : Bit} {word : ℕ} → at ≡ bit_of S i → word ≡ word_of s at.word → eqb (word / 2 ^ at.place % 2) 1 ≡ member S s i
-unfolding member
-member-shift S s i {at} e w = rw (w, e) (bit-shift (word_of s (bit_of S i).word) (bit_of S i).place)
+-- the bit at a place of a word
+pub bit-found : (s : WriteSet) (at : Bit) {word : ℕ} → word ≡ word_of s at.word → eqb (word / 2 ^ at.place % 2) 1 ≡ bit_at s at
+bit-found s at e = rw e (bit-shift (word_of s at.word) at.place)
 
-pub variable-shift : (s : WriteSet) (i : ℕ) {word : ℕ} → word ≡ word_of s (i / 64) → eqb (word / 2 ^ (i % 64) % 2) 1 ≡ variable_bit s i
-unfolding variable_bit
-variable-shift s i w = rw w (bit-shift (word_of s (i / 64)) (i % 64))
+-- one bit put into one of the words
+pub single-words : (S i : ℕ) {at : Bit} (bit : ℕ) → at ≡ bit_of S i → at.word < 5 → bit ≡ 2 ^ at.place
+    → ◌≡◌ {A = WriteSet} (record { words = set (0 ∷ 0 ∷ 0 ∷ 0 ∷ 0 ∷ []) at.word bit }) (single S i)
+single-words S i {at} bit o h e = rw (e, ← o) (put at.word h)
+  where
+    put : (k : ℕ) → k < 5 → ◌≡◌ {A = WriteSet} (record { words = set (0 ∷ 0 ∷ 0 ∷ 0 ∷ 0 ∷ []) k (2 ^ at.place) }) (record { words = pick (eqb k 0) (2 ^ at.place) 0 ∷ pick (eqb k 1) (2 ^ at.place) 0 ∷ pick (eqb k 2) (2 ^ at.place) 0 ∷ pick (eqb k 3) (2 ^ at.place) 0 ∷ pick (eqb k 4) (2 ^ at.place) 0 ∷ [] })
+    put zero l = refl
+    put (suc zero) l = refl
+    put (suc (suc zero)) l = refl
+    put (suc (suc (suc zero))) l = refl
+    put (suc (suc (suc (suc zero)))) l = refl
+    put (suc (suc (suc (suc (suc k))))) l = absurd (omega arith)
 
-pub declared-shift : (s : WriteSet) (i : ℕ) → eqb (s.word4 / 2 ^ i % 2) 1 ≡ declared_bit s i
-unfolding declared_bit
-declared-shift s i = bit-shift s.word4 i
+pub five : (w : List ℕ) → length w ≡ 5 → w ≡ get_or w 0 0 ∷ get_or w 1 0 ∷ get_or w 2 0 ∷ get_or w 3 0 ∷ get_or w 4 0 ∷ []
+five [] h = absurd (omega arith)
+five (x0 ∷ []) h = absurd (omega arith)
+five (x0 ∷ x1 ∷ []) h = absurd (omega arith)
+five (x0 ∷ x1 ∷ x2 ∷ []) h = absurd (omega arith)
+five (x0 ∷ x1 ∷ x2 ∷ x3 ∷ []) h = absurd (omega arith)
+five (x0 ∷ x1 ∷ x2 ∷ x3 ∷ x4 ∷ []) h = refl
+five (x0 ∷ x1 ∷ x2 ∷ x3 ∷ x4 ∷ x5 ∷ w) h = absurd (omega arith)
 
-pub single-words : (S i : ℕ) {at : Bit} {bit a b d e f : ℕ} → at ≡ bit_of S i → bit ≡ 2 ^ at.place → a ≡ pick (eqb at.word 0) bit 0 → b ≡ pick (eqb at.word 1) bit 0 → d ≡ pick (eqb at.word 2) bit 0 → e ≡ pick (eqb at.word 3) bit 0 → f ≡ pick (eqb at.word 4) bit 0
-    → ◌≡◌ {A = WriteSet} (record { word0 = a; word1 = b; word2 = d; word3 = e; word4 = f }) (single S i)
-single-words S i o p q r s t u = rw (q, r, s, t, u, p, o)
+-- the words joined, one by one
+pub join-words : (a b : WriteSet) (w : List ℕ) → length w ≡ 5 → ((k : ℕ) → k < 5 → get_or w k 0 ≡ bit_or (get_or a.words k 0) (get_or b.words k 0)) → ◌≡◌ {A = WriteSet} (record { words = w }) (join a b)
+join-words a b w h e = ap (λ (l : List ℕ). record { words = l }) (five w h) ∙ rw (e 0 (omega arith), e 1 (omega arith), e 2 (omega arith), e 3 (omega arith), e 4 (omega arith))
+
+-- a bit that was shifted to its place
+pub one-bit : {place : ℕ} → place < 64 → 1 * 2 ^ place % 18446744073709551616 ≡ 2 ^ place
+one-bit {place} h = shl_exact 1 place 64 (lit< tt) (omega arith) ∙ one-mul _
+
+-- one word more is joined
+pub joined-more : (v o w : List ℕ) (k : ℕ) → k < length w → ((j : ℕ) → j < k → get_or w j 0 ≡ bit_or (get_or v j 0) (get_or o j 0)) → ((j : ℕ) → k ≤ j → get_or w j 0 ≡ get_or v j 0)
+    → (j : ℕ) → j < k + 1 → get_or (set w k (bit_or (get_or w k 0) (get_or o k 0))) j 0 ≡ bit_or (get_or v j 0) (get_or o j 0)
+joined-more v o w k h joined left j l = by (ℕ_discrete j k)
+  where
+    by : Dec (j ≡ k) → get_or (set w k (bit_or (get_or w k 0) (get_or o k 0))) j 0 ≡ bit_or (get_or v j 0) (get_or o j 0)
+    by (yes q) = rw q (get_or-set_same w k _ 0 h ∙ ap (λ (x : ℕ). bit_or x (get_or o k 0)) (left k (omega arith)))
+    by (no q) = get_or-set_other w k j _ 0 q ∙ joined j (omega (arith, q))
+
+pub joined-left : (v w : List ℕ) (x k : ℕ) → ((j : ℕ) → k ≤ j → get_or w j 0 ≡ get_or v j 0) → (j : ℕ) → k + 1 ≤ j → get_or (set w k x) j 0 ≡ get_or v j 0
+joined-left v w x k left j l = get_or-set_other w k j _ 0 (λ q. omega arith) ∙ left j (omega arith)

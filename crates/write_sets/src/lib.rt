@@ -4,9 +4,8 @@
 
 pub mod arrays; // arrays.rt: the word of the arrays
 
-ghost use Rattle.std.specs.Prelude.{◌≡◌, ◌+◌, ◌<◌, ◌^◌, eqb};
-ghost use Rattle.words.specs.Word.{pick};
-ghost use Rattle.write_sets.specs.Sets.{bit_of, word_of, member, variable_bits, declared_bits, variable_bit, declared_bit, nothing as nothing_of, single as single_of, join as join_of};
+ghost use Rattle.std.specs.Prelude.{◌≡◌, ◌+◌, ◌<◌, ◌^◌};
+ghost use Rattle.write_sets.specs.Sets.{bit_of, word_of, member, bit_at, variable_bits, declared_bits, variable_bit, declared_bit, nothing as nothing_of, single as single_of, join as join_of};
 ghost use Rattle.write_sets.specs.Counts.{count_below};
 
 // Where a bit stands: its word, and its place in the word.
@@ -19,11 +18,7 @@ pub struct Bit {
 // The variables, and in the fifth word the declared words, a bit each; `bit_of` says which.
 #[derive(Clone, Copy)]
 pub struct WriteSet {
-    pub word0: u64,
-    pub word1: u64,
-    pub word2: u64,
-    pub word3: u64,
-    pub word4: u64,
+    pub words: [u64; 5],
 }
 
 // Where the bit of the word i stands; the declared words begin at `store`. Every set is made by this.
@@ -43,113 +38,84 @@ pub fn bit_of(store: usize, i: usize) -> Bit
     }
 }
 
-// The empty set.
-pub fn nothing() -> WriteSet
-    ensures { result ≡ nothing_of }
-{
-    WriteSet {
-        word0: 0,
-        word1: 0,
-        word2: 0,
-        word3: 0,
-        word4: 0,
+impl WriteSet {
+    // The empty set.
+    pub fn nothing() -> WriteSet
+        ensures { result ≡ nothing_of }
+    {
+        WriteSet { words: [0; 5] }
     }
-}
 
-// What is in either set.
-pub fn join(a: WriteSet, b: WriteSet) -> WriteSet
-    ensures { result ≡ join_of a b }
-{
-    WriteSet {
-        word0: a.word0 | b.word0,
-        word1: a.word1 | b.word1,
-        word2: a.word2 | b.word2,
-        word3: a.word3 | b.word3,
-        word4: a.word4 | b.word4,
+    // The word i alone.
+    pub fn single(store: usize, i: usize) -> WriteSet
+        ensures { result ≡ single_of store i }
+    {
+        let at = bit_of(store, i);
+        let mut words = [0; 5];
+        if at.word < words.len() {
+            words[at.word] = 1 << at.place;
+        }
+        WriteSet { words }
     }
-}
 
-// The bit, where the word k is the word n; else 0.
-fn bit_in(k: usize, n: usize, bit: u64) -> u64
-    ensures { result ≡ pick (eqb k n) bit 0 }
-{
-    if k == n {
-        return bit;
+    // What is in either set.
+    pub fn join(self, other: WriteSet) -> WriteSet
+        ensures { result ≡ join_of self other }
+    {
+        let mut words = self.words;
+        for k in 0..5 {
+            words[k] |= other.words[k];
+        }
+        WriteSet { words }
     }
-    0
-}
 
-fn power(i: usize) -> u64
-    requires { i < 64 }
-    ensures { result ≡ 2 ^ i }
-{
-    1u64 << i
-}
-
-// The word i alone.
-pub fn single(store: usize, i: usize) -> WriteSet
-    ensures { result ≡ single_of store i }
-{
-    let at = bit_of(store, i);
-    let k = at.word;
-    let bit = power(at.place);
-    WriteSet {
-        word0: bit_in(k, 0, bit),
-        word1: bit_in(k, 1, bit),
-        word2: bit_in(k, 2, bit),
-        word3: bit_in(k, 3, bit),
-        word4: bit_in(k, 4, bit),
+    // The word k; there are five, and behind them all are 0.
+    fn word(self, k: usize) -> u64
+        ensures { result ≡ word_of self k }
+    {
+        self.words.get(k).copied().unwrap_or(0)
     }
-}
 
-// The word k; there are five, and behind them all are 0.
-fn word_at(s: WriteSet, k: usize) -> u64
-    ensures { result ≡ word_of s k }
-{
-    match k {
-        0 => s.word0,
-        1 => s.word1,
-        2 => s.word2,
-        3 => s.word3,
-        4 => s.word4,
-        _ => 0,
+    fn has_bit(self, at: Bit) -> bool
+        requires { at.place < 64 }
+        ensures { result ≡ bit_at self at }
+    {
+        (self.word(at.word) >> at.place) % 2 == 1
     }
-}
 
-// Whether the word i, which a name means, is in the set.
-pub fn has(store: usize, s: WriteSet, i: usize) -> bool
-    ensures { result ≡ member store s i }
-{
-    let at = bit_of(store, i);
-    let place = at.place;
-    let word = word_at(s, at.word);
-    (word >> place) % 2 == 1
-}
+    // Whether the word i, which a name means, is in the set.
+    pub fn has(self, store: usize, i: usize) -> bool
+        ensures { result ≡ member store self i }
+    {
+        self.has_bit(bit_of(store, i))
+    }
 
-// Whether the variable i is in the set.
-pub fn has_variable(s: WriteSet, i: usize) -> bool
-    ensures { result ≡ variable_bit s i }
-{
-    let place = i % 64;
-    let word = word_at(s, i / 64);
-    (word >> place) % 2 == 1
-}
+    // Whether the variable i is in the set.
+    pub fn has_variable(self, i: usize) -> bool
+        ensures { result ≡ variable_bit self i }
+    {
+        self.has_bit(Bit {
+            word: i / 64,
+            place: i % 64,
+        })
+    }
 
-// Whether the declared word i, from 0, is in the set.
-pub fn has_declared(s: WriteSet, i: usize) -> bool
-    requires { i < declared_bits }
-    ensures { result ≡ declared_bit s i }
-{
-    (s.word4 >> i) % 2 == 1
-}
+    // Whether the declared word i, from 0, is in the set.
+    pub fn has_declared(self, i: usize) -> bool
+        requires { i < declared_bits }
+        ensures { result ≡ declared_bit self i }
+    {
+        self.has_bit(Bit { word: 4, place: i })
+    }
 
-// How many variables and declared words are in the set: the ones in its words.
-pub fn count(s: WriteSet) -> u32
-    ensures { result ≡ count_below variable_bits (variable_bit s) + count_below declared_bits (declared_bit s) }
-{
-    u64::count_ones(s.word0)
-        + u64::count_ones(s.word1)
-        + u64::count_ones(s.word2)
-        + u64::count_ones(s.word3)
-        + u64::count_ones(s.word4)
+    // How many variables and declared words are in the set: the ones in its words.
+    pub fn count(self) -> u32
+        ensures { result ≡ count_below variable_bits (variable_bit self) + count_below declared_bits (declared_bit self) }
+    {
+        let mut ones = 0;
+        for word in self.words {
+            ones += word.count_ones();
+        }
+        ones
+    }
 }

@@ -1,13 +1,12 @@
 -- What is told, by the check's answer.
+use Rattle.std.specs.Prelude.{Err, Ok, Result}
 use mathlib.Core.Path.{◌≡◌, refl, sym, ap, subst, ◌∙◌}
 use mathlib.Core.List.{List}
 use Prim.Native.Nat.{ℕ, ◌-◌}
 use lib.IntN.{ℤ}
 use lib.ListN.{length, take}
 use Rattle.words.specs.Over.{over}
-use Rattle.words.specs.declared.Refusal.{Refusal}
-use Rattle.words.specs.declared.Verdict.{Verdict}
-use Rattle.words.specs.declared.Verdict.TheVariants as verdict
+use Rattle.words.specs.Refusals.{NumberedRefusal}
 use Rattle.check_source.specs.Refusal.{refusal}
 use Rattle.words.specs.declared.Form.TheVariants.{Source as SourceForm}
 use Rattle.language_shapes.specs.Source.{NamesFrom, Source}
@@ -17,26 +16,25 @@ use Rattle.translator.specs.AcceptedLaws.{accepted-source, names-from}
 use Rattle.write_sets_programs.specs.ProgramWrites.{written, WritesAre}
 use Rattle.write_sets_programs.specs.declared.Writes.{Writes}
 use Rattle.write_sets_entry.specs.Told.{Told, sets, refusal as told-refusal, count_of}
-use Rattle.write_sets_entry.specs.declared.WritesVerdict.TheVariants.{Written, Refused}
 
-module _ (header rows : List ℤ) {v : Verdict} (is : v ≡ refusal header rows) where
-  pub accepted-of : v ≡ verdict.Accepted → refusal header rows ≡ verdict.Accepted
+module _ (header rows : List ℤ) {v : (Result (Unit {0}) NumberedRefusal)} (is : v ≡ refusal header rows) where
+  pub accepted-of : v ≡ (Ok tt) → refusal header rows ≡ (Ok tt)
   accepted-of e = sym is ∙ e
 
-  pub told-sets : {w : Writes} → v ≡ verdict.Accepted → WritesAre (source_size header) w (resolved_rows SourceForm header rows) → Told header rows (refusal header rows) (Written w)
-  told-sets {w = w} e x = subst (λ (u : Verdict). Told header rows u (Written w)) (sym (accepted-of e)) (sets x)
+  pub told-sets : {w : Writes} → v ≡ (Ok tt) → WritesAre (source_size header) w (resolved_rows SourceForm header rows) → Told header rows (refusal header rows) (Ok w)
+  told-sets {w = w} e x = subst (λ (u : Result (Unit {0}) NumberedRefusal). Told header rows u (Ok w)) (sym (accepted-of e)) (sets x)
 
-  pub told-refused : (r : Refusal) → v ≡ verdict.Refused r → Told header rows (refusal header rows) (Refused r)
-  told-refused r e = subst (λ (u : Verdict). Told header rows u (Refused r)) (sym (sym is ∙ e)) told-refusal
+  pub told-refused : (r : NumberedRefusal) → v ≡ Err r → Told header rows (refusal header rows) (Err r)
+  told-refused r e = subst (λ (u : Result (Unit {0}) NumberedRefusal). Told header rows u (Err r)) (sym (sym is ∙ e)) told-refusal
 
-  pub count-accepted : {n : ℕ} → v ≡ verdict.Accepted → n ≡ written (source_size header) (resolved_rows SourceForm header rows) → n ≡ count_of (refusal header rows) header rows
-  count-accepted e x = x ∙ sym (ap (λ (u : Verdict). count_of u header rows) (accepted-of e))
+  pub count-accepted : {n : ℕ} → v ≡ (Ok tt) → n ≡ written (source_size header) (resolved_rows SourceForm header rows) → n ≡ count_of (refusal header rows) header rows
+  count-accepted e x = x ∙ sym (ap (λ (u : Result (Unit {0}) NumberedRefusal). count_of u header rows) (accepted-of e))
 
-  pub count-refused : (r : Refusal) → v ≡ verdict.Refused r → 0 ≡ count_of (refusal header rows) header rows
-  count-refused r e = sym (ap (λ (u : Verdict). count_of u header rows) (sym is ∙ e))
+  pub count-refused : (r : NumberedRefusal) → v ≡ Err r → 0 ≡ count_of (refusal header rows) header rows
+  count-refused r e = sym (ap (λ (u : Result (Unit {0}) NumberedRefusal). count_of u header rows) (sym is ∙ e))
 
 -- The resolved table as it was written at the start of another and is lent.
-module _ (header rows table left : List ℤ) (accepted : refusal header rows ≡ verdict.Accepted) {size : ℕ} (is : size ≡ source_size header) (stands : left ≡ over (resolved_rows SourceForm header rows) table) where
+module _ (header rows table left : List ℤ) (accepted : refusal header rows ≡ (Ok tt)) {size : ℕ} (is : size ≡ source_size header) (stands : left ≡ over (resolved_rows SourceForm header rows) table) where
   lent : take (length rows - 0) left ≡ resolved_rows SourceForm header rows
   lent = lent-table header rows table left (length rows) refl stands
 

@@ -3,7 +3,6 @@
 
 ghost use Rattle.std.specs.Prelude.{◌≡◌};
 ghost use Rattle.words.specs.declared.Form.TheVariants.{Source};
-ghost use Rattle.words.specs.declared.Verdict.TheVariants.{Accepted};
 ghost use Rattle.language_programs.specs.Program.{source_size, resolved_rows};
 ghost use Rattle.write_sets_programs.specs.ProgramWrites.{written, WritesAre};
 ghost use Rattle.check_source.specs.Refusal.{refusal};
@@ -11,20 +10,13 @@ ghost use Rattle.write_sets_entry.specs.Told.{Told, count_of};
 
 use accepted_rows::resolve_accepted;
 use words::layout::store_size;
-use words::{Form, Refusal, Verdict};
-use write_sets::count;
+use words::{Form, Refusal};
 use write_sets_programs::Writes;
 use write_sets_programs::program::program_writes;
 
-#[derive(Clone, Copy)]
-pub enum WritesVerdict {
-    Written(Writes),
-    Refused(Refusal),
-}
-
 // What an accepted program can write: read off its resolved table, which stands in this frame alone.
 fn accepted_writes(header: &[i32], rows: &[i32]) -> Writes
-    requires { refusal header.now rows.now ≡ Accepted }
+    requires { refusal header.now rows.now ≡ (Ok tt) }
     ensures { WritesAre (source_size header.now) result (resolved_rows Source header.now rows.now) }
 {
     let store = store_size(Form::Source, header);
@@ -36,21 +28,20 @@ fn accepted_writes(header: &[i32], rows: &[i32]) -> Writes
 
 // How many variables and declared words it can write: the ones in the five words.
 pub fn accepted_count(header: &[i32], rows: &[i32]) -> u32
-    requires { refusal header.now rows.now ≡ Accepted }
+    requires { refusal header.now rows.now ≡ (Ok tt) }
     ensures { result ≡ written (source_size header.now) (resolved_rows Source header.now rows.now) }
 {
-    let sets = accepted_writes(header, rows);
-    count(sets.variables)
+    accepted_writes(header, rows).variables.count()
 }
 
 // The variables, the declared words and the arrays that the program can write.
-pub fn writes_of(header: &[i32], rows: &[i32]) -> WritesVerdict
+pub fn writes_of(header: &[i32], rows: &[i32]) -> Result<Writes, Refusal>
     ensures { Told header.now rows.now (refusal header.now rows.now) result }
 {
     let verdict = check_source::check(header, rows);
     match verdict {
-        Verdict::Accepted => WritesVerdict::Written(accepted_writes(header, rows)),
-        Verdict::Refused(refusal) => WritesVerdict::Refused(refusal),
+        Ok(()) => Ok(accepted_writes(header, rows)),
+        Err(refusal) => Err(refusal),
     }
 }
 
@@ -60,7 +51,7 @@ pub fn count_of(header: &[i32], rows: &[i32]) -> u32
 {
     let verdict = check_source::check(header, rows);
     match verdict {
-        Verdict::Accepted => accepted_count(header, rows),
-        Verdict::Refused(_) => 0,
+        Ok(()) => accepted_count(header, rows),
+        Err(_) => 0,
     }
 }

@@ -31,7 +31,7 @@ use Rattle.language_shapes.specs.Source.{NamesFrom, Source}
 use Rattle.write_sets.specs.Sets.{join, single}
 use Rattle.write_sets.specs.declared.WriteSet.{WriteSet}
 use Rattle.measures_table.specs.Parts.{called_in}
-use Rattle.write_sets_rows.specs.WriteSets.{SetIs, set_width, FunctionSets}
+use Rattle.write_sets_rows.specs.WriteSets.{SetIs, FunctionSets}
 use Rattle.write_sets_rows.proofs.WriteLaws.{set-as, set_single, set-join}
 use Rattle.write_sets_rows.proofs.ArgumentLaws.{rows_left, left_less}
 use Rattle.write_sets_functions.specs.Definitions.{is_definition, defines, is_parameter, defined_at, FunctionHere}
@@ -181,7 +181,7 @@ list-defines {rows} s (suc link) = ap is_define (items-at rows s.sound.whole (su
 -- ---- the pass
 
 -- The functions below `known` have their sets, and those from it on are defined from the row on.
-pub record Filling (S : ℕ) (rows : List ℤ) (sets : List ℕ) (known row : ℕ) : Type 0 where
+pub record Filling (S : ℕ) (rows : List ℤ) (sets : List WriteSet) (known row : ℕ) : Type 0 where
   pub inside : row < row_count rows
   pub low : 0 < row → known < row
   pub count_is : known + function_count (list_at rows row) ≡ function_count (contents rows)
@@ -190,14 +190,14 @@ pub record Filling (S : ℕ) (rows : List ℤ) (sets : List ℕ) (known row : �
   pub rest : (f : ℕ) → known ≤ f → function_of f (contents rows) ≡ function_of f (list_at rows row)
   pub functions : FunctionSets S rows sets known
 
-none_filled : {S : ℕ} {rows : List ℤ} {sets : List ℕ} → FunctionSets S rows sets 0
+none_filled : {S : ℕ} {rows : List ℤ} {sets : List WriteSet} → FunctionSets S rows sets 0
 none_filled = record { function-set = λ f h b. absurd (omega arith) }
 
 contents-are : (rows : List ℤ) → contents rows ≡ list_at rows (number_at rows 0 1)
 unfolding contents
 contents-are rows = refl
 
-pub filling-none : {S : ℕ} {rows : List ℤ} {sets : List ℕ} {row : ℕ} → Source rows → row ≡ number_at rows 0 1 → Filling S rows sets 0 row
+pub filling-none : {S : ℕ} {rows : List ℤ} {sets : List WriteSet} {row : ℕ} → Source rows → row ≡ number_at rows 0 1 → Filling S rows sets 0 row
 unfolding sort_in kind_row statement_fields is_link
 filling-none {S} {rows} {sets} {row} s e = subst (λ (r : ℕ). Filling S rows sets 0 r) (sym e) (record {
   inside = by (number_at rows 0 1) refl;
@@ -213,7 +213,7 @@ filling-none {S} {rows} {sets} {row} s e = subst (λ (r : ℕ). Filling S rows s
     by zero z = let some = s.sound.some_rows in omega (arith, some, z)
     by (suc n) z = (optional-link-of s.sound s.sound.some_rows s.functions.root 1 (omega arith) (omega arith) refl (omega (arith, z))).inside
 
-module _ {S : ℕ} {rows : List ℤ} {sets : List ℕ} {known row : ℕ} (s : Source rows) (m : Filling S rows sets known row) (d : defines rows row ≡ true) where
+module _ {S : ℕ} {rows : List ℤ} {sets : List WriteSet} {known row : ℕ} (s : Source rows) (m : Filling S rows sets known row) (d : defines rows row ≡ true) where
   at : list_at rows row ≡ define (number_at rows row 1) (parameter_list_at rows (number_at rows row 2)) (block_items (statement_at rows (number_at rows row 3))) (list_at rows (number_at rows row 5))
   at = list-is s m.inside d
 
@@ -234,7 +234,7 @@ module _ {S : ℕ} {rows : List ℤ} {sets : List ℕ} {known row : ℕ} (s : So
     is = m.rest known (omega arith) ∙ ap (function_of known) at ∙ ap (λ (b : Bool). pick b (defined_at rows row) (function_of known (list_at rows (number_at rows row 5)))) (eq-eqb known (number_at rows row 1) (sym number));
   }
 
-  pub filling-next : {next : ℕ} {after : List ℕ} → next ≡ number_at rows row 5 → FunctionSets S rows after (known + 1) → Filling S rows after (known + 1) next
+  pub filling-next : {next : ℕ} {after : List WriteSet} → next ≡ number_at rows row 5 → FunctionSets S rows after (known + 1) → Filling S rows after (known + 1) next
   unfolding function_count function_of Numbered DefinitionsFirst
   filling-next {next} {after} e x = record {
     inside = next_inside s m.inside next e;
@@ -248,10 +248,10 @@ module _ {S : ℕ} {rows : List ℤ} {sets : List ℕ} {known row : ℕ} (s : So
   }
 
   -- what a walk of its block asks
-  pub filling-walks : NamesFrom S rows → set_width * row_count rows ≤ length sets → Walks S rows sets known
+  pub filling-walks : NamesFrom S rows → row_count rows ≤ length sets → Walks S rows sets known
   filling-walks names room = record { source = s; names = names; room = (let k = m.low (there rows row d) in omega (arith, k, m.inside, room)); few = omega (arith, counted); functions = m.functions }
 
-pub filling-all : {S : ℕ} {rows : List ℤ} {sets : List ℕ} {known row : ℕ} → Source rows → Filling S rows sets known row → defines rows row ≡ false → FunctionSets S rows sets (row_count rows)
+pub filling-all : {S : ℕ} {rows : List ℤ} {sets : List WriteSet} {known row : ℕ} → Source rows → Filling S rows sets known row → defines rows row ≡ false → FunctionSets S rows sets (row_count rows)
 filling-all {rows = rows} {row = row} s m d =
     let over = front-none (list_at rows row) m.in_front (list-defines s row ∙ d) in
     record { function-set = λ f h b. m.functions.function-set f (omega (arith, b, m.count_is, over)) b }

@@ -1,4 +1,5 @@
 -- What a statement's own row writes, and the links at which more is written, by its shape, a clause of `statement_writes` each.
+use Rattle.std.specs.Prelude.{None, Some}
 use mathlib.Core.Path.{◌≡◌, refl, sym, ap, ap₂, subst, ◌∙◌}
 use mathlib.Core.Bool.{Bool, true, false, ◌||◌}
 use mathlib.Core.List.{List}
@@ -17,7 +18,6 @@ use Rattle.language_shapes.specs.declared.StatementShape.{StatementShape}
 use Rattle.language_shapes.specs.declared.StatementShape.TheVariants.{Empty, Express, Block, If, While, Do, For, Switch, Break, Continue, Goto, GuardedIf, GuardedDo, Abort, Declare, Return}
 use Rattle.language_shapes.specs.declared.MarkShape.{MarkShape}
 use Rattle.language_shapes.specs.declared.Item.TheVariants.{Statement as StatementShaped, Mark, Definition}
-use Rattle.language_shapes.specs.declared.ArmShape.TheVariants.{Arm, NoArm}
 use Rattle.write_sets.specs.Sets.{nothing, single}
 use Rattle.write_sets.specs.declared.WriteSet.{WriteSet}
 use Rattle.write_sets_rows.specs.WriteSets.{SetIs, part_writes}
@@ -200,7 +200,7 @@ module _ {rows : List ℤ} {row : ℕ} where
     all = λ called i. ap (λ (is : Items). items_write called is i) f.is ∙ ap (λ (l : ℕ). body_writes called rows l i || items_write called (list_at rows (number_at rows row 5)) i) (sym e);
   }
 
-  pub some-arm : {guard body next read : ℕ} → ArmAt rows row next (Arm guard body) → read ≡ next → ArmLinksAt rows row (record { guard = guard; body = body; next = read })
+  pub some-arm : {guard body next read : ℕ} → ArmAt rows row next (Some (guard, body)) → read ≡ next → ArmLinksAt rows row (record { guard = guard; body = body; next = read })
   unfolding arms_write
   some-arm {guard} {body} {next} {read} f e = subst (λ (n : ℕ). ArmLinksAt rows row (record { guard = guard; body = body; next = n })) (sym e) (record {
     guard = here f.onward.0;
@@ -215,6 +215,6 @@ module _ {rows : List ℤ} {row : ℕ} where
       assoc true b c = refl
       assoc false b c = refl
 
-  pub no-arm : {next : ℕ} → ArmAt rows row next NoArm → ArmLinksAt rows row (record { guard = 0; body = 0; next = 0 })
+  pub no-arm : {next : ℕ} → ArmAt rows row next None → ArmLinksAt rows row (record { guard = 0; body = 0; next = 0 })
   unfolding arms_write
   no-arm f = record { guard = missing; body = missing; next = missing; all = λ called i. ap (λ (arms : Arms). arms_write called arms i) f.is }

@@ -1,4 +1,5 @@
 -- The sets of walks: of an expression, of arguments and of a statement, from those of their links; and sets that are joined along a list.
+use Rattle.std.specs.Prelude.{None, Some}
 use mathlib.Core.Path.{◌≡◌, refl, sym, ap, ap₂, subst, ◌∙◌}
 use mathlib.Core.Bool.{Bool, true, false, ◌&&◌, ◌||◌}
 use mathlib.Core.List.{List}
@@ -15,7 +16,6 @@ use Rattle.language.specs.FunctionWrites.{statement_writes, items_write, arms_wr
 use Rattle.language.specs.Decode.{expression_at, part_at, argument_list_at, statement_at, items_at, list_at, arms_at, arm_list_at}
 use Rattle.language_shapes.specs.Shapes.{OptionalOnward, ArgumentAt}
 use Rattle.language_shapes.specs.Source.{Source}
-use Rattle.language_shapes.specs.declared.ArgumentShape.TheVariants.{Argument, NoArgument}
 use Rattle.write_sets.specs.Sets.{nothing, join}
 use Rattle.write_sets.specs.declared.WriteSet.{WriteSet}
 use Rattle.measures_table.specs.Parts.{called_in}
@@ -36,7 +36,7 @@ link-inside (suc link) s o = (o (omega arith)).inside
 
 -- ---- the functions below a number
 
-lower-held : {S : ℕ} {rows : List ℤ} {sets : List ℕ} {known : ℕ} → Walks S rows sets known → (f : ℕ) → SetIs S (function_set sets known f) (lower_called rows known f)
+lower-held : {S : ℕ} {rows : List ℤ} {sets : List WriteSet} {known : ℕ} → Walks S rows sets known → (f : ℕ) → SetIs S (function_set sets known f) (lower_called rows known f)
 lower-held {S} {rows} {sets} {known} w f = by (dec_lt f known)
   where
     by : Dec (f < known) → SetIs S (function_set sets known f) (lower_called rows known f)
@@ -45,14 +45,14 @@ lower-held {S} {rows} {sets} {known} w f = by (dec_lt f known)
     by (no h) = let above : known ≤ f = omega (arith, h) in subst (λ (z : WriteSet). SetIs S z (lower_called rows known f)) (function-unknown sets known f above refl)
         (set-as (λ i. false) _ (set-nothing refl) (λ i. sym (ap (λ (b : Bool). b && called_in rows f i) (le-ltb f known above))))
 
-pub walk-reach : {S : ℕ} {rows : List ℤ} {sets : List ℕ} {known link : ℕ} {r : Reach} → Walks S rows sets known → ReachedWith S rows sets known link r → ReachAt S rows (lower_called rows known) link r
+pub walk-reach : {S : ℕ} {rows : List ℤ} {sets : List WriteSet} {known link : ℕ} {r : Reach} → Walks S rows sets known → ReachedWith S rows sets known link r → ReachAt S rows (lower_called rows known) link r
 walk-reach {rows = rows} {known = known} w reached = reached (lower_called rows known) (λ f arguments e. lower-held w f)
 
 -- ---- expressions and arguments
 
 -- the row behind an argument, as the code reads it
-pub read_next : {rows : List ℤ} {link next read e : ℕ} → read ≡ next → ArgumentAt rows link next (Argument e) → ArgumentAt rows link read (Argument e)
-read_next {rows} {link} {e = e} h f = subst (λ (n : ℕ). ArgumentAt rows link n (Argument e)) (sym h) f
+pub read_next : {rows : List ℤ} {link next read e : ℕ} → read ≡ next → ArgumentAt rows link next (Some e) → ArgumentAt rows link read (Some e)
+read_next {rows} {link} {e = e} h f = subst (λ (n : ℕ). ArgumentAt rows link n (Some e)) (sym h) f
 
 module _ {S : ℕ} (rows : List ℤ) (called : ℕ → ℕ → Bool) where
   pub none-walked : (link : ℕ) {s : WriteSet} → link ≡ 0 → s ≡ nothing → SetIs S s (part_writes called (part_at rows link))
@@ -72,11 +72,11 @@ module _ {S : ℕ} (rows : List ℤ) (called : ℕ → ℕ → Bool) where
   none_passed zero e es = set-nothing es
   none_passed (suc link) e es = absurd (omega arith)
 
-  pub ended-passed : (link : ℕ) {next : ℕ} {s : WriteSet} → 0 < link → ArgumentAt rows link next NoArgument → s ≡ nothing → SetIs S s (arguments_write called (argument_list_at rows link))
+  pub ended-passed : (link : ℕ) {next : ℕ} {s : WriteSet} → 0 < link → ArgumentAt rows link next None → s ≡ nothing → SetIs S s (arguments_write called (argument_list_at rows link))
   unfolding arguments_write
   ended-passed link {s = s} h f es = subst (λ (a : Arguments). SetIs S s (arguments_write called a)) (sym (list-some rows link h ∙ f.is)) (set-nothing es)
 
-  pub argument-passed : (link : ℕ) {next e : ℕ} {a b s : WriteSet} → 0 < link → ArgumentAt rows link next (Argument e) → SetIs S a (part_writes called (part_at rows e)) → SetIs S b (arguments_write called (argument_list_at rows next)) → s ≡ join a b → SetIs S s (arguments_write called (argument_list_at rows link))
+  pub argument-passed : (link : ℕ) {next e : ℕ} {a b s : WriteSet} → 0 < link → ArgumentAt rows link next (Some e) → SetIs S a (part_writes called (part_at rows e)) → SetIs S b (arguments_write called (argument_list_at rows next)) → s ≡ join a b → SetIs S s (arguments_write called (argument_list_at rows link))
   unfolding arguments_write
   argument-passed link {next} {e} {a} {b} {s} h f x y es =
       subst (λ (l : Arguments). SetIs S s (arguments_write called l)) (sym (list-some rows link h ∙ f.is)) (set-join a b _ _ (walked-some e (omega (arith, f.onward.later)) x) y es)

@@ -11,14 +11,7 @@ use words_kinds::kind_at;
 fn is_kind(kind: Kind) -> bool
     ensures { result ≡ is_definition kind }
 {
-    match kind {
-        Kind::OfExpression(_) => false,
-        Kind::OfStatement(_) => false,
-        Kind::OfMark(_) => false,
-        Kind::OfMember(_) => false,
-        Kind::Definition => true,
-        Kind::Other => false,
-    }
+    matches!(kind, Kind::Definition)
 }
 
 // Whether a link leads to a definition.

@@ -7,17 +7,16 @@ ghost use Rattle.language.specs.Writes.{arguments_write};
 ghost use Rattle.write_sets_rows.specs.WriteSets.{SetIs, part_writes};
 ghost use Rattle.write_sets_functions.specs.Walks.{lower_called, Walks};
 
-use language_shapes::ArgumentShape;
 use language_shapes::rows::argument_at;
 use words::table::number_at;
-use write_sets::{WriteSet, join, nothing};
+use write_sets::WriteSet;
 use write_sets_rows::reaches::reach_at;
 
 #[cycle(walk_expressions)]
 pub fn walk_expression(
     store: usize,
     rows: &[i32],
-    sets: &[u64],
+    sets: &[WriteSet],
     known: usize,
     link: usize,
 ) -> WriteSet
@@ -25,32 +24,38 @@ pub fn walk_expression(
     ensures { SetIs store result (part_writes (lower_called rows.now known) (part_at rows.now link)) }
 {
     if link == 0 {
-        return nothing();
+        return WriteSet::nothing();
     }
     let reach = reach_at(store, rows, sets, known, link);
     let passed = walk_arguments(store, &*rows, &*sets, known, reach.arguments);
     let third = walk_expression(store, &*rows, &*sets, known, reach.third);
     let second = walk_expression(store, &*rows, &*sets, known, reach.second);
     let first = walk_expression(store, &*rows, &*sets, known, reach.first);
-    join(reach.own, join(first, join(second, join(third, passed))))
+    reach.own.join(first.join(second.join(third.join(passed))))
 }
 
 // The arguments from a link on; they are at most 64.
 #[cycle(walk_expressions)]
-fn walk_arguments(store: usize, rows: &[i32], sets: &[u64], known: usize, link: usize) -> WriteSet
+fn walk_arguments(
+    store: usize,
+    rows: &[i32],
+    sets: &[WriteSet],
+    known: usize,
+    link: usize,
+) -> WriteSet
     requires { Walks store rows.now sets.now known × (link < row_count rows.now) }
     ensures { SetIs store result (arguments_write (lower_called rows.now known) (argument_list_at rows.now link)) }
 {
     if link == 0 {
-        return nothing();
+        return WriteSet::nothing();
     }
     let next = number_at(rows, link, 5);
     let shape = argument_at(rows, link);
     match shape {
-        ArgumentShape::Argument(e) => {
+        Some(e) => {
             let first = walk_expression(store, &*rows, &*sets, known, e);
-            join(first, walk_arguments(store, &*rows, &*sets, known, next))
+            first.join(walk_arguments(store, &*rows, &*sets, known, next))
         }
-        ArgumentShape::NoArgument => nothing(),
+        None => WriteSet::nothing(),
     }
 }

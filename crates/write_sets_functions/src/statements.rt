@@ -10,15 +10,21 @@ ghost use Rattle.write_sets_functions.specs.Steps.{body_writes};
 use super::expressions::walk_expression;
 use super::steps::{arm_links, item_statement, step_at};
 use words::table::number_at;
-use write_sets::{WriteSet, join, nothing};
+use write_sets::WriteSet;
 
 #[cycle(walk_statements)]
-fn walk_statement(store: usize, rows: &[i32], sets: &[u64], known: usize, link: usize) -> WriteSet
+fn walk_statement(
+    store: usize,
+    rows: &[i32],
+    sets: &[WriteSet],
+    known: usize,
+    link: usize,
+) -> WriteSet
     requires { Walks store rows.now sets.now known × (link < row_count rows.now) }
     ensures { SetIs store result (body_writes (lower_called rows.now known) rows.now link) }
 {
     if link == 0 {
-        return nothing();
+        return WriteSet::nothing();
     }
     let step = step_at(store, rows, link);
     let first = walk_expression(store, rows, sets, known, step.first);
@@ -28,21 +34,27 @@ fn walk_statement(store: usize, rows: &[i32], sets: &[u64], known: usize, link: 
     let other = walk_statement(store, &*rows, &*sets, known, step.other);
     let list = walk_list(store, &*rows, &*sets, known, step.list);
     let arms = walk_arms(store, &*rows, &*sets, known, step.arms);
-    let parts = join(body, join(other, join(list, arms)));
-    join(step.own, join(first, join(second, join(third, parts))))
+    let parts = body.join(other.join(list.join(arms)));
+    step.own.join(first.join(second.join(third.join(parts))))
 }
 
 // The items from a link on.
 #[cycle(walk_statements)]
-pub fn walk_list(store: usize, rows: &[i32], sets: &[u64], known: usize, first: usize) -> WriteSet
+pub fn walk_list(
+    store: usize,
+    rows: &[i32],
+    sets: &[WriteSet],
+    known: usize,
+    first: usize,
+) -> WriteSet
     requires { Walks store rows.now sets.now known × (first < row_count rows.now) }
     ensures { SetIs store result (items_write (lower_called rows.now known) (list_at rows.now first)) }
 {
-    let mut any = nothing();
+    let mut any = WriteSet::nothing();
     let mut row = first;
     while row > 0 {
         let own = item_statement(rows, row);
-        any = join(any, walk_statement(store, &*rows, &*sets, known, own));
+        any = any.join(walk_statement(store, &*rows, &*sets, known, own));
         row = number_at(rows, row, 5);
     }
     any
@@ -50,17 +62,17 @@ pub fn walk_list(store: usize, rows: &[i32], sets: &[u64], known: usize, first: 
 
 // The arms from a link on.
 #[cycle(walk_statements)]
-fn walk_arms(store: usize, rows: &[i32], sets: &[u64], known: usize, first: usize) -> WriteSet
+fn walk_arms(store: usize, rows: &[i32], sets: &[WriteSet], known: usize, first: usize) -> WriteSet
     requires { Walks store rows.now sets.now known × (first < row_count rows.now) }
     ensures { SetIs store result (arms_write (lower_called rows.now known) (arm_list_at rows.now first)) }
 {
-    let mut any = nothing();
+    let mut any = WriteSet::nothing();
     let mut row = first;
     while row > 0 {
         let links = arm_links(rows, row);
         let guard = walk_expression(store, rows, sets, known, links.guard);
         let body = walk_statement(store, &*rows, &*sets, known, links.body);
-        any = join(any, join(guard, body));
+        any = any.join(guard.join(body));
         row = links.next;
     }
     any

@@ -3,51 +3,34 @@ ghost use Rattle.std.specs.Prelude.{◌≡◌, ◌<◌};
 ghost use Rattle.words.specs.Table.{row_count};
 ghost use Rattle.language_shapes.specs.Source.{NamesFrom, Source, StatementAt};
 ghost use Rattle.language_shapes.specs.declared.StatementShape.TheVariants.{Declare};
-ghost use Rattle.write_sets_functions.specs.Steps.{step_to, Stepped, StatementItem, ArmLinksAt};
+ghost use Rattle.write_sets_functions.specs.Steps.{Stepped, StatementItem, ArmLinksAt};
 
 use super::{ArmLinks, Step};
 use language_shapes::rows::{arm_at, item_at, statement_at};
-use language_shapes::{ArmShape, Item, StatementShape};
+use language_shapes::{Item, StatementShape};
 use words::table::number_at;
-use write_sets::{nothing, single};
+use write_sets::WriteSet;
 
-// A row that writes nothing itself.
-fn step_to(
-    first: usize,
-    second: usize,
-    third: usize,
-    body: usize,
-    other: usize,
-    list: usize,
-    arms: usize,
-) -> Step
-    ensures { result ≡ step_to first second third body other list arms }
-{
-    Step {
-        own: nothing(),
-        first,
-        second,
-        third,
-        body,
-        other,
-        list,
-        arms,
-    }
-}
+// A row that writes nothing.
+const NO_LINKS: Step = Step {
+    own: WriteSet { words: [0; 5] },
+    first: 0,
+    second: 0,
+    third: 0,
+    body: 0,
+    other: 0,
+    list: 0,
+    arms: 0,
+};
 
 fn declare_step(store: usize, rows: &[i32], row: usize, word: usize, e: usize) -> Step
     requires { NamesFrom store rows.now × StatementAt rows.now row (Declare word e) }
     ensures { Stepped store rows.now row result }
 {
     Step {
-        own: single(store, word),
+        own: WriteSet::single(store, word),
         first: e,
-        second: 0,
-        third: 0,
-        body: 0,
-        other: 0,
-        list: 0,
-        arms: 0,
+        ..NO_LINKS
     }
 }
 
@@ -57,24 +40,53 @@ pub fn step_at(store: usize, rows: &[i32], row: usize) -> Step
 {
     let shape = statement_at(rows, row);
     match shape {
-        StatementShape::Empty => step_to(0, 0, 0, 0, 0, 0, 0),
-        StatementShape::Express(e) => step_to(e, 0, 0, 0, 0, 0, 0),
-        StatementShape::Block(list) => step_to(0, 0, 0, 0, 0, list, 0),
-        StatementShape::If(e, yes, no) => step_to(e, 0, 0, yes, no, 0, 0),
-        StatementShape::While(e, body) => step_to(e, 0, 0, body, 0, 0, 0),
-        StatementShape::Do(body, e) => step_to(e, 0, 0, body, 0, 0, 0),
+        StatementShape::Empty => NO_LINKS,
+        StatementShape::Express(e) => Step {
+            first: e,
+            ..NO_LINKS
+        },
+        StatementShape::Block(list) => Step { list, ..NO_LINKS },
+        StatementShape::If(e, yes, no) => Step {
+            first: e,
+            body: yes,
+            other: no,
+            ..NO_LINKS
+        },
+        StatementShape::While(e, body) => Step {
+            first: e,
+            body,
+            ..NO_LINKS
+        },
+        StatementShape::Do(body, e) => Step {
+            first: e,
+            body,
+            ..NO_LINKS
+        },
         StatementShape::For(first, test, step, body) => {
-            step_to(first, test, step, body, 0, 0, 0)
+            Step {
+                first,
+                second: test,
+                third: step,
+                body,
+                ..NO_LINKS
+            }
         }
-        StatementShape::Switch(e, list) => step_to(e, 0, 0, 0, 0, list, 0),
-        StatementShape::Break => step_to(0, 0, 0, 0, 0, 0, 0),
-        StatementShape::Continue => step_to(0, 0, 0, 0, 0, 0, 0),
-        StatementShape::Goto(_) => step_to(0, 0, 0, 0, 0, 0, 0),
-        StatementShape::GuardedIf(arms) => step_to(0, 0, 0, 0, 0, 0, arms),
-        StatementShape::GuardedDo(arms) => step_to(0, 0, 0, 0, 0, 0, arms),
-        StatementShape::Abort => step_to(0, 0, 0, 0, 0, 0, 0),
+        StatementShape::Switch(e, list) => Step {
+            first: e,
+            list,
+            ..NO_LINKS
+        },
+        StatementShape::Break => NO_LINKS,
+        StatementShape::Continue => NO_LINKS,
+        StatementShape::Goto(_) => NO_LINKS,
+        StatementShape::GuardedIf(arms) => Step { arms, ..NO_LINKS },
+        StatementShape::GuardedDo(arms) => Step { arms, ..NO_LINKS },
+        StatementShape::Abort => NO_LINKS,
         StatementShape::Declare(word, e) => declare_step(store, rows, row, word, e),
-        StatementShape::Return(value) => step_to(value, 0, 0, 0, 0, 0, 0),
+        StatementShape::Return(value) => Step {
+            first: value,
+            ..NO_LINKS
+        },
     }
 }
 
@@ -99,8 +111,8 @@ pub fn arm_links(rows: &[i32], row: usize) -> ArmLinks
     let next = number_at(rows, row, 5);
     let shape = arm_at(rows, row);
     match shape {
-        ArmShape::Arm(guard, body) => ArmLinks { guard, body, next },
-        ArmShape::NoArm => ArmLinks {
+        Some((guard, body)) => ArmLinks { guard, body, next },
+        None => ArmLinks {
             guard: 0,
             body: 0,
             next: 0,

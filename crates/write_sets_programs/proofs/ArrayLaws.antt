@@ -1,4 +1,5 @@
 -- The arrays that a row's expression writes are those of its links and of the place that it stores to; a row's word put into the table.
+use Rattle.std.specs.Prelude.{None, Some}
 use mathlib.Core.Path.{◌≡◌, refl, sym, ap, ap₂, subst, ◌∙◌}
 use mathlib.Core.Bool.{Bool, true, false, ◌||◌}
 use mathlib.Core.List.{List}
@@ -20,7 +21,6 @@ use Rattle.language_shapes.specs.declared.OperationShape.TheVariants.{Minus, Not
 use Rattle.language_shapes.specs.declared.ChoiceShape.TheVariants.{And, Or, Conditional}
 use Rattle.language_shapes.specs.declared.ExpressionShape.{ExpressionShape}
 use Rattle.language_shapes.specs.declared.ExpressionShape.TheVariants.{Number, Read, Operation, Choice, Call}
-use Rattle.language_shapes.specs.declared.ArgumentShape.TheVariants.{Argument, NoArgument}
 use Rattle.write_sets_rows.proofs.ArgumentLaws.{list-some}
 use Rattle.write_sets.specs.Sets.{member_array}
 use Rattle.write_sets.specs.SetLaws.{array-none, array-join, array-alone}
@@ -206,11 +206,11 @@ unfolding arguments_write_array
 none_passed rows zero e = arrays-none
 none_passed rows (suc link) e = absurd (omega arith)
 
-pub ended-passed : (rows : List ℤ) (link : ℕ) {next : ℕ} → 0 < link → ArgumentAt rows link next NoArgument → ArraysAre 0 (arguments_write_array (argument_list_at rows link))
+pub ended-passed : (rows : List ℤ) (link : ℕ) {next : ℕ} → 0 < link → ArgumentAt rows link next None → ArraysAre 0 (arguments_write_array (argument_list_at rows link))
 unfolding arguments_write_array
 ended-passed rows link h f = subst (λ (a : Arguments). ArraysAre 0 (arguments_write_array a)) (sym (list-some rows link h ∙ f.is)) arrays-none
 
-pub argument-passed : {rows : List ℤ} {arrays : List ℕ} (link : ℕ) {next e a b w : ℕ} → ArraysFrom rows arrays (link + 1) → 0 < link → ArgumentAt rows link next (Argument e) → a ≡ arrays_at arrays e → ArraysAre b (arguments_write_array (argument_list_at rows next)) → w ≡ bit_or a b → ArraysAre w (arguments_write_array (argument_list_at rows link))
+pub argument-passed : {rows : List ℤ} {arrays : List ℕ} (link : ℕ) {next e a b w : ℕ} → ArraysFrom rows arrays (link + 1) → 0 < link → ArgumentAt rows link next (Some e) → a ≡ arrays_at arrays e → ArraysAre b (arguments_write_array (argument_list_at rows next)) → w ≡ bit_or a b → ArraysAre w (arguments_write_array (argument_list_at rows link))
 unfolding arguments_write_array
 argument-passed {rows} {arrays} link {next} {e} {a} {b} {w} m h f ea y ew =
     subst (λ (l : Arguments). ArraysAre w (arguments_write_array l)) (sym (list-some rows link h ∙ f.is))

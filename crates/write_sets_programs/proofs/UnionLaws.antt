@@ -19,7 +19,7 @@ use Rattle.language.specs.Decode.{expression_at}
 use Rattle.language.specs.Writes.{writes}
 use Rattle.language_shapes.specs.Source.{NamesFrom}
 use Rattle.measures_table.specs.Parts.{called_in}
-use Rattle.write_sets_rows.specs.WriteSets.{SetIs, Sets, set_width, set_of}
+use Rattle.write_sets_rows.specs.WriteSets.{SetIs, Sets, set_of}
 use Rattle.write_sets.specs.Sets.{variable_bits, declared_bits, variable_bit, declared_bit, nothing, join, single}
 use Rattle.write_sets.specs.Counts.{count_below, count_same}
 use Rattle.write_sets.specs.declared.WriteSet.{WriteSet}
@@ -58,7 +58,7 @@ module _ {S : ℕ} {rows : List ℤ} where
   unfolding any_below
   variables-start e = record { within = omega arith; are = set-nothing e }
 
-  pub variables-next : {sets : List ℕ} {s t d both u : WriteSet} {k : ℕ} → Sets S rows sets → Variables S rows s k → k < row_count rows → t ≡ set_of sets k → SetIs S d (declares rows k) → both ≡ join t d → u ≡ join s both → Variables S rows u (k + 1)
+  pub variables-next : {sets : List WriteSet} {s t d both u : WriteSet} {k : ℕ} → Sets S rows sets → Variables S rows s k → k < row_count rows → t ≡ set_of sets k → SetIs S d (declares rows k) → both ≡ join t d → u ≡ join s both → Variables S rows u (k + 1)
   unfolding any_below
   variables-next {sets} {s} {t} {d} {both} {u} {k} m v h et declared eb eu = rw (add-one k) (record {
     within = omega arith;

@@ -6,7 +6,6 @@ ghost use Rattle.write_sets_programs.specs.ArrayWrites.{arguments_write_array};
 ghost use Rattle.write_sets_programs.specs.Arrays.{ArraysAre, ArraysFrom};
 
 use super::table::linked;
-use language_shapes::ArgumentShape;
 use language_shapes::rows::argument_at;
 use words::table::number_at;
 use write_sets::arrays::join_arrays;
@@ -22,9 +21,7 @@ pub fn argument_arrays(rows: &[i32], arrays: &[u32], link: usize) -> u32
     let next = number_at(rows, link, 5);
     let shape = argument_at(rows, link);
     match shape {
-        ArgumentShape::Argument(e) => {
-            join_arrays(linked(arrays, e), argument_arrays(&*rows, &*arrays, next))
-        }
-        ArgumentShape::NoArgument => 0,
+        Some(e) => { join_arrays(linked(arrays, e), argument_arrays(&*rows, &*arrays, next)) }
+        None => 0,
     }
 }

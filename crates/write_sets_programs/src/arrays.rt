@@ -66,10 +66,7 @@ pub fn fill_arrays(rows: &[i32], arrays: &mut [u32])
     requires { Source rows.now × (row_count rows.now ≤ length arrays.old) }
     ensures { ArraysFrom rows.now arrays.new 0 }
 {
-    let mut row = rows.len() / 6;
-    while row > 0 {
-        row -= 1;
-        let word = arrays_of(rows, arrays, row);
-        arrays[row] = word;
+    for row in (0..rows.len() / 6).rev() {
+        arrays[row] = arrays_of(rows, arrays, row);
     }
 }

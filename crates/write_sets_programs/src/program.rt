@@ -10,10 +10,9 @@ use super::Writes;
 use super::arrays::fill_arrays;
 use words::declarations::is_declaration;
 use words::table::number_at;
+use write_sets::WriteSet;
 use write_sets::arrays::join_arrays;
-use write_sets::{WriteSet, join, nothing, single};
 use write_sets_functions::functions::gather_functions;
-use write_sets_rows::table::set_of;
 use write_sets_rows::writes::fill_sets;
 
 // The word of a row that is a declaration.
@@ -22,21 +21,18 @@ fn declared_set(store: usize, rows: &[i32], row: usize) -> WriteSet
     ensures { SetIs store result (declares rows.now row) }
 {
     if is_declaration(rows, row) {
-        return single(store, number_at(rows, row, 1));
+        return WriteSet::single(store, number_at(rows, row, 1));
     }
-    nothing()
+    WriteSet::nothing()
 }
 
-fn any_variables(store: usize, rows: &[i32], sets: &[u64]) -> WriteSet
+fn any_variables(store: usize, rows: &[i32], sets: &[WriteSet]) -> WriteSet
     requires { Sets store rows.now sets.now }
     ensures { SetIs store result (program_writes rows.now) }
 {
-    let mut any = nothing();
-    let mut row: usize = 0;
-    while row < rows.len() / 6 {
-        let written = join(set_of(sets, row), declared_set(store, rows, row));
-        any = join(any, written);
-        row += 1;
+    let mut any = WriteSet::nothing();
+    for row in 0..rows.len() / 6 {
+        any = any.join(sets[row].join(declared_set(store, rows, row)));
     }
     any
 }
@@ -46,10 +42,8 @@ fn any_arrays(rows: &[i32], arrays: &[u32]) -> u32
     ensures { ArraysAre result (program_writes_array rows.now) }
 {
     let mut any: u32 = 0;
-    let mut row: usize = 0;
-    while row < rows.len() / 6 {
-        any = join_arrays(any, arrays[row]);
-        row += 1;
+    for word in &arrays[..rows.len() / 6] {
+        any = join_arrays(any, *word);
     }
     any
 }
@@ -58,7 +52,7 @@ fn variables_written(store: usize, rows: &[i32]) -> WriteSet
     requires { Source rows.now × NamesFrom store rows.now }
     ensures { SetIs store result (program_writes rows.now) }
 {
-    let mut sets = [0u64; 10240];
+    let mut sets = [WriteSet::nothing(); 2048];
     gather_functions(store, rows, &mut sets);
     fill_sets(store, rows, &mut sets);
     any_variables(store, rows, &sets)

@@ -1,4 +1,5 @@
 -- The sets of a call's arguments, joined along their list.
+use Rattle.std.specs.Prelude.{None, Some}
 use mathlib.Core.Path.{◌≡◌, refl, sym, ap, subst, ◌∙◌}
 use mathlib.Core.Bool.{Bool, true, false, ◌||◌}
 use mathlib.Core.List.{List}
@@ -10,7 +11,6 @@ use Rattle.language.specs.Trees.{Arguments, no_more, ◌also◌}
 use Rattle.language.specs.Writes.{writes, arguments_write}
 use Rattle.language.specs.Decode.{expression_at, arguments_at, argument_list_at}
 use Rattle.language_shapes.specs.Shapes.{Onward, OptionalOnward, ArgumentAt}
-use Rattle.language_shapes.specs.declared.ArgumentShape.TheVariants.{Argument, NoArgument}
 use Rattle.write_sets.specs.Sets.{nothing, join}
 use Rattle.write_sets.specs.declared.WriteSet.{WriteSet}
 use Rattle.measures_table.specs.Parts.{called_in}
@@ -20,16 +20,16 @@ use Rattle.write_sets_rows.proofs.WriteLaws.{or_assoc, or-none, set-nothing, set
 -- ---- one argument
 
 module _ {S : ℕ} {rows : List ℤ} {row next : ℕ} where
-  pub argument-set : {sets : List ℕ} {e : ℕ} {s : WriteSet} → SetsFrom S rows sets (row + 1) → ArgumentAt rows row next (Argument e) → s ≡ set_at sets e → SetIs S s (first_writes (called_in rows) (arguments_at rows row))
+  pub argument-set : {sets : List WriteSet} {e : ℕ} {s : WriteSet} → SetsFrom S rows sets (row + 1) → ArgumentAt rows row next (Some e) → s ≡ set_at sets e → SetIs S s (first_writes (called_in rows) (arguments_at rows row))
   argument-set {e = e} m f h = rw f.is (set-as (writes (called_in rows) (expression_at rows e)) _ (link_set m f.onward h) (λ i. refl))
 
-  pub no-argument-set : {s : WriteSet} → ArgumentAt rows row next NoArgument → s ≡ nothing → SetIs S s (first_writes (called_in rows) (arguments_at rows row))
+  pub no-argument-set : {s : WriteSet} → ArgumentAt rows row next None → s ≡ nothing → SetIs S s (first_writes (called_in rows) (arguments_at rows row))
   no-argument-set f h = rw f.is (set-as (λ i. false) _ (set-nothing h) (λ i. refl))
 
-pub argument-behind : {rows : List ℤ} {row next read e : ℕ} → read ≡ next → ArgumentAt rows row next (Argument e) → NextArgument rows row read
+pub argument-behind : {rows : List ℤ} {row next read e : ℕ} → read ≡ next → ArgumentAt rows row next (Some e) → NextArgument rows row read
 argument-behind h f = rw h (record { is = sym (ap behind_first f.is); onward = f.behind })
 
-pub no-argument-behind : {rows : List ℤ} {row next : ℕ} → ArgumentAt rows row next NoArgument → NextArgument rows row 0
+pub no-argument-behind : {rows : List ℤ} {row next : ℕ} → ArgumentAt rows row next None → NextArgument rows row 0
 no-argument-behind f = record { is = sym (ap behind_first f.is); onward = λ h. absurd (omega arith) }
 
 -- ---- along the list

@@ -198,7 +198,7 @@ module _ {S : ℕ} {rows : List ℤ} {row : ℕ} (called : ℕ → ℕ → Bool)
   })
 
 -- by the set in the table
-pub called-reach : {S : ℕ} {rows : List ℤ} {row f first : ℕ} (sets : List ℕ) (known : ℕ) {own : WriteSet} {r : Reach} → ExpressionAt rows row (Call f first) → own ≡ function_set sets known f → r ≡ reach_of own 0 0 0 first → ReachedWith S rows sets known row r
+pub called-reach : {S : ℕ} {rows : List ℤ} {row f first : ℕ} (sets : List WriteSet) (known : ℕ) {own : WriteSet} {r : Reach} → ExpressionAt rows row (Call f first) → own ≡ function_set sets known f → r ≡ reach_of own 0 0 0 first → ReachedWith S rows sets known row r
 called-reach {S} {f = f} sets known g e er called held = call-reach called g (subst (λ (z : WriteSet). SetIs S z (called f)) (sym e) (held f _ g.is)) er
 
 module _ {S : ℕ} {rows : List ℤ} {place : ℕ} (names : NamesFrom S rows) where
@@ -236,10 +236,10 @@ reach-set {a = a} {b} {c} {d} {t} {u} {v} reach xa xb xc xd et eu ev es =
     set-as _ _ (set-join _ v _ _ reach.own (set-join a u _ _ xa (set-join b t _ _ xb (set-join c d _ _ xc xd et) eu) ev) es) (λ i. sym (reach.all i))
 
 -- the function that a row calls has its set while its own row has not
-pub call-held : {S : ℕ} {rows : List ℤ} {sets : List ℕ} {row : ℕ} → Source rows → row < row_count rows → FunctionSets S rows sets row → (f : ℕ) (arguments : Arguments) → expression_at rows row ≡ call f arguments → SetIs S (function_set sets row f) (called_in rows f)
+pub call-held : {S : ℕ} {rows : List ℤ} {sets : List WriteSet} {row : ℕ} → Source rows → row < row_count rows → FunctionSets S rows sets row → (f : ℕ) (arguments : Arguments) → expression_at rows row ≡ call f arguments → SetIs S (function_set sets row f) (called_in rows f)
 call-held {S} {rows} {sets} {row} s inside m f arguments e =
     let below = call-behind s inside e in
     subst (λ (z : WriteSet). SetIs S z (called_in rows f)) (function-known sets row f below refl) (m.function-set f below (call-defined s inside e))
 
-pub row-reach : {S : ℕ} {rows : List ℤ} {sets : List ℕ} {row : ℕ} {r : Reach} → SetsFrom S rows sets (row + 1) → FunctionSets S rows sets row → row < row_count rows → ReachedWith S rows sets row row r → ReachAt S rows (called_in rows) row r
+pub row-reach : {S : ℕ} {rows : List ℤ} {sets : List WriteSet} {row : ℕ} {r : Reach} → SetsFrom S rows sets (row + 1) → FunctionSets S rows sets row → row < row_count rows → ReachedWith S rows sets row row r → ReachAt S rows (called_in rows) row r
 row-reach {rows = rows} m functions inside reached = reached (called_in rows) (call-held m.source inside functions)

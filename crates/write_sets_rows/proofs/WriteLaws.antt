@@ -1,16 +1,15 @@
 -- Sets and the words that they hold; a row's set or a function's put into the table; and which values are copied by them.
 use mathlib.Core.Path.{◌≡◌, refl, sym, ap, ap₂, subst, ◌∙◌}
 use mathlib.Core.Bool.{Bool, true, false, ◌&&◌, ◌||◌, and-false}
-use mathlib.Core.List.{List, [], ◌∷◌, ◌++◌}
-use Prim.Native.Nat.{ℕ, zero, suc, ◌+◌, ◌*◌, ◌-◌, ◌≤◌, ◌<◌}
-use native.Mathlib.Nat.{suc-add}
+use mathlib.Core.List.{List}
+use Prim.Native.Nat.{ℕ, zero, suc, ◌+◌, ◌-◌, ◌≤◌, ◌<◌}
 use native.Mathlib.Decide.{ℕ_discrete}
 use native.Mathlib.Omega.{arith}
-use lib.Arith.{lt_of_le-ne}
 use borrow.Author.Tests.{ltb-true, ltb-false, lt-ltb, le-ltb}
 use lib.Dec.{eqb, ltb}
+use Rattle.std.proofs.lemmas.List.{get_or-set_same, get_or-set_other}
 use lib.IntN.{ℤ}
-use lib.ListN.{length, take, drop, set, get_or}
+use lib.ListN.{length, set, length-set}
 use Rattle.words.specs.Word.{pick}
 use Rattle.words.specs.Laws.{by_cases}
 use Rattle.words.specs.Table.{row_count}
@@ -36,8 +35,7 @@ use Rattle.write_sets.specs.Sets.{member, variable_bit, declared_bit, nothing, j
 use Rattle.write_sets.specs.SetLaws.{member-variable, member-declared, variable-join, declared-join, variable-nothing, declared-nothing, variable-single, declared-single}
 use Rattle.write_sets.specs.declared.WriteSet.{WriteSet}
 use Rattle.measures_table.specs.Parts.{called_in, index_of, first_copied, Operand}
-use Rattle.write_sets_rows.specs.WriteSets.{SetIs, part_writes, set_width, set_of, set_at, function_set, SetHeld, set_words, FunctionSets, SetsFrom, Sets}
-use Rattle.measures_table.proofs.RowWords.{stored-length, own-words, other-words, earlier-words}
+use Rattle.write_sets_rows.specs.WriteSets.{SetIs, part_writes, set_of, set_at, function_set, SetHeld, FunctionSets, SetsFrom, Sets}
 
 -- ---- sets
 
@@ -86,21 +84,21 @@ set-member {S} {s} W i x n = by_cases (ltb i S)
 
 -- ---- the sets of a row's operands
 
-pub set-some : (sets : List ℕ) (link : ℕ) → 0 < link → set_at sets link ≡ set_of sets link
+pub set-some : (sets : List WriteSet) (link : ℕ) → 0 < link → set_at sets link ≡ set_of sets link
 set-some sets zero h = absurd (omega arith)
 set-some sets (suc link) h = refl
 
 -- the set of a function, where it is known and where not
-pub function-known : (sets : List ℕ) (known f : ℕ) {s : WriteSet} → f < known → s ≡ set_of sets f → s ≡ function_set sets known f
+pub function-known : (sets : List WriteSet) (known f : ℕ) {s : WriteSet} → f < known → s ≡ set_of sets f → s ≡ function_set sets known f
 function-known sets known f h e = e ∙ sym (ap (λ (b : Bool). pick b (set_of sets f) nothing) (lt-ltb f known h))
 
-pub function-unknown : (sets : List ℕ) (known f : ℕ) {s : WriteSet} → known ≤ f → s ≡ nothing → s ≡ function_set sets known f
+pub function-unknown : (sets : List WriteSet) (known f : ℕ) {s : WriteSet} → known ≤ f → s ≡ nothing → s ≡ function_set sets known f
 function-unknown sets known f h e = e ∙ sym (ap (λ (b : Bool). pick b (set_of sets f) nothing) (le-ltb f known h))
 
-pub sets-less : {S : ℕ} {rows : List ℤ} {sets : List ℕ} {k : ℕ} (j : ℕ) → SetsFrom S rows sets k → k ≤ j → SetsFrom S rows sets j
+pub sets-less : {S : ℕ} {rows : List ℤ} {sets : List WriteSet} {k : ℕ} (j : ℕ) → SetsFrom S rows sets k → k ≤ j → SetsFrom S rows sets j
 sets-less j m h = record { source = m.source; names = m.names; room = m.room; row_set = λ row l. m.row_set row (omega arith) }
 
-module _ {S : ℕ} {rows : List ℤ} {sets : List ℕ} {row : ℕ} (m : SetsFrom S rows sets (row + 1)) where
+module _ {S : ℕ} {rows : List ℤ} {sets : List WriteSet} {row : ℕ} (m : SetsFrom S rows sets (row + 1)) where
   pub link-held : {link : ℕ} → OptionalOnward rows row link → SetHeld sets link
   link-held o h = omega (arith, m.room, (o h).inside)
 
@@ -115,39 +113,16 @@ module _ {S : ℕ} {rows : List ℤ} {sets : List ℕ} {row : ℕ} (m : SetsFrom
 
 -- ---- the table
 
-pub five-stores : (l : List ℕ) (n a b c d e : ℕ) → n + 5 ≤ length l
-    → set (set (set (set (set l n a) (n + 1) b) (n + 2) c) (n + 3) d) (n + 4) e ≡ (take n l ++ (a ∷ b ∷ c ∷ d ∷ e ∷ [])) ++ drop (n + 5) l
-five-stores [] n a b c d e p = absurd (omega arith)
-five-stores (x ∷ l) (suc n) a b c d e p = rw (suc-add n 1, suc-add n 2, suc-add n 3, suc-add n 4, suc-add n 5) (ap (λ (r : List ℕ). x ∷ r) (five-stores l n a b c d e (omega arith)))
-five-stores (x0 ∷ []) zero a b c d e p = absurd (omega arith)
-five-stores (x0 ∷ x1 ∷ []) zero a b c d e p = absurd (omega arith)
-five-stores (x0 ∷ x1 ∷ x2 ∷ []) zero a b c d e p = absurd (omega arith)
-five-stores (x0 ∷ x1 ∷ x2 ∷ x3 ∷ []) zero a b c d e p = absurd (omega arith)
-five-stores (x0 ∷ x1 ∷ x2 ∷ x3 ∷ x4 ∷ l) zero a b c d e p = refl
-
-module _ (rows : List ℤ) (t u : List ℕ) (row : ℕ) (s : WriteSet) (fits : set_width * row + set_width ≤ length t) (is : u ≡ (take (set_width * row) t ++ set_words s) ++ drop (set_width * row + set_width) t) where
-  own : (k : ℕ) → k < set_width → get_or u (set_width * row + k) 0 ≡ get_or (set_words s) k 0
-  own k h = own-words set_width t u (set_words s) row refl fits is k h
-
-  others : (other k : ℕ) → row < other → get_or u (set_width * other + k) 0 ≡ get_or t (set_width * other + k) 0
-  others other k h = other-words set_width t u (set_words s) row refl fits is (set_width * other + k) (omega arith)
-
-  earlier : (other k : ℕ) → other < row → k < set_width → get_or u (set_width * other + k) 0 ≡ get_or t (set_width * other + k) 0
-  earlier other k h b = earlier-words set_width t u (set_words s) row refl fits is (set_width * other + k) (omega arith)
-
-  zero_more : (n : ℕ) → n ≡ n + 0
-  zero_more n = omega arith
-
+module _ (rows : List ℤ) (t u : List WriteSet) (row : ℕ) (s : WriteSet) (fits : row < length t) (is : u ≡ set t row s) where
   own-set : set_of u row ≡ s
-  own-set = rw (ap (λ (n : ℕ). get_or u n 0) (zero_more (set_width * row)) ∙ own 0 (omega arith), own 1 (omega arith), own 2 (omega arith), own 3 (omega arith), own 4 (omega arith))
+  own-set = rw is (get_or-set_same t row s nothing fits)
 
-  earlier-set : (other : ℕ) → other < row → set_of u other ≡ set_of t other
-  earlier-set other h =
-      rw (ap (λ (n : ℕ). get_or u n 0) (zero_more (set_width * other)) ∙ earlier other 0 h (omega arith) ∙ sym (ap (λ (n : ℕ). get_or t n 0) (zero_more (set_width * other))), earlier other 1 h (omega arith), earlier other 2 h (omega arith), earlier other 3 h (omega arith), earlier other 4 h (omega arith))
+  other-set : (other : ℕ) → (other ≡ row → ⊥) → set_of u other ≡ set_of t other
+  other-set other h = rw is (get_or-set_other t row other s nothing h)
 
   -- the functions below it keep their sets
   pub functions-kept : {S : ℕ} → FunctionSets S rows t row → FunctionSets S rows u row
-  functions-kept {S} m = record { function-set = λ f h b. subst (λ (z : WriteSet). SetIs S z (called_in rows f)) (sym (earlier-set f h)) (m.function-set f h b) }
+  functions-kept {S} m = record { function-set = λ f h b. subst (λ (z : WriteSet). SetIs S z (called_in rows f)) (sym (other-set f (λ q. omega arith))) (m.function-set f h b) }
 
   -- with the function's words in, one more function has its set
   pub one-function-more : {S : ℕ} → SetIs S s (called_in rows row) → FunctionSets S rows t row → FunctionSets S rows u (row + 1)
@@ -162,23 +137,19 @@ module _ (rows : List ℤ) (t u : List ℕ) (row : ℕ) (s : WriteSet) (fits : s
   one-set-more {S} x m = record {
     source = m.source;
     names = m.names;
-    room = omega (arith, m.room, stored-length set_width t u (set_words s) row refl fits is);
+    room = rw (is, length-set t row s) m.room;
     row_set = λ r h b. by r h b (ℕ_discrete r row);
   }
     where
-      other-set : (other : ℕ) → row < other → set_of u other ≡ set_of t other
-      other-set other h = rw (ap (λ (n : ℕ). get_or u n 0) (zero_more (set_width * other)) ∙ others other 0 h ∙ sym (ap (λ (n : ℕ). get_or t n 0) (zero_more (set_width * other))), others other 1 h, others other 2 h, others other 3 h, others other 4 h)
-
       by : (r : ℕ) → row ≤ r → r < row_count rows → Dec (r ≡ row) → SetIs S (set_of u r) (writes (called_in rows) (expression_at rows r))
       by r h b (yes q) = subst (λ (r : ℕ). SetIs S (set_of u r) (writes (called_in rows) (expression_at rows r))) (sym q) (subst (λ (z : WriteSet). SetIs S z (writes (called_in rows) (expression_at rows row))) (sym own-set) x)
       by r h b (no q) =
-          let k = lt_of_le-ne h (λ x. q (sym x)) in
-          subst (λ (z : WriteSet). SetIs S z (writes (called_in rows) (expression_at rows r))) (sym (other-set r k)) (m.row_set r (omega arith) b)
+          subst (λ (z : WriteSet). SetIs S z (writes (called_in rows) (expression_at rows r))) (sym (other-set r q)) (m.row_set r (omega (arith, q)) b)
 
-pub functions-less : {S : ℕ} {rows : List ℤ} {sets : List ℕ} {k : ℕ} (j : ℕ) → FunctionSets S rows sets k → j ≤ k → FunctionSets S rows sets j
+pub functions-less : {S : ℕ} {rows : List ℤ} {sets : List WriteSet} {k : ℕ} (j : ℕ) → FunctionSets S rows sets k → j ≤ k → FunctionSets S rows sets j
 functions-less j m h = record { function-set = λ f l. m.function-set f (omega arith) }
 
-pub sets-none : {S : ℕ} {rows : List ℤ} {sets : List ℕ} → Source rows → NamesFrom S rows → set_width * row_count rows ≤ length sets → SetsFrom S rows sets (row_count rows)
+pub sets-none : {S : ℕ} {rows : List ℤ} {sets : List WriteSet} → Source rows → NamesFrom S rows → row_count rows ≤ length sets → SetsFrom S rows sets (row_count rows)
 sets-none s n h = record { source = s; names = n; room = h; row_set = λ row l b. absurd (omega arith) }
 
 -- ---- which values are copied
@@ -199,7 +170,7 @@ copied-word : (i : ℕ) (W : ℕ → Bool) → pick (W i) 1 0 ≡ copied (word i
 copied-word i W = by_cases (W i) (λ e. rw e) (λ e. rw e)
 
 -- the set at a link, as what the expression there writes
-pub part-set : {S : ℕ} {rows : List ℤ} {sets : List ℕ} (link : ℕ) {s : WriteSet} → Sets S rows sets → link < row_count rows → s ≡ set_at sets link → SetIs S s (part_writes (called_in rows) (part_at rows link))
+pub part-set : {S : ℕ} {rows : List ℤ} {sets : List WriteSet} (link : ℕ) {s : WriteSet} → Sets S rows sets → link < row_count rows → s ≡ set_at sets link → SetIs S s (part_writes (called_in rows) (part_at rows link))
 part-set zero m h e = set-nothing e
 part-set {S} {rows} (suc link) m h e = subst (λ (z : WriteSet). SetIs S z (writes (called_in rows) (expression_at rows (suc link)))) (sym e) (m.row_set (suc link) (omega arith) h)
 

@@ -44,6 +44,6 @@ module _ (S : ℕ) (rows : List ℤ) where
   Reached row r = (called : ℕ → ℕ → Bool) → ReachAt called row r
 
   -- Where the table has the set of the function that the row calls, if it does.
-  abbrev pub ReachedWith : List ℕ → ℕ → ℕ → Reach → Type 0
+  abbrev pub ReachedWith : List WriteSet → ℕ → ℕ → Reach → Type 0
   ReachedWith sets known row r =
       (called : ℕ → ℕ → Bool) → ((f : ℕ) (arguments : Arguments) → expression_at rows row ≡ call f arguments → SetIs S (function_set sets known f) (called f)) → ReachAt called row r

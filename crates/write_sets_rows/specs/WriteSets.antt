@@ -1,6 +1,6 @@
--- Write sets: what the table of write sets holds, five words for each source row: the variables and the declared words that the expression
+-- Write sets: what the table of write sets holds, a set for each source row: the variables and the declared words that the expression
 -- at the row can write. S is where the declared words begin.
-use Rattle.std.specs.Prelude.{◌≡◌, Bool, false, ◌&&◌, ◌||◌, List, [], ◌∷◌, ℕ, zero, suc, ◌+◌, ◌*◌, ◌≤◌, ◌<◌, ltb, ℤ, length, get_or}
+use Rattle.std.specs.Prelude.{◌≡◌, Bool, false, ◌&&◌, ◌||◌, List, ℕ, zero, suc, ◌+◌, ◌≤◌, ◌<◌, ltb, ℤ, length, get_or}
 use Rattle.words.specs.Table.{row_count}
 use Rattle.words.specs.Word.{pick}
 use Rattle.language.specs.Trees.{Place, Part, absent, present, Arguments, no_more, ◌also◌}
@@ -49,41 +49,33 @@ pub record NextArgument (rows : List ℤ) (row next : ℕ) : Type 0 where
 
 -- ---- the table
 
-abbrev pub set_width : ℕ
-set_width = 5
-
 -- The set of a row.
-abbrev pub set_of : List ℕ → ℕ → WriteSet
-set_of sets row =
-    record { word0 = get_or sets (set_width * row) 0; word1 = get_or sets (set_width * row + 1) 0; word2 = get_or sets (set_width * row + 2) 0; word3 = get_or sets (set_width * row + 3) 0; word4 = get_or sets (set_width * row + 4) 0 }
+abbrev pub set_of : List WriteSet → ℕ → WriteSet
+set_of sets row = get_or sets row nothing
 
 -- The same by a link; 0 is absent and writes nothing.
-abbrev pub set_at : List ℕ → ℕ → WriteSet
+abbrev pub set_at : List WriteSet → ℕ → WriteSet
 set_at sets zero = nothing
 set_at sets (suc link) = set_of sets (suc link)
 
 -- The set of a function, which stands at its number; those from `known` on are taken to write nothing.
-abbrev pub function_set : List ℕ → ℕ → ℕ → WriteSet
+abbrev pub function_set : List WriteSet → ℕ → ℕ → WriteSet
 function_set sets known f = pick (ltb f known) (set_of sets f) nothing
 
 -- The set that a link leads to is in the table.
-abbrev pub SetHeld : List ℕ → ℕ → Type 0
-SetHeld sets link = 0 < link → set_width * link + set_width ≤ length sets
-
--- The words of a set.
-abbrev pub set_words : WriteSet → List ℕ
-set_words s = s.word0 ∷ s.word1 ∷ s.word2 ∷ s.word3 ∷ s.word4 ∷ []
+abbrev pub SetHeld : List WriteSet → ℕ → Type 0
+SetHeld sets link = 0 < link → link < length sets
 
 -- The functions below `known` have their sets.
-pub record FunctionSets (S : ℕ) (rows : List ℤ) (sets : List ℕ) (known : ℕ) : Type 0 where
+pub record FunctionSets (S : ℕ) (rows : List ℤ) (sets : List WriteSet) (known : ℕ) : Type 0 where
   pub function-set : (f : ℕ) → f < known → f < function_count (contents rows) → SetIs S (set_of sets f) (called_in rows f)
 
 -- The rows from `least` on have their sets.
-pub record SetsFrom (S : ℕ) (rows : List ℤ) (sets : List ℕ) (least : ℕ) : Type 0 where
+pub record SetsFrom (S : ℕ) (rows : List ℤ) (sets : List WriteSet) (least : ℕ) : Type 0 where
   pub source : Source rows
   pub names : NamesFrom S rows
-  pub room : set_width * row_count rows ≤ length sets
+  pub room : row_count rows ≤ length sets
   pub row_set : (row : ℕ) → least ≤ row → row < row_count rows → SetIs S (set_of sets row) (writes (called_in rows) (expression_at rows row))
 
-abbrev pub Sets : ℕ → List ℤ → List ℕ → Type 0
+abbrev pub Sets : ℕ → List ℤ → List WriteSet → Type 0
 Sets S rows sets = SetsFrom S rows sets 0

@@ -9,20 +9,19 @@ ghost use Rattle.measures_table.specs.Parts.{called_in};
 ghost use Rattle.write_sets_rows.specs.WriteSets.{SetIs, SetsFrom, first_writes, NextArgument};
 
 use super::table::set_at;
-use language_shapes::ArgumentShape;
 use language_shapes::rows::argument_at;
 use words::table::number_at;
-use write_sets::{WriteSet, join, nothing};
+use write_sets::WriteSet;
 
 // What the argument at a row writes; a row that is no argument writes nothing.
-fn argument_writes(store: usize, rows: &[i32], sets: &[u64], row: usize) -> WriteSet
+fn argument_writes(store: usize, rows: &[i32], sets: &[WriteSet], row: usize) -> WriteSet
     requires { SetsFrom store rows.now sets.now (row + 1) × (row < row_count rows.now) }
     ensures { SetIs store result (first_writes (called_in rows.now) (arguments_at rows.now row)) }
 {
     let shape = argument_at(rows, row);
     match shape {
-        ArgumentShape::Argument(e) => set_at(sets, e),
-        ArgumentShape::NoArgument => nothing(),
+        Some(e) => set_at(sets, e),
+        None => WriteSet::nothing(),
     }
 }
 
@@ -34,8 +33,8 @@ fn next_argument(rows: &[i32], row: usize) -> usize
     let next = number_at(rows, row, 5);
     let shape = argument_at(rows, row);
     match shape {
-        ArgumentShape::Argument(_) => next,
-        ArgumentShape::NoArgument => 0,
+        Some(_) => next,
+        None => 0,
     }
 }
 
@@ -43,17 +42,17 @@ fn next_argument(rows: &[i32], row: usize) -> usize
 pub fn arguments_writes(
     store: usize,
     rows: &[i32],
-    sets: &[u64],
+    sets: &[WriteSet],
     row: usize,
     first: usize,
 ) -> WriteSet
     requires { SetsFrom store rows.now sets.now (row + 1) × OptionalOnward rows.now row first }
     ensures { SetIs store result (arguments_write (called_in rows.now) (argument_list_at rows.now first)) }
 {
-    let mut any = nothing();
+    let mut any = WriteSet::nothing();
     let mut argument = first;
     while argument > 0 {
-        any = join(any, argument_writes(store, rows, sets, argument));
+        any = any.join(argument_writes(store, rows, sets, argument));
         argument = next_argument(rows, argument);
     }
     any

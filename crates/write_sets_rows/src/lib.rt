@@ -1,7 +1,7 @@
 // Which variables the code of each source row can write.
 #![tactic(auto)]
 
-use write_sets::WriteSet;
+pub use write_sets::WriteSet;
 
 pub mod arguments; // arguments.rt: what the arguments of a call can write
 pub mod reaches; // reaches.rt: what an expression's own row writes, and the links at which more is written

@@ -1,4 +1,5 @@
 -- Arms: the arms of a guarded form one behind another, as `Progress` says it of lists, and the guarded forms around them.
+use Rattle.std.specs.Prelude.{None, Option, Some}
 use mathlib.Core.Path.{◌≡◌, refl, sym, ap, ap₂, subst, ◌∙◌}
 use mathlib.Core.Bool.{Bool, true, false}
 use mathlib.Core.List.{List, ◌++◌, append_assoc}
@@ -21,8 +22,6 @@ use Rattle.language_emission.specs.EmissionLaws.{or_more, emit-append, length-ex
 use Rattle.language_shapes.specs.Shapes.{arm_tree, OptionalOnward, ArmAt}
 use Rattle.language_shapes.specs.Source.{Source}
 use Rattle.language_shapes.specs.ShapeLaws.{arm-found}
-use Rattle.language_shapes.specs.declared.ArmShape.{ArmShape}
-use Rattle.language_shapes.specs.declared.ArmShape.TheVariants.{Arm, NoArm}
 use Rattle.measures_table.specs.Parts.{called_in}
 use Rattle.writers_rows.specs.Atoms.{atom_tree}
 use Rattle.writers_steps.specs.AtomLaws.{atom-rows}
@@ -41,10 +40,10 @@ use Rattle.writers.proofs.LoopLaws.{loop-words}
 pub data First : Arms → Arms → Type 0 where
   first : {e : Expression} {s : Statement} {rest : Arms} → First (arm e s rest) rest
 
-tree_first : (rows : List ℤ) (shape : ArmShape) (rest : Arms) → 0 < arms_size (called_in rows) (arm_tree rows shape rest) → First (arm_tree rows shape rest) rest
+tree_first : (rows : List ℤ) (shape : Option (ℕ × ℕ)) (rest : Arms) → 0 < arms_size (called_in rows) (arm_tree rows shape rest) → First (arm_tree rows shape rest) rest
 unfolding arms_size
-tree_first rows (Arm guard body) rest h = first
-tree_first rows NoArm rest h = absurd (omega arith)
+tree_first rows (Some (guard, body)) rest h = first
+tree_first rows None rest h = absurd (omega arith)
 
 pub some-arms : (rows : List ℤ) (row : ℕ) → 0 < row → arm_list_at rows row ≡ arms_at rows row
 some-arms rows zero h = absurd (omega arith)
@@ -56,12 +55,12 @@ unfolding arms_size
 arms-some rows zero h = h
 arms-some rows (suc row) h = omega arith
 
-arm_at : (rows : List ℤ) (row : ℕ) → Source rows → row < row_count rows → (shape : ArmShape) × ArmAt rows row (number_at rows row 5) shape
+arm_at : (rows : List ℤ) (row : ℕ) → Source rows → row < row_count rows → (shape : Option (ℕ × ℕ)) × ArmAt rows row (number_at rows row 5) shape
 arm_at rows row source inside = (_, arm-found source.sound inside)
 
 -- What an arm that a match tells makes of the arms.
-pub arm_is : {rows : List ℤ} {row next : ℕ} {shape told : ArmShape} → ArmAt rows row next shape → shape ≡ told → arms_at rows row ≡ arm_tree rows told (arm_list_at rows next)
-arm_is {rows} {row} {next} i e = i.is ∙ ap (λ (t : ArmShape). arm_tree rows t (arm_list_at rows next)) e
+pub arm_is : {rows : List ℤ} {row next : ℕ} {shape told : (Option (ℕ × ℕ))} → ArmAt rows row next shape → shape ≡ told → arms_at rows row ≡ arm_tree rows told (arm_list_at rows next)
+arm_is {rows} {row} {next} i e = i.is ∙ ap (λ (t : Option (ℕ × ℕ)). arm_tree rows t (arm_list_at rows next)) e
 
 first_of : (rows : List ℤ) (row : ℕ) → Source rows → row < row_count rows → 0 < arms_size (called_in rows) (arm_list_at rows row) → First (arm_list_at rows row) (arm_list_at rows (number_at rows row 5))
 first_of rows row source inside some =

@@ -17,78 +17,73 @@ use measures_table::{
     ARMS_LABELS, ARMS_ROWS, LIST_CASES, LIST_DEFAULT, LIST_ROWS, STATEMENT_LABELS, STATEMENT_ROWS,
     WIDTH,
 };
+use writers_steps::WriteSource;
 
 // The kernel rows of the statement at a row.
-pub fn statement_size(rows: &[i32], table: &[usize], row: usize) -> usize
-    requires { Measured rows.now table.now × (row < row_count rows.now) × (statement_size (called_in rows.now) (statement_at rows.now row) ≤ 40980) }
-    ensures { result ≡ statement_size (called_in rows.now) (statement_at rows.now row) }
+pub fn statement_size(source: &WriteSource<'_>, row: usize) -> usize
+    requires { Measured source.now.rows.now source.now.table.now × (row < row_count source.now.rows.now) × (statement_size (called_in source.now.rows.now) (statement_at source.now.rows.now row) ≤ 40980) }
+    ensures { result ≡ statement_size (called_in source.now.rows.now) (statement_at source.now.rows.now row) }
 {
-    table[WIDTH * row + STATEMENT_ROWS]
+    source.table[WIDTH * row + STATEMENT_ROWS]
 }
 
 // The labels of the statement at a row.
-pub fn statement_labels(rows: &[i32], table: &[usize], row: usize) -> usize
-    requires { Measured rows.now table.now × (row < row_count rows.now) × (labels (statement_at rows.now row) ≤ 65535) }
-    ensures { result ≡ labels (statement_at rows.now row) }
+pub fn statement_labels(source: &WriteSource<'_>, row: usize) -> usize
+    requires { Measured source.now.rows.now source.now.table.now × (row < row_count source.now.rows.now) × (labels (statement_at source.now.rows.now row) ≤ 65535) }
+    ensures { result ≡ labels (statement_at source.now.rows.now row) }
 {
-    table[WIDTH * row + STATEMENT_LABELS]
+    source.table[WIDTH * row + STATEMENT_LABELS]
 }
 
 // The kernel rows of a branch that may be absent.
-pub fn body_size(rows: &[i32], table: &[usize], row: usize) -> usize
-    requires { Measured rows.now table.now × (row < row_count rows.now) × (body_size rows.now row ≤ 40980) }
-    ensures { result ≡ body_size rows.now row }
+pub fn body_size(source: &WriteSource<'_>, row: usize) -> usize
+    requires { Measured source.now.rows.now source.now.table.now × (row < row_count source.now.rows.now) × (body_size source.now.rows.now row ≤ 40980) }
+    ensures { result ≡ body_size source.now.rows.now row }
 {
     if row == 0 {
         return 0;
     }
-    statement_size(rows, table, row)
+    statement_size(source, row)
 }
 
 // The kernel rows of the list at a link.
-pub fn list_size(rows: &[i32], table: &[usize], list: usize) -> usize
-    requires { Measured rows.now table.now × (list < row_count rows.now) × (items_size (called_in rows.now) (list_at rows.now list) ≤ 40980) }
-    ensures { result ≡ items_size (called_in rows.now) (list_at rows.now list) }
+pub fn list_size(source: &WriteSource<'_>, list: usize) -> usize
+    requires { Measured source.now.rows.now source.now.table.now × (list < row_count source.now.rows.now) × (items_size (called_in source.now.rows.now) (list_at source.now.rows.now list) ≤ 40980) }
+    ensures { result ≡ items_size (called_in source.now.rows.now) (list_at source.now.rows.now list) }
 {
-    measure_at(table, list, LIST_ROWS)
+    measure_at(source.table, list, LIST_ROWS)
 }
 
 // The cases of the list at a link.
-pub fn list_cases(rows: &[i32], table: &[usize], list: usize) -> usize
-    requires { Measured rows.now table.now × (list < row_count rows.now) × (cases (list_at rows.now list) ≤ 40980) }
-    ensures { result ≡ cases (list_at rows.now list) }
+pub fn list_cases(source: &WriteSource<'_>, list: usize) -> usize
+    requires { Measured source.now.rows.now source.now.table.now × (list < row_count source.now.rows.now) × (cases (list_at source.now.rows.now list) ≤ 40980) }
+    ensures { result ≡ cases (list_at source.now.rows.now list) }
 {
-    measure_at(table, list, LIST_CASES)
+    measure_at(source.table, list, LIST_CASES)
 }
 
 // The kernel rows of the arms at a link.
-pub fn arms_size(rows: &[i32], table: &[usize], arms: usize) -> usize
-    requires { Measured rows.now table.now × (arms < row_count rows.now) × (arms_size (called_in rows.now) (arm_list_at rows.now arms) ≤ 40980) }
-    ensures { result ≡ arms_size (called_in rows.now) (arm_list_at rows.now arms) }
+pub fn arms_size(source: &WriteSource<'_>, arms: usize) -> usize
+    requires { Measured source.now.rows.now source.now.table.now × (arms < row_count source.now.rows.now) × (arms_size (called_in source.now.rows.now) (arm_list_at source.now.rows.now arms) ≤ 40980) }
+    ensures { result ≡ arms_size (called_in source.now.rows.now) (arm_list_at source.now.rows.now arms) }
 {
-    measure_at(table, arms, ARMS_ROWS)
+    measure_at(source.table, arms, ARMS_ROWS)
 }
 
 // The labels of the arms at a link.
-pub fn arms_labels(rows: &[i32], table: &[usize], arms: usize) -> usize
-    requires { Measured rows.now table.now × (arms < row_count rows.now) × (arms_labels (arm_list_at rows.now arms) ≤ 65535) }
-    ensures { result ≡ arms_labels (arm_list_at rows.now arms) }
+pub fn arms_labels(source: &WriteSource<'_>, arms: usize) -> usize
+    requires { Measured source.now.rows.now source.now.table.now × (arms < row_count source.now.rows.now) × (arms_labels (arm_list_at source.now.rows.now arms) ≤ 65535) }
+    ensures { result ≡ arms_labels (arm_list_at source.now.rows.now arms) }
 {
-    measure_at(table, arms, ARMS_LABELS)
+    measure_at(source.table, arms, ARMS_LABELS)
 }
 
 // The label of the list's default, or `other`.
-pub fn default_label(
-    rows: &[i32],
-    table: &[usize],
-    list: usize,
-    label: usize,
-    other: usize,
-) -> usize
-    requires { Measured rows.now table.now × ListInside rows.now list label }
-    ensures { result ≡ label_of default (list_at rows.now list) label other }
+pub fn default_label(source: &WriteSource<'_>, list: usize, label: usize, other: usize) -> usize
+    requires { Measured source.now.rows.now source.now.table.now × ListInside source.now.rows.now list label }
+    ensures { result ≡ label_of default (list_at source.now.rows.now list) label other }
 {
-    let place = measure_at(table, list, LIST_DEFAULT);
+    let place = measure_at(source.table, list, LIST_DEFAULT);
     if place == 0 {
         return other;
     }
@@ -96,26 +91,26 @@ pub fn default_label(
 }
 
 // The kernel rows of the item at a row.
-pub fn item_size(rows: &[i32], table: &[usize], row: usize) -> usize
-    requires { Measured rows.now table.now × (row < row_count rows.now) × (item_size (called_in rows.now) (items_at rows.now row) ≤ 40980) }
-    ensures { result ≡ item_size (called_in rows.now) (items_at rows.now row) }
+pub fn item_size(source: &WriteSource<'_>, row: usize) -> usize
+    requires { Measured source.now.rows.now source.now.table.now × (row < row_count source.now.rows.now) × (item_size (called_in source.now.rows.now) (items_at source.now.rows.now row) ≤ 40980) }
+    ensures { result ≡ item_size (called_in source.now.rows.now) (items_at source.now.rows.now row) }
 {
-    let item = item_at(rows, row);
+    let item = item_at(source.rows, row);
     match item {
-        Item::Statement => statement_size(rows, table, row),
+        Item::Statement => statement_size(source, row),
         Item::Mark(_) => 1,
         Item::Definition(_, _, _) => 0,
     }
 }
 
 // The labels of the item at a row.
-pub fn item_labels(rows: &[i32], table: &[usize], row: usize) -> usize
-    requires { Measured rows.now table.now × (row < row_count rows.now) × (item_labels (items_at rows.now row) ≤ 65535) }
-    ensures { result ≡ item_labels (items_at rows.now row) }
+pub fn item_labels(source: &WriteSource<'_>, row: usize) -> usize
+    requires { Measured source.now.rows.now source.now.table.now × (row < row_count source.now.rows.now) × (item_labels (items_at source.now.rows.now row) ≤ 65535) }
+    ensures { result ≡ item_labels (items_at source.now.rows.now row) }
 {
-    let item = item_at(rows, row);
+    let item = item_at(source.rows, row);
     match item {
-        Item::Statement => statement_labels(rows, table, row),
+        Item::Statement => statement_labels(source, row),
         Item::Mark(_) => 1,
         Item::Definition(_, _, _) => 0,
     }

@@ -1,6 +1,6 @@
 -- Laws of arguments: the code by the copies is the translation's, where the copies are those of arguments before which others can write the
 -- variables W; how many rows it has; and the arguments at a row.
-use Rattle.std.specs.Prelude.{◌≡◌, Bool, false, List, [], ◌++◌, ℤ, pos}
+use Rattle.std.specs.Prelude.{◌≡◌, Bool, false, List, [], ◌++◌, ℤ, pos, None, Some}
 use Rattle.std.proofs.Math.Path.{refl, ap, ap₂}
 use Rattle.std.proofs.Common.{sym, ◌∙◌, append_assoc, append-nil, arith, eq-eqb, ne_eqb}
 use Prim.Native.Nat.{ℕ, zero, suc, ◌+◌, ◌*◌, ◌-◌, ◌/◌, ◌%◌, ◌≤◌, ◌<◌}
@@ -10,7 +10,7 @@ use Rattle.words.specs.OverLaws.{over-next}
 use Rattle.words.specs.Table.{row_count, number_at}
 use Rattle.language.specs.Trees.{Expression, assign, call, variable, Arguments, no_more, ◌also◌, express, Items, none, ◌then◌, ◌⧺◌}
 use Rattle.language.specs.Calls.{argument_count}
-use Rattle.language.specs.Decode.{expression_at, arguments_at, argument_list_at}
+use Rattle.language.specs.Decode.{expression_at, argument_list_at}
 use Rattle.language.specs.Sizes.{expression_rows, arguments_rows, statement_rows}
 use Rattle.language.specs.Writes.{writes}
 use Rattle.translation.specs.declared.Use.TheVariants.{Wanted as wanted}
@@ -23,7 +23,6 @@ use Rattle.translation.proofs.HeldCode.{copied-most, held-by, hold-by}
 use Rattle.language_emission.specs.Emission.{row_of, arguments_link, emit_expression, emit_arguments, emit_items}
 use Rattle.language_emission.specs.EmissionLaws.{length-expression, length-arguments}
 use Rattle.language_shapes.specs.Shapes.{OptionalOnward, ArgumentAt}
-use Rattle.language_shapes.specs.declared.ArgumentShape.TheVariants.{Argument, NoArgument}
 use Rattle.measures_table.specs.Arguments.{argument_copies}
 use Rattle.measures_table.specs.Parts.{called_in}
 use Rattle.writers_rows.specs.Room.{more_rows}
@@ -86,7 +85,7 @@ module _ (called : ℕ → ℕ → Bool) where
 
 -- ---- the arguments at a row
 
-pub passing : {rows : List ℤ} (argument : ℕ) {e : ℕ} → 0 < argument → ArgumentAt rows argument (number_at rows argument 5) (Argument e) → Passing rows argument e
+pub passing : {rows : List ℤ} (argument : ℕ) {e : ℕ} → 0 < argument → ArgumentAt rows argument (number_at rows argument 5) (Some e) → Passing rows argument e
 passing zero some at = absurd (omega arith)
 passing (suc argument) some at = record { some = some; is = at.is; onward = at.onward; behind = at.behind }
 
@@ -95,7 +94,7 @@ unfolding argument_count
 argument-some rows zero h = absurd (omega arith)
 argument-some rows (suc argument) h = omega arith
 
-pub passes_none : {rows : List ℤ} (argument : ℕ) → ArgumentAt rows argument (number_at rows argument 5) NoArgument → argument_list_at rows argument ≡ no_more
+pub passes_none : {rows : List ℤ} (argument : ℕ) → ArgumentAt rows argument (number_at rows argument 5) None → argument_list_at rows argument ≡ no_more
 passes_none zero at = refl
 passes_none (suc argument) at = at.is
 

@@ -2,15 +2,15 @@
 use Rattle.std.specs.Prelude.{◌≡◌, Bool}
 use Rattle.std.proofs.Math.Path.{refl, ap, ap₂}
 use Rattle.std.proofs.Common.{sym, ◌∙◌}
-use Prim.Native.Nat.{ℕ, ◌+◌, ◌*◌, ◌/◌, ◌%◌, ◌≤◌, max}
+use Prim.Native.Nat.{ℕ, ◌+◌, ◌/◌, ◌%◌, ◌≤◌, max}
 use native.Mathlib.Omega.{arith}
 use Rattle.language.specs.Trees.{Arguments, no_more, ◌also◌, none, ◌⧺◌}
 use Rattle.language.specs.Calls.{argument_count}
 use Rattle.language.specs.Sizes.{items_rows}
 use Rattle.language.specs.Writes.{writes}
 use Rattle.translation.specs.declared.Use.TheVariants.{Wanted as wanted}
-use Rattle.translation.specs.Translate.{together, atom_of, taken, arguments_taken, expression_code, expression_levels, arguments_levels}
-use Rattle.translation.specs.TranslateSize.{copied, expression_size, arguments_size}
+use Rattle.translation.specs.Translate.{together, atom_of, taken, expression_code, expression_levels, arguments_levels}
+use Rattle.translation.specs.TranslateSize.{arguments_size}
 use Rattle.translation.proofs.TranslateRows.{rows_append, rows-expression}
 use Rattle.translation.specs.Holding.{held_by, hold_by}
 use Rattle.translation.proofs.HeldCode.{held-by}

@@ -13,6 +13,7 @@ use super::CallRow;
 use language_shapes::ExpressionShape;
 use language_shapes::rows::expression_at;
 use measures_table::{COPIES, WIDTH};
+use writers_steps::WriteSource;
 
 // Whether the expression at a row is a call.
 pub fn is_call(rows: &[i32], row: usize) -> bool
@@ -49,9 +50,9 @@ pub fn call_at(rows: &[i32], row: usize) -> CallRow
 }
 
 // Which arguments of the call at a row are copied.
-pub fn call_copies(rows: &[i32], table: &[usize], row: usize) -> usize
-    requires { Measured rows.now table.now × (row < row_count rows.now) }
-    ensures { result ≡ call_copies (called_in rows.now) (expression_at rows.now row) }
+pub fn call_copies(source: &WriteSource<'_>, row: usize) -> usize
+    requires { Measured source.now.rows.now source.now.table.now × (row < row_count source.now.rows.now) }
+    ensures { result ≡ call_copies (called_in source.now.rows.now) (expression_at source.now.rows.now row) }
 {
-    table[WIDTH * row + COPIES]
+    source.table[WIDTH * row + COPIES]
 }

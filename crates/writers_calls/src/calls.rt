@@ -8,16 +8,18 @@ ghost use Rattle.language_emission.specs.Emission.{row_of, emit_expression, emit
 ghost use Rattle.measures_table.specs.Parts.{called_in};
 ghost use Rattle.writers_rows.specs.Room.{Room};
 ghost use Rattle.writers_rows.specs.Atoms.{atom_tree, AtomFits};
-ghost use Rattle.writers_steps.specs.Asks.{Writing};
+ghost use Rattle.writers_steps.specs.Asks.{Writes};
 ghost use Rattle.writers_calls.specs.Arguments.{atoms_by};
 ghost use Rattle.writers_calls.specs.Asks.{AtomsAsk, CallAsks};
 
+use super::CallRow;
 use super::arguments::{argument_value, arguments_taken};
 use words::table::number_at;
 use writers_rows::KernelAtom;
 use writers_rows::assignments::put_target;
 use writers_rows::rows::{behind, more, put_atom, put_row};
 use writers_steps::atoms::held_atom;
+use writers_steps::{WritePosition, WriteSource};
 
 // An argument of a kernel call: its row and its atom's.
 fn put_argument(value: KernelAtom, base: usize, follows: bool, out: &mut [i32])
@@ -30,9 +32,7 @@ fn put_argument(value: KernelAtom, base: usize, follows: bool, out: &mut [i32])
 
 // What holds the arguments from a link on, which take `size` rows.
 fn put_atoms(
-    rows: &[i32],
-    table: &[usize],
-    store: usize,
+    source: &WriteSource<'_>,
     argument: usize,
     copies: usize,
     level: usize,
@@ -40,69 +40,52 @@ fn put_atoms(
     base: usize,
     out: &mut [i32],
 )
-    requires { Writing rows.now table.now store × AtomsAsk rows.now argument copies level size base (length out.old) }
-    ensures { out.new ≡ over (emit_arguments (atoms_by (called_in rows.now) store (argument_list_at rows.now argument) copies level) base) out.old }
+    requires { Writes source.now × AtomsAsk source.now.rows.now argument copies level size base (length out.old) }
+    ensures { out.new ≡ over (emit_arguments (atoms_by (called_in source.now.rows.now) source.now.store (argument_list_at source.now.rows.now argument) copies level) base) out.old }
 {
     if size == 0 {
         return;
     }
-    let e = argument_value(rows, argument);
-    let next = number_at(rows, argument, 5);
+    let e = argument_value(source.rows, argument);
+    let next = number_at(source.rows, argument, 5);
     let others = copies / 2;
-    let above = level + arguments_taken(rows, table, next, others);
-    let atom = held_atom(rows, table, store, e, copies % 2, above);
+    let above = level + arguments_taken(source, next, others);
+    let atom = held_atom(source, e, copies % 2, above);
     let rest = size - 2;
     put_argument(atom, base, more(false, rest), out);
-    put_atoms(
-        rows,
-        table,
-        store,
-        next,
-        others,
-        level,
-        rest,
-        base + 2,
-        &mut out[12..],
-    );
+    put_atoms(source, next, others, level, rest, base + 2, &mut out[12..]);
 }
 
-// variable := f(atoms): the call of `size` rows on what holds the arguments from the link `first` on.
+// variable := f(atoms): a call of `size` rows on what holds its arguments.
 pub fn put_call(
-    rows: &[i32],
-    table: &[usize],
-    store: usize,
+    source: &WriteSource<'_>,
     number: usize,
-    function: usize,
-    first: usize,
+    called: CallRow,
     copies: usize,
-    level: usize,
     size: usize,
-    base: usize,
-    follows: bool,
+    at: WritePosition,
     out: &mut [i32],
 )
-    requires { Writing rows.now table.now store × CallAsks rows.now number function first copies level size base (length out.old) }
-    ensures { out.new ≡ over (emit_items follows (express (assign (variable number) (call function (atoms_by (called_in rows.now) store (argument_list_at rows.now first) copies level))) then none) base) out.old }
+    requires { Writes source.now × CallAsks source.now.rows.now number called.function called.first copies at.level size at.base (length out.old) }
+    ensures { out.new ≡ over (emit_items at.follows (express (assign (variable number) (call called.function (atoms_by (called_in source.now.rows.now) source.now.store (argument_list_at source.now.rows.now called.first) copies at.level))) then none) at.base) out.old }
 {
     let rest = size - 4;
-    put_target(2, number, 0, base + 3, size, base, follows, out);
+    put_target(2, number, 0, at.base + 3, size, at.base, at.follows, out);
     put_row(
         31,
-        function,
-        behind(more(false, rest), base + 4),
+        called.function,
+        behind(more(false, rest), at.base + 4),
         0,
         0,
         &mut out[18..],
     );
     put_atoms(
-        rows,
-        table,
-        store,
-        first,
+        source,
+        called.first,
         copies,
-        level,
+        at.level,
         rest,
-        base + 4,
+        at.base + 4,
         &mut out[24..],
     );
 }

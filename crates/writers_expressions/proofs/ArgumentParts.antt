@@ -1,7 +1,7 @@
 -- The arguments of a call in the table: the code of those behind the first, the code of the first, and the copy of its value where it waits. A
 -- record for each place between them has what is known there; the laws below it are what the next part asks, and at last that the three are
 -- the arguments' code.
-use mathlib.Core.Path.{◌≡◌, sym, ap, ◌∙◌}
+use mathlib.Core.Path.{◌≡◌, sym, ap, ◌∙◌, refl}
 use mathlib.Core.Bool.{Bool}
 use mathlib.Core.List.{List}
 use Prim.Native.Nat.{ℕ, ◌+◌, ◌*◌, ◌-◌, ◌/◌, ◌%◌, ◌≤◌, ◌<◌}
@@ -16,8 +16,8 @@ use Rattle.language.specs.Calls.{argument_count}
 use Rattle.language.specs.Decode.{expression_at, argument_list_at, part_at}
 use Rattle.language.specs.DecodeLaws.{part-some}
 use Rattle.translation.specs.declared.Use.TheVariants.{Wanted as wanted}
-use Rattle.translation.specs.Translate.{atom_of, expression_levels, expression_code, operand_code, operand_levels}
-use Rattle.translation.specs.TranslateSize.{expression_size, operand_size}
+use Rattle.translation.specs.Translate.{atom_of, operand_code, operand_levels}
+use Rattle.translation.specs.TranslateSize.{operand_size}
 use Rattle.translation.specs.Holding.{hold_by}
 use Rattle.language_emission.specs.Emission.{emit_items}
 use Rattle.measures_table.specs.Parts.{called_in}
@@ -25,7 +25,7 @@ use Rattle.writers_rows.specs.Room.{Room, more_rows}
 use Rattle.writers_rows.specs.Chain.{part, back_in, Reach, put-length, put-reach, put-room, room-less, Wrote, wrote-put, wrote-next, wrote_as}
 use Rattle.writers_steps.specs.Asks.{Writing}
 use Rattle.writers_steps.specs.AtomLaws.{rows-hold}
-use Rattle.writers_calls.specs.Arguments.{taken_by, size_by, levels_by, code_by}
+use Rattle.writers_calls.specs.Arguments.{size_by, levels_by, code_by}
 use Rattle.writers_calls.specs.ArgumentLaws.{link-inside, passing-count}
 use Rattle.writers_calls.specs.Asks.{Passing, TakenIs}
 use Rattle.writers_calls.specs.CallCode.{rows_code}
@@ -38,6 +38,10 @@ use Rattle.writers_expressions.specs.CodeLaws.{rows-operand}
 pub record ArgumentsAsked (S : ℕ) (rows : List ℤ) (table : List ℕ) (argument count copies level size base : ℕ) (out : List ℤ) : Type 0 where
   pub writing : Writing rows table S
   pub asks : ArgumentsAsk rows argument count copies level size base (length out)
+
+pub arguments-asked : {S : ℕ} {rows : List ℤ} {table : List ℕ} {argument count copies level size base : ℕ} (out : List ℤ) → Writing rows table S × ArgumentsAsk rows argument count copies level size base (length out)
+    → ArgumentsAsked S rows table argument count copies level size base out
+arguments-asked out asked = record { writing = asked.0; asks = asked.1 }
 
 -- the first one's rows are among theirs
 pub value-small : {S : ℕ} {rows : List ℤ} {table : List ℕ} {argument count copies level size base e : ℕ} {out : List ℤ} → ArgumentsAsked S rows table argument count copies level size base out → Passing rows argument e
@@ -55,6 +59,10 @@ pub record ArgumentFound (S : ℕ) (rows : List ℤ) (table : List ℕ) (argumen
   pub next_is : next ≡ number_at rows argument 5
   pub taken_is : TakenIs rows next (copies / 2) taken
   pub own_is : own ≡ operand_size (called_in rows) (part_at rows e) wanted
+
+pub argument-found : {S : ℕ} {rows : List ℤ} {table : List ℕ} {argument count copies level size base : ℕ} {out : List ℤ} {e next taken own : ℕ} → ArgumentsAsked S rows table argument count copies level size base out → Passing rows argument e → next ≡ number_at rows argument 5
+    → TakenIs rows next (copies / 2) taken → own ≡ operand_size (called_in rows) (part_at rows e) wanted → ArgumentFound S rows table argument count copies level size base out e next taken own
+argument-found asked at next taken own = record { asked = asked; at = at; next_is = next; taken_is = taken; own_is = own }
 
 module _ {S : ℕ} {rows : List ℤ} {table : List ℕ} {argument count copies level size base : ℕ} {out : List ℤ} {e next taken own : ℕ}
     (found : ArgumentFound S rows table argument count copies level size base out e next taken own) where
@@ -121,6 +129,11 @@ pub record BehindWritten (S : ℕ) (rows : List ℤ) (table : List ℕ) (argumen
   pub rest_is : rest ≡ size - (own + 4 * (copies % 2))
   pub table_is : restTable ≡ over (emit_items more (code_by (called_in rows) S (argument_list_at rows next) (copies / 2) level) base) out
 
+pub behind-written : {S : ℕ} {rows : List ℤ} {table : List ℕ} {argument count copies level size base : ℕ} {out : List ℤ} {e next taken own : ℕ} (more : Bool) {restTable : List ℤ} → ArgumentFound S rows table argument count copies level size base out e next taken own
+    → restTable ≡ over (emit_items more (code_by (called_in rows) S (argument_list_at rows next) (copies / 2) level) base) out
+    → BehindWritten S rows table argument count copies level size base out e next taken own (size - (own + 4 * (copies % 2))) more restTable
+behind-written more found e = record { found = found; rest_is = refl; table_is = e }
+
 module _ {S : ℕ} {rows : List ℤ} {table : List ℕ} {argument count copies level size base : ℕ} {out : List ℤ} {e next taken own rest : ℕ} {more : Bool} {restTable : List ℤ}
     (written : BehindWritten S rows table argument count copies level size base out e next taken own rest more restTable) where
   rest-wrote : Wrote more (code_by (called_in rows) S (argument_list_at rows next) (copies / 2) level) base rest out restTable
@@ -143,6 +156,12 @@ pub record ValueWritten (S : ℕ) (rows : List ℤ) (table : List ℕ) (argument
   pub behind : BehindWritten S rows table argument count copies level size base out e next taken own rest more restTable
   pub more_is : more ≡ more_rows held own
   pub table_is : value_words ≡ over (emit_items held (operand_code (called_in rows) S (part_at rows e) wanted (level + taken)) (base + rest)) (part rest restTable)
+
+pub value-written : {S : ℕ} {rows : List ℤ} {table : List ℕ} {argument count copies level size base : ℕ} {out : List ℤ} {e next taken own rest : ℕ} {more : Bool} {restTable : List ℤ} (held : Bool) {value_words : List ℤ}
+    → BehindWritten S rows table argument count copies level size base out e next taken own rest more restTable → more ≡ more_rows held own
+    → value_words ≡ over (emit_items held (operand_code (called_in rows) S (part_at rows e) wanted (level + taken)) (base + rest)) (part rest restTable)
+    → ValueWritten S rows table argument count copies level size base out e next taken own rest more restTable held value_words
+value-written held behind more e = record { behind = behind; more_is = more; table_is = e }
 
 module _ {S : ℕ} {rows : List ℤ} {table : List ℕ} {argument count copies level size base : ℕ} {out : List ℤ} {e next taken own rest : ℕ} {more : Bool} {restTable : List ℤ} {held : Bool} {value_words : List ℤ}
     (written : ValueWritten S rows table argument count copies level size base out e next taken own rest more restTable held value_words) where

@@ -1,6 +1,6 @@
 -- The parts of a branch in the table: its block's row, its expression's code, its end. A record for each place between them has what is
 -- known there; the laws below it are what the next part asks, and at last that the three are the block.
-use mathlib.Core.Path.{◌≡◌, refl, sym, ◌∙◌}
+use mathlib.Core.Path.{◌≡◌, refl, sym, ◌∙◌, ap}
 use mathlib.Core.Bool.{Bool, false}
 use mathlib.Core.List.{List, ◌++◌}
 use Prim.Native.Nat.{ℕ, ◌+◌, ◌≤◌}
@@ -31,6 +31,10 @@ pub record BranchAsked (S : ℕ) (rows : List ℤ) (table : List ℕ) (branch : 
   pub fits : BranchFits rows branch level
   pub room : Room (branch_size rows branch) base (length out)
 
+pub branch-asked : {S : ℕ} {rows : List ℤ} {table : List ℕ} {branch : Branch} {level base : ℕ} (out : List ℤ) → Writing rows table S × BranchFits rows branch level × Room (branch_size rows branch) base (length out)
+    → BranchAsked S rows table branch level base out
+branch-asked out asked = record { writing = asked.0; fits = asked.1; room = asked.2 }
+
 module _ {S : ℕ} {rows : List ℤ} {table : List ℕ} {branch : Branch} {level base : ℕ} {out : List ℤ} (asked : BranchAsked S rows table branch level base out) where
   pub code-small : operand_size (called_in rows) (part_at rows branch.row) wanted ≤ 40980
   code-small = omega (arith, asked.room.low)
@@ -40,6 +44,9 @@ module _ {S : ℕ} {rows : List ℤ} {table : List ℕ} {branch : Branch} {level
   pub record BranchSizes (codeRows endRows : ℕ) : Type 0 where
     pub code_is : codeRows ≡ operand_size (called_in rows) (part_at rows branch.row) wanted
     pub end_is : endRows ≡ finish_size branch.end
+
+  pub branch-sizes : {codeRows endRows : ℕ} → codeRows ≡ operand_size (called_in rows) (part_at rows branch.row) wanted → endRows ≡ finish_size branch.end → BranchSizes codeRows endRows
+  branch-sizes code end = record { code_is = code; end_is = end }
 
 module _ {S : ℕ} {rows : List ℤ} {table : List ℕ} {branch : Branch} {level base : ℕ} {out : List ℤ} {asked : BranchAsked S rows table branch level base out}
     {codeRows endRows : ℕ} (sizes : BranchSizes asked codeRows endRows) where
@@ -54,6 +61,9 @@ module _ {S : ℕ} {rows : List ℤ} {table : List ℕ} {branch : Branch} {level
   pub record BlockRow (first : ℕ) (headed : List ℤ) : Type 0 where
     pub first_is : first ≡ pick (more_rows false (codeRows + endRows)) (base + 1) 0
     pub table_is : headed ≡ over (row_of 42 (pos first) 0 0 0 0) out
+
+  pub block-row : {more : Bool} {first : ℕ} {headed : List ℤ} → more ≡ more_rows false (codeRows + endRows) → first ≡ pick more (base + 1) 0 → headed ≡ over (row_of 42 (pos first) 0 0 0 0) out → BlockRow first headed
+  block-row more first e = record { first_is = first ∙ ap (λ (f : Bool). pick f (base + 1) 0) more; table_is = e }
 
 module _ {S : ℕ} {rows : List ℤ} {table : List ℕ} {branch : Branch} {level base : ℕ} {out : List ℤ} {asked : BranchAsked S rows table branch level base out}
     {codeRows endRows : ℕ} {sizes : BranchSizes asked codeRows endRows} {first : ℕ} {headed : List ℤ} (row : BlockRow sizes first headed) where
@@ -76,6 +86,10 @@ module _ {S : ℕ} {rows : List ℤ} {table : List ℕ} {branch : Branch} {level
   pub record BranchCode (more : Bool) (code : List ℤ) : Type 0 where
     pub more_is : more ≡ more_rows false endRows
     pub table_is : code ≡ over (emit_items more (operand_code (called_in rows) S (part_at rows branch.row) wanted level) (base + 1)) (part 1 headed)
+
+  pub code-written : (more : Bool) {code : List ℤ} → more ≡ more_rows false endRows
+      → code ≡ over (emit_items more (operand_code (called_in rows) S (part_at rows branch.row) wanted level) (base + 1)) (part 1 headed) → BranchCode more code
+  code-written more is e = record { more_is = is; table_is = e }
 
 module _ {S : ℕ} {rows : List ℤ} {table : List ℕ} {branch : Branch} {level base : ℕ} {out : List ℤ} {asked : BranchAsked S rows table branch level base out}
     {codeRows endRows : ℕ} {sizes : BranchSizes asked codeRows endRows} {first : ℕ} {headed : List ℤ} {row : BlockRow sizes first headed}

@@ -1,6 +1,6 @@
 -- A call in the table: its arguments' code, and the call on what holds them. A record for each place between them has what is known there; the
 -- laws below it are what the next part asks, and at last that the two are the call's code.
-use mathlib.Core.Path.{◌≡◌, refl, sym, ap, ap₂, ◌∙◌}
+use mathlib.Core.Path.{◌≡◌, sym, ap, ◌∙◌}
 use mathlib.Core.Bool.{Bool, true}
 use mathlib.Core.List.{List}
 use Prim.Native.Nat.{ℕ, ◌+◌, ◌*◌, ◌-◌, ◌≤◌, ◌<◌}
@@ -10,22 +10,20 @@ use lib.ListN.{length}
 use Rattle.words.specs.Table.{row_count}
 use Rattle.words.specs.Over.{over}
 use Rattle.language.specs.Trees.{Expression, assign, call, variable, Arguments, express, Items, none, ◌then◌, ◌⧺◌}
-use Rattle.language.specs.Calls.{argument_count}
 use Rattle.language.specs.Decode.{expression_at, argument_list_at, part_at}
 use Rattle.language.specs.DecodeLaws.{part-some}
 use Rattle.language.specs.Sizes.{items_rows}
 use Rattle.translation.specs.declared.Use.{Use}
-use Rattle.translation.specs.Translate.{nothing, assigning, target, target_word, expression_levels, arguments_levels, expression_code, arguments_code, argument_atoms}
-use Rattle.translation.specs.TranslateSize.{expression_size, arguments_size, operand_size}
+use Rattle.translation.specs.Translate.{nothing, target, expression_levels, expression_code}
+use Rattle.translation.specs.TranslateSize.{expression_size, operand_size}
 use Rattle.translation.proofs.TranslateRows.{rows_append, rows-expression}
 use Rattle.language_emission.specs.Emission.{emit_items}
 use Rattle.language_shapes.specs.CallLaws.{call-behind}
 use Rattle.measures_table.specs.Arguments.{argument_copies, call_copies}
 use Rattle.measures_table.specs.Parts.{called_in}
-use Rattle.writers_rows.specs.Room.{Room, more_rows}
 use Rattle.writers_rows.specs.Chain.{part, back_in, Reach, put-length, put-reach, put-room, room-less, more-some, Wrote, wrote-put, wrote-next, wrote_as}
 use Rattle.writers_steps.specs.Asks.{Writing, TargetIs}
-use Rattle.writers_calls.specs.Arguments.{taken_by, size_by, levels_by, atoms_by, code_by}
+use Rattle.writers_calls.specs.Arguments.{size_by, levels_by, atoms_by, code_by}
 use Rattle.writers_calls.specs.ArgumentLaws.{link-inside, atoms-by, code-by}
 use Rattle.writers_calls.specs.Asks.{CallAt, CountIs, CallAsks}
 use Rattle.writers_calls.specs.CallCode.{size-by, levels-by, taken-levels, rows_code}
@@ -38,6 +36,9 @@ use Rattle.writers_expressions.specs.Asks.{CalledAsks, ArgumentsAsk}
 pub record CallAsked (S : ℕ) (rows : List ℤ) (table : List ℕ) (row : ℕ) (u : Use) (level base : ℕ) (out : List ℤ) : Type 0 where
   pub writing : Writing rows table S
   pub asks : CalledAsks rows row u level base (length out)
+
+pub call-asked : {S : ℕ} {rows : List ℤ} {table : List ℕ} {row : ℕ} {u : Use} {level base : ℕ} (out : List ℤ) → Writing rows table S × CalledAsks rows row u level base (length out) → CallAsked S rows table row u level base out
+call-asked out asked = record { writing = asked.0; asks = asked.1 }
 
 module _ {S : ℕ} {rows : List ℤ} {table : List ℕ} {row : ℕ} {u : Use} {level base : ℕ} {out : List ℤ} (asked : CallAsked S rows table row u level base out) where
   pub call-small : operand_size (called_in rows) (part_at rows row) u ≤ 40980
@@ -54,6 +55,9 @@ module _ {S : ℕ} {rows : List ℤ} {table : List ℕ} {row : ℕ} {u : Use} {l
     pub copies_are : copies ≡ call_copies (called_in rows) (expression_at rows row)
     pub counted : CountIs rows r.first count
     pub target_is : TargetIs S u level number
+
+  pub call-found : {r : CallRow} {copies count number : ℕ} → CallAt rows row r → copies ≡ call_copies (called_in rows) (expression_at rows row) → CountIs rows r.first count → TargetIs S u level number → CallFound r copies count number
+  call-found at copies counted target = record { at = at; copies_are = copies; counted = counted; target_is = target }
 
 module _ {S : ℕ} {rows : List ℤ} {table : List ℕ} {row : ℕ} {u : Use} {level base : ℕ} {out : List ℤ} {asked : CallAsked S rows table row u level base out}
     {r : CallRow} {copies count number : ℕ} (found : CallFound asked r copies count number) where
@@ -118,6 +122,10 @@ module _ {S : ℕ} {rows : List ℤ} {table : List ℕ} {row : ℕ} {u : Use} {l
   pub record ArgumentsWritten (n : ℕ) (argumentsTable : List ℤ) : Type 0 where
     pub rows_are : n + (4 + 2 * count) ≡ operand_size called (part_at rows row) u
     pub table_is : argumentsTable ≡ over (emit_items true (code_by called S arguments copies level) base) out
+
+  pub passed-written : {all : ℕ} {argumentsTable : List ℤ} → all ≡ operand_size called (part_at rows row) u → argumentsTable ≡ over (emit_items true (code_by called S arguments copies level) base) out
+      → ArgumentsWritten (all - (4 + 2 * count)) argumentsTable
+  passed-written size e = record { rows_are = omega (arith, size, own-within); table_is = e }
 
 module _ {S : ℕ} {rows : List ℤ} {table : List ℕ} {row : ℕ} {u : Use} {level base : ℕ} {out : List ℤ} {asked : CallAsked S rows table row u level base out}
     {r : CallRow} {copies count number : ℕ} {found : CallFound asked r copies count number} {n : ℕ} {argumentsTable : List ℤ} (written : ArgumentsWritten found n argumentsTable) where

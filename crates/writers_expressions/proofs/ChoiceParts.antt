@@ -51,6 +51,10 @@ pub record ChoiceAsked (S : ℕ) (rows : List ℤ) (table : List ℕ) (test : Ke
   pub false_fits : BranchFits rows on_false level
   pub room : Room (2 + branch_size rows on_true + branch_size rows on_false) base (length out)
 
+pub choice-asked : {S : ℕ} {rows : List ℤ} {table : List ℕ} (test : KernelAtom) {on_true on_false : Branch} {level base : ℕ} (out : List ℤ) → Writing rows table S × AtomFits test × BranchFits rows on_true level × BranchFits rows on_false level
+    → Room (2 + branch_size rows on_true + branch_size rows on_false) base (length out) → ChoiceAsked S rows table test on_true on_false level base out
+choice-asked test out fits room = record { writing = fits.0; test_fits = fits.1; true_fits = fits.2; false_fits = fits.3; room = room }
+
 module _ {S : ℕ} {rows : List ℤ} {table : List ℕ} {test : KernelAtom} {on_true on_false : Branch} {level base : ℕ} {out : List ℤ}
     (asked : ChoiceAsked S rows table test on_true on_false level base out) where
   pub true-small : branch_size rows on_true ≤ 40978
@@ -65,6 +69,9 @@ module _ {S : ℕ} {rows : List ℤ} {table : List ℕ} {test : KernelAtom} {on_
     pub true-is : trueRows ≡ branch_size rows on_true
     pub false-is : falseRows ≡ branch_size rows on_false
 
+  pub choice-sizes : {trueRows falseRows : ℕ} → trueRows ≡ branch_size rows on_true → falseRows ≡ branch_size rows on_false → ChoiceSizes trueRows falseRows
+  choice-sizes true_rows false_rows = record { true-is = true_rows; false-is = false_rows }
+
 module _ {S : ℕ} {rows : List ℤ} {table : List ℕ} {test : KernelAtom} {on_true on_false : Branch} {level base : ℕ} {out : List ℤ}
     {asked : ChoiceAsked S rows table test on_true on_false level base out} {trueRows falseRows : ℕ} (sizes : ChoiceSizes asked trueRows falseRows) where
   pub choice-room : Room (2 + trueRows + falseRows) base (length out)
@@ -78,6 +85,9 @@ module _ {S : ℕ} {rows : List ℤ} {table : List ℕ} {test : KernelAtom} {on_
   pub record IfRows (follows : Bool) (next : ℕ) (headed : List ℤ) : Type 0 where
     pub next_is : next ≡ pick follows (base + (2 + trueRows + falseRows)) 0
     pub table_is : headed ≡ over (if_words test base (base + (2 + trueRows)) next) out
+
+  pub if-rows : (follows : Bool) {next : ℕ} {headed : List ℤ} → next ≡ pick follows (base + (2 + trueRows + falseRows)) 0 → headed ≡ over (if_words test base (base + (2 + trueRows)) next) out → IfRows follows next headed
+  if-rows follows next e = record { next_is = next; table_is = e }
 
 module _ {S : ℕ} {rows : List ℤ} {table : List ℕ} {test : KernelAtom} {on_true on_false : Branch} {level base : ℕ} {out : List ℤ}
     {asked : ChoiceAsked S rows table test on_true on_false level base out} {trueRows falseRows : ℕ} {sizes : ChoiceSizes asked trueRows falseRows}
@@ -95,6 +105,9 @@ module _ {S : ℕ} {rows : List ℤ} {table : List ℕ} {test : KernelAtom} {on_
 
   pub record TrueBranch (first : List ℤ) : Type 0 where
     pub table_is : first ≡ over (branch_words S rows on_true level (base + 2)) (part 2 headed)
+
+  pub true-branch : {first : List ℤ} → first ≡ over (branch_words S rows on_true level (base + 2)) (part 2 headed) → TrueBranch first
+  true-branch e = record { table_is = e }
 
 module _ {S : ℕ} {rows : List ℤ} {table : List ℕ} {test : KernelAtom} {on_true on_false : Branch} {level base : ℕ} {out : List ℤ}
     {asked : ChoiceAsked S rows table test on_true on_false level base out} {trueRows falseRows : ℕ} {sizes : ChoiceSizes asked trueRows falseRows}

@@ -1,4 +1,5 @@
 -- What an expression's code ends with, by its shape: a choice between two branches for and, or and a conditional.
+use Rattle.std.specs.Prelude.{None, Option, Some}
 use mathlib.Core.Path.{◌≡◌, refl, sym, ap, ap₂, subst, ◌∙◌}
 use mathlib.Core.List.{List}
 use Prim.Native.Nat.{ℕ, ◌+◌, ◌≤◌, ◌<◌}
@@ -31,14 +32,12 @@ use Rattle.writers_expressions.specs.Asks.{end_of, finish_size, branch_size, Bra
 use Rattle.writers_expressions.specs.declared.End.{End}
 use Rattle.writers_expressions.specs.declared.End.TheVariants.{Truth, Copy, Stays}
 use Rattle.writers_expressions.specs.declared.Branch.{Branch}
-use Rattle.writers_expressions.specs.declared.Choice.{Choice}
-use Rattle.writers_expressions.specs.declared.Choice.TheVariants.{Choose, Straight}
 
 -- ---- what a choice tells
 
 -- A choice that was found to be another.
-pub chosen : {S : ℕ} {rows : List ℤ} {row level : ℕ} {choice other : Choice} → ChoiceAt S rows row level choice → choice ≡ other → ChoiceAt S rows row level other
-chosen {S} {rows} {row} {level} at e = subst (λ (c : Choice). ChoiceAt S rows row level c) e at
+pub chosen : {S : ℕ} {rows : List ℤ} {row level : ℕ} {choice other : (Option (KernelAtom × Branch × Branch))} → ChoiceAt S rows row level choice → choice ≡ other → ChoiceAt S rows row level other
+chosen {S} {rows} {row} {level} at e = subst (λ (c : Option (KernelAtom × Branch × Branch)). ChoiceAt S rows row level c) e at
 
 -- The test and the branches that are chosen between.
 pub record BranchesFit (rows : List ℤ) (row level : ℕ) (test : KernelAtom) (on_true on_false : Branch) : Type 0 where
@@ -50,7 +49,7 @@ pub record BranchesFit (rows : List ℤ) (row level : ℕ) (test : KernelAtom) (
   pub rows_are : (u : Use) → last_size (called_in rows) (expression_at rows row) u ≡ 2 + branch_size rows on_true + branch_size rows on_false
 
 -- Levels that the whole has room for, at a level.
-pub branches-fit : {S : ℕ} {rows : List ℤ} {row level : ℕ} {test : KernelAtom} {on_true on_false : Branch} (u : Use) → ChoiceAt S rows row level (Choose test on_true on_false)
+pub branches-fit : {S : ℕ} {rows : List ℤ} {row level : ℕ} {test : KernelAtom} {on_true on_false : Branch} (u : Use) → ChoiceAt S rows row level (Some (test, on_true, on_false))
     → level + expression_levels (called_in rows) (expression_at rows row) u ≤ 2048 → BranchesFit rows row level test on_true on_false
 branches-fit u at low = record {
   test_fits = at.fits.0;
@@ -82,7 +81,7 @@ pub record RowAsked (S : ℕ) (rows : List ℤ) (table : List ℕ) (row level : 
   pub level_low : level ≤ 2048
 
 module _ (S : ℕ) (rows : List ℤ) (row level : ℕ) where
-  pub straight : {s : ExpressionShape} → ExpressionAt rows row s → ((u : Use) → last_code (called_in rows) S (expression_tree rows s) u level ≡ straight_code (called_in rows) S (expression_tree rows s) u level) → ChoiceAt S rows row level Straight
+  pub straight : {s : ExpressionShape} → ExpressionAt rows row s → ((u : Use) → last_code (called_in rows) S (expression_tree rows s) u level ≡ straight_code (called_in rows) S (expression_tree rows s) u level) → ChoiceAt S rows row level None
   straight {s} f h = record { is = λ u. ap (λ (e : Expression). last_code (called_in rows) S e u level) f.is ∙ h u ∙ sym (ap (λ (e : Expression). straight_code (called_in rows) S e u level) f.is); fits = tt }
 
   operation-code : (o : OperationShape) (u : Use) → last_code (called_in rows) S (operation_tree rows o) u level ≡ straight_code (called_in rows) S (operation_tree rows o) u level
@@ -95,7 +94,7 @@ module _ (S : ℕ) (rows : List ℤ) (row level : ℕ) where
   operation-code (Prefix operator p) u = refl
   operation-code (Postfix operator p) u = refl
 
-  pub straight-operation : {o : OperationShape} → ExpressionAt rows row (Operation o) → ChoiceAt S rows row level Straight
+  pub straight-operation : {o : OperationShape} → ExpressionAt rows row (Operation o) → ChoiceAt S rows row level None
   straight-operation {o} f = straight f (operation-code o)
 
   abbrev branch : ℕ → End → KernelAtom → Branch
@@ -164,7 +163,7 @@ module _ (S : ℕ) (rows : List ℤ) (row level : ℕ) where
     if-of test on_true on_false = choosing S test on_true on_false none
 
     pub and-choice : {a b : ℕ} {test x : KernelAtom} {no : Branch} → ExpressionAt rows row (expression.Choice (And a b)) → AtomAt S rows a level test → AtomAt S rows b level x → no ≡ number_branch (pos 0)
-        → ChoiceAt S rows row level (Choose test (branch b Truth x) no)
+        → ChoiceAt S rows row level (Some (test, (branch b Truth x), no))
     unfolding expression_levels
     and-choice {a} {b} {test} {x} {no} f t y n = rw n (record {
       is = λ u. as-last _ f u (sym (ap₃ if-of t.is (truth-code b x (omega (arith, f.onward.1.later)) y) (number-code (pos 0))));
@@ -181,7 +180,7 @@ module _ (S : ℕ) (rows : List ℤ) (row level : ℕ) where
     })
 
     pub or-choice : {a b : ℕ} {test x : KernelAtom} {on_true : Branch} → ExpressionAt rows row (expression.Choice (Or a b)) → AtomAt S rows a level test → AtomAt S rows b level x → on_true ≡ number_branch (pos 1)
-        → ChoiceAt S rows row level (Choose test on_true (branch b Truth x))
+        → ChoiceAt S rows row level (Some (test, on_true, (branch b Truth x)))
     unfolding expression_levels
     or-choice {a} {b} {test} {x} {on_true} f t y n = rw n (record {
       is = λ u. as-last _ f u (sym (ap₃ if-of t.is (number-code (pos 1)) (truth-code b x (omega (arith, f.onward.1.later)) y)));
@@ -199,7 +198,7 @@ module _ (S : ℕ) (rows : List ℤ) (row level : ℕ) where
 
     pub conditional-choice : {c a b : ℕ} {test x y : KernelAtom} {yesEnd noEnd : End} → ExpressionAt rows row (expression.Choice (Conditional c a b)) → AtomAt S rows c level test
         → yesEnd ≡ end_of (atom_of (called_in rows) (expression_at rows a)) → AtomAt S rows a level x → noEnd ≡ end_of (atom_of (called_in rows) (expression_at rows b)) → AtomAt S rows b level y
-        → ChoiceAt S rows row level (Choose test (branch a yesEnd x) (branch b noEnd y))
+        → ChoiceAt S rows row level (Some (test, (branch a yesEnd x), (branch b noEnd y)))
     unfolding expression_levels
     conditional-choice {c} {a} {b} {test} {x} {y} f t ea p eb q = rw (ea, eb) (record {
       is = λ u. as-last _ f u (sym (ap₃ if-of t.is (value-code a x (omega (arith, f.onward.1.later)) p) (value-code b y (omega (arith, f.onward.2.later)) q)));

@@ -45,6 +45,9 @@ pub record ExpressionAsked (S : ℕ) (rows : List ℤ) (table : List ℕ) (row :
   pub writing : Writing rows table S
   pub asks : OperandAsks rows row u level base (length out)
 
+pub expression-asked : {S : ℕ} {rows : List ℤ} {table : List ℕ} {row : ℕ} {u : Use} {level base : ℕ} (out : List ℤ) → Writing rows table S × OperandAsks rows row u level base (length out) → ExpressionAsked S rows table row u level base out
+expression-asked out asked = record { writing = asked.0; asks = asked.1 }
+
 module _ {S : ℕ} {rows : List ℤ} {table : List ℕ} {row : ℕ} {u : Use} {level base : ℕ} {out : List ℤ} (asked : ExpressionAsked S rows table row u level base out) where
   pub source : Source rows
   source = asked.writing.measured.source
@@ -76,6 +79,10 @@ module _ {S : ℕ} {rows : List ℤ} {table : List ℕ} {row : ℕ} {u : Use} {l
     pub copied_is : copied ≡ first_copied (called_in rows) (expression_at rows row)
     pub at : OwnAt rows row operands
     pub passed : v ≡ use_passed operands.passes u
+
+  pub operands-found : {called : Bool} {copied : ℕ} {operands : Own} {v : Use} → (row ≡ 0 → ⊥) → called ≡ is_call (expression_at rows row) → called ≡ false → copied ≡ first_copied (called_in rows) (expression_at rows row)
+      → OwnAt rows row operands → v ≡ use_passed operands.passes u → OperandsFound copied operands v
+  operands-found some called no_call copied at passed = record { some = omega (arith, some); no_call = sym called ∙ no_call; copied_is = copied; at = at; passed = passed }
 
 module _ {S : ℕ} {rows : List ℤ} {table : List ℕ} {row : ℕ} {u : Use} {level base : ℕ} {out : List ℤ} {asked : ExpressionAsked S rows table row u level base out}
     {copied : ℕ} {operands : Own} {v : Use} (found : OperandsFound asked copied operands v) where
@@ -146,6 +153,10 @@ module _ {S : ℕ} {rows : List ℤ} {table : List ℕ} {row : ℕ} {u : Use} {l
     pub second_is : secondRows ≡ operand_size (called_in rows) (part_at rows operands.second) v
     pub all-is : all_rows ≡ operand_size (called_in rows) (part_at rows row) u
 
+  pub expression-sizes : {firstRows secondRows all_rows : ℕ} → firstRows ≡ operand_size (called_in rows) (part_at rows operands.first) operands.first_use → secondRows ≡ operand_size (called_in rows) (part_at rows operands.second) v
+      → all_rows ≡ operand_size (called_in rows) (part_at rows row) u → ExpressionSizes operands.above firstRows secondRows all_rows
+  expression-sizes first second all = record { above-is = found.at.above-is; first_is = first; second_is = second; all-is = all }
+
 module _ {S : ℕ} {rows : List ℤ} {table : List ℕ} {row : ℕ} {u : Use} {level base : ℕ} {out : List ℤ} {asked : ExpressionAsked S rows table row u level base out}
     {copied : ℕ} {operands : Own} {v : Use} {found : OperandsFound asked copied operands v} {above firstRows secondRows all_rows : ℕ}
     (sizes : ExpressionSizes found above firstRows secondRows all_rows) where
@@ -174,6 +185,9 @@ module _ {S : ℕ} {rows : List ℤ} {table : List ℕ} {row : ℕ} {u : Use} {l
   pub record FirstOperand (more : Bool) (firstTable : List ℤ) : Type 0 where
     pub table_is : firstTable ≡ over (emit_items more (operand_code (called_in rows) S (part_at rows operands.first) operands.first_use level) base) out
 
+  pub first-written : (more : Bool) {firstTable : List ℤ} → firstTable ≡ over (emit_items more (operand_code (called_in rows) S (part_at rows operands.first) operands.first_use level) base) out → FirstOperand more firstTable
+  first-written more e = record { table_is = e }
+
 module _ {S : ℕ} {rows : List ℤ} {table : List ℕ} {row : ℕ} {u : Use} {level base : ℕ} {out : List ℤ} {asked : ExpressionAsked S rows table row u level base out}
     {copied : ℕ} {operands : Own} {v : Use} {found : OperandsFound asked copied operands v} {above firstRows secondRows all_rows : ℕ}
     {sizes : ExpressionSizes found above firstRows secondRows all_rows} {more : Bool} {firstTable : List ℤ} (written : FirstOperand sizes more firstTable) where
@@ -191,6 +205,10 @@ module _ {S : ℕ} {rows : List ℤ} {table : List ℕ} {row : ℕ} {u : Use} {l
   pub record HeldFirst (held : Bool) (holdWords : List ℤ) : Type 0 where
     pub more_is : more ≡ more_rows held (4 * copied)
     pub table_is : holdWords ≡ over (emit_items held (hold_by S level copied (atom_of (called_in rows) (expression_at rows operands.first))) (base + firstRows)) (part firstRows firstTable)
+
+  pub held-written : (held : Bool) {holdWords : List ℤ} → more ≡ more_rows held (4 * copied)
+      → holdWords ≡ over (emit_items held (hold_by S level copied (atom_of (called_in rows) (expression_at rows operands.first))) (base + firstRows)) (part firstRows firstTable) → HeldFirst held holdWords
+  held-written held more e = record { more_is = more; table_is = e }
 
 module _ {S : ℕ} {rows : List ℤ} {table : List ℕ} {row : ℕ} {u : Use} {level base : ℕ} {out : List ℤ} {asked : ExpressionAsked S rows table row u level base out}
     {copied : ℕ} {operands : Own} {v : Use} {found : OperandsFound asked copied operands v} {above firstRows secondRows all_rows : ℕ}
@@ -220,6 +238,11 @@ module _ {S : ℕ} {rows : List ℤ} {table : List ℕ} {row : ℕ} {u : Use} {l
     pub more_is : held ≡ more_rows then secondRows
     pub table_is : secondWords
         ≡ over (emit_items then (operand_code (called_in rows) S (part_at rows operands.second) v (level + above)) (base + (firstRows + 4 * copied))) (part (firstRows + 4 * copied) (back_in firstRows firstTable holdWords))
+
+  pub second-written : (then : Bool) {secondWords : List ℤ} → held ≡ more_rows then secondRows
+      → secondWords ≡ over (emit_items then (operand_code (called_in rows) S (part_at rows operands.second) v (level + above)) (base + (firstRows + 4 * copied))) (part (firstRows + 4 * copied) (back_in firstRows firstTable holdWords))
+      → SecondOperand then secondWords
+  second-written then held e = record { more_is = held; table_is = e }
 
 module _ {S : ℕ} {rows : List ℤ} {table : List ℕ} {row : ℕ} {u : Use} {level base : ℕ} {out : List ℤ} {asked : ExpressionAsked S rows table row u level base out}
     {copied : ℕ} {operands : Own} {v : Use} {found : OperandsFound asked copied operands v} {above firstRows secondRows all_rows : ℕ}
@@ -255,6 +278,10 @@ module _ {S : ℕ} {rows : List ℤ} {table : List ℕ} {row : ℕ} {u : Use} {l
   pub record LastPart (follows : Bool) (lastWords : List ℤ) : Type 0 where
     pub more_is : then ≡ more_rows follows (all_rows - behind)
     pub table_is : lastWords ≡ over (emit_items follows (last_code (called_in rows) S (expression_at rows row) u level) (base + behind)) (part behind operands_table)
+
+  pub last-written : (follows : Bool) {lastWords : List ℤ} → then ≡ more_rows follows (all_rows - behind)
+      → lastWords ≡ over (emit_items follows (last_code (called_in rows) S (expression_at rows row) u level) (base + behind)) (part behind operands_table) → LastPart follows lastWords
+  last-written follows then e = record { more_is = then; table_is = e }
 
 module _ {S : ℕ} {rows : List ℤ} {table : List ℕ} {row : ℕ} {u : Use} {level base : ℕ} {out : List ℤ} {asked : ExpressionAsked S rows table row u level base out}
     {copied : ℕ} {operands : Own} {v : Use} {found : OperandsFound asked copied operands v} {above firstRows secondRows all_rows : ℕ}

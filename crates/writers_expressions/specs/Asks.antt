@@ -1,5 +1,6 @@
 -- Asks: what the writers of expressions ask of their caller.
-use Rattle.std.specs.Prelude.{◌≡◌, true, false, List, ℕ, ◌+◌, ◌≤◌, ◌<◌, ℤ}
+use Rattle.std.specs.Prelude.{◌≡◌, true, false, List, ℕ, ◌+◌, ◌≤◌, ◌<◌, ℤ, None, Option, Some}
+use Rattle.writers_rows.specs.declared.KernelAtom.{KernelAtom}
 use Rattle.words.specs.Table.{row_count}
 use Rattle.language.specs.Calls.{argument_count}
 use Rattle.language.specs.Decode.{expression_at, argument_list_at, part_at}
@@ -18,8 +19,6 @@ use Rattle.writers_expressions.specs.Code.{last_code, chosen_code}
 use Rattle.writers_expressions.specs.declared.End.{End}
 use Rattle.writers_expressions.specs.declared.End.TheVariants.{Truth, Copy, Stays}
 use Rattle.writers_expressions.specs.declared.Branch.{Branch}
-use Rattle.writers_expressions.specs.declared.Choice.{Choice}
-use Rattle.writers_expressions.specs.declared.Choice.TheVariants.{Choose, Straight}
 
 -- An expression at a link, at a level, for a use of its value.
 pub record OperandAsks (rows : List ℤ) (row : ℕ) (u : Use) (level base words : ℕ) : Type 0 where
@@ -78,16 +77,16 @@ pub record BranchFits (rows : List ℤ) (branch : Branch) (level : ℕ) : Type 0
   pub atom_fits : AtomFits branch.atom
 
 -- The choice of a row. A branch's row is absent or later, and its levels are among those of the whole.
-abbrev pub ChoiceFits : List ℤ → ℕ → Choice → Type 0
-ChoiceFits rows row (Choose test on_true on_false) =
+abbrev pub ChoiceFits : List ℤ → ℕ → Option (KernelAtom × Branch × Branch) → Type 0
+ChoiceFits rows row (Some (test, on_true, on_false)) =
     AtomFits test × BranchInside rows on_true × BranchInside rows on_false
     × (0 < on_true.row → row < on_true.row) × (0 < on_false.row → row < on_false.row)
     × ((u : Use) → last_size (called_in rows) (expression_at rows row) u ≡ 2 + branch_size rows on_true + branch_size rows on_false)
     × ((u : Use) → operand_levels (called_in rows) (part_at rows on_true.row) wanted ≤ expression_levels (called_in rows) (expression_at rows row) u)
     × ((u : Use) → operand_levels (called_in rows) (part_at rows on_false.row) wanted ≤ expression_levels (called_in rows) (expression_at rows row) u)
-ChoiceFits rows row Straight = Unit {0}
+ChoiceFits rows row None = Unit {0}
 
-pub record ChoiceAt (S : ℕ) (rows : List ℤ) (row level : ℕ) (choice : Choice) : Type 0 where
+pub record ChoiceAt (S : ℕ) (rows : List ℤ) (row level : ℕ) (choice : Option (KernelAtom × Branch × Branch)) : Type 0 where
   pub is : (u : Use) → last_code (called_in rows) S (expression_at rows row) u level ≡ chosen_code S rows choice (expression_at rows row) u level
   pub fits : ChoiceFits rows row choice
 

@@ -1,7 +1,7 @@
 -- Code: the parts of an expression's code that have a writer of their own. Each is a part of a clause of expression_code.
-use Rattle.std.specs.Prelude.{Bool, List, ℕ, ℤ, pos}
+use Rattle.std.specs.Prelude.{Bool, List, ℕ, ℤ, pos, None, Option, Some}
 use Rattle.words.specs.declared.Operator.TheVariants.{NotEqual}
-use Rattle.language.specs.Trees.{Expression, constant, read, minus, not, binary, and, or, comma, conditional, assign, compound, prefix, postfix, call, Items, none, ◌here◌, ◌⧺◌}
+use Rattle.language.specs.Trees.{Expression, constant, read, minus, not, binary, and, or, comma, conditional, assign, compound, prefix, postfix, call, Items, none, ◌⧺◌}
 use Rattle.language.specs.Writes.{writes, index_writes}
 use Rattle.language.specs.Decode.{part_at}
 use Rattle.translation.specs.Uses.{direct}
@@ -16,8 +16,6 @@ use Rattle.writers_rows.specs.declared.KernelAtom.{KernelAtom}
 use Rattle.writers_expressions.specs.declared.End.{End}
 use Rattle.writers_expressions.specs.declared.End.TheVariants.{Truth, Copy, Stays}
 use Rattle.writers_expressions.specs.declared.Branch.{Branch}
-use Rattle.writers_expressions.specs.declared.Choice.{Choice}
-use Rattle.writers_expressions.specs.declared.Choice.TheVariants.{Choose, Straight}
 
 -- `called f i`: whether function f can write the variable i.
 module _ (called : ℕ → ℕ → Bool) (S : ℕ) where
@@ -75,6 +73,6 @@ module _ (S : ℕ) where
     choice_code test on_true on_false t = choosing S (atom_tree test) (branch_code on_true t) (branch_code on_false t) none
 
     -- The same by a choice.
-    abbrev pub chosen_code : Choice → Expression → Use → ℕ → Items
-    chosen_code (Choose test on_true on_false) e u t = choice_code test on_true on_false t
-    chosen_code Straight e u t = straight_code (called_in rows) S e u t
+    abbrev pub chosen_code : Option (KernelAtom × Branch × Branch) → Expression → Use → ℕ → Items
+    chosen_code (Some (test, on_true, on_false)) e u t = choice_code test on_true on_false t
+    chosen_code None e u t = straight_code (called_in rows) S e u t

@@ -1,10 +1,10 @@
 -- Laws of an expression's code: its parts, and their rows.
-use Rattle.std.specs.Prelude.{◌≡◌, Bool, false, List, ◌++◌, ℕ, zero, suc, ◌+◌, ◌*◌, ◌≤◌, ◌<◌, eqb, ℤ, pos}
+use Rattle.std.specs.Prelude.{◌≡◌, Bool, false, List, ◌++◌, ℕ, zero, suc, ◌+◌, ◌*◌, ◌<◌, eqb, ℤ, pos}
 use Rattle.std.proofs.Math.Path.{refl, ap}
 use Rattle.std.proofs.Common.{sym, ap₂, ◌∙◌, append_assoc, arith, eqb-true}
 use Rattle.words.specs.Word.{pick}
 use Rattle.words.specs.Laws.{by_cases}
-use Rattle.language.specs.Trees.{Expression, constant, read, minus, not, binary, and, or, comma, conditional, assign, compound, prefix, postfix, call, variable, element, Part, absent, present, block, Items, none, ◌here◌, ◌⧺◌}
+use Rattle.language.specs.Trees.{Expression, constant, read, minus, not, binary, and, or, comma, conditional, assign, compound, prefix, postfix, call, variable, element, Part, absent, present, block, Items, none, ◌⧺◌}
 use Rattle.language.specs.Sizes.{expression_rows, statement_rows, items_rows}
 use Rattle.language.specs.TreeLaws.{append-none, append-append}
 use Rattle.language.specs.Decode.{expression_at, part_at}
@@ -22,10 +22,9 @@ use Rattle.language_emission.specs.Emission.{row_of, emit_statement, emit_items}
 use Rattle.language_emission.specs.EmissionLaws.{emit-append}
 use Rattle.measures_table.specs.Parts.{called_in, first_operand, second_operand, above_first, first_copied, first_use, second_use}
 use Rattle.measures_table.specs.MeasureLaws.{size-parts, first-copied-most, own-copies}
-use Rattle.words.specs.Over.{over}
 use Rattle.writers_rows.specs.Room.{more_rows}
 use Rattle.writers_rows.specs.Straight.{last_size}
-use Rattle.writers_rows.specs.Chain.{Wrote, more_is, block_words}
+use Rattle.writers_rows.specs.Chain.{more_is, block_words}
 use Rattle.writers_steps.specs.AtomLaws.{rows-hold}
 use Rattle.writers_rows.specs.declared.KernelAtom.{KernelAtom}
 use Rattle.writers_rows.specs.declared.KernelAtom.TheVariants.{Constant, Variable}

@@ -11,10 +11,10 @@ ghost use Rattle.words.specs.Over.{over};
 ghost use Rattle.writers_rows.specs.Room.{Room};
 ghost use Rattle.writers_rows.specs.Atoms.{AtomFits};
 ghost use Rattle.writers_expressions.specs.Code.{finish_code};
-ghost use Rattle.writers_steps.specs.Asks.{Writing};
+ghost use Rattle.writers_steps.specs.Asks.{Writes};
 ghost use Rattle.writers_expressions.specs.Asks.{end_of, number_branch, finish_size, branch_size as size_of, ChoiceAt};
 
-use super::{Branch, Choice, End};
+use super::{Branch, End};
 use language_shapes::rows::expression_at;
 use language_shapes::{ChoiceShape, ExpressionShape};
 use measures_expressions::holders::taken_at;
@@ -22,6 +22,7 @@ use translation::Use;
 use words::Operator;
 use writers_rows::KernelAtom;
 use writers_rows::assignments::{put_binary, put_copy};
+use writers_steps::WriteSource;
 use writers_steps::atoms::{atom_at, operand_size};
 
 // A branch that puts a number into the result's temporary.
@@ -36,62 +37,66 @@ fn number_branch(v: i32) -> Branch
 }
 
 // How a branch of a conditional ends, by the value of the expression at a row: one in a temporary stays.
-fn end_at(rows: &[i32], table: &[usize], row: usize) -> End
-    requires { Measured rows.now table.now × (row < row_count rows.now) }
-    ensures { result ≡ end_of (atom_of (called_in rows.now) (expression_at rows.now row)) }
+fn end_at(source: &WriteSource<'_>, row: usize) -> End
+    requires { Measured source.now.rows.now source.now.table.now × (row < row_count source.now.rows.now) }
+    ensures { result ≡ end_of (atom_of (called_in source.now.rows.now) (expression_at source.now.rows.now row)) }
 {
-    if taken_at(rows, table, row) == 1 {
+    if taken_at(source.rows, source.table, row) == 1 {
         return End::Stays;
     }
     End::Copy
 }
 
 // What the code of the expression at a row, which is no call, ends with.
-pub fn choice_at(rows: &[i32], table: &[usize], store: usize, row: usize, level: usize) -> Choice
-    requires { Writing rows.now table.now store × (row < row_count rows.now) × (level ≤ 2048) × (is_call (expression_at rows.now row) ≡ false) }
-    ensures { ChoiceAt store rows.now row level result }
+pub fn choice_at(
+    source: &WriteSource<'_>,
+    row: usize,
+    level: usize,
+) -> Option<(KernelAtom, Branch, Branch)>
+    requires { Writes source.now × (row < row_count source.now.rows.now) × (level ≤ 2048) × (is_call (expression_at source.now.rows.now row) ≡ false) }
+    ensures { ChoiceAt source.now.store source.now.rows.now row level result }
 {
-    let shape = expression_at(rows, row);
+    let shape = expression_at(source.rows, row);
     match shape {
-        ExpressionShape::Number(_) => Choice::Straight,
-        ExpressionShape::Read(_) => Choice::Straight,
-        ExpressionShape::Operation(_) => Choice::Straight,
+        ExpressionShape::Number(_) => None,
+        ExpressionShape::Read(_) => None,
+        ExpressionShape::Operation(_) => None,
         ExpressionShape::Choice(choice) => match choice {
             ChoiceShape::And(a, b) => {
-                let test = atom_at(rows, table, store, a, level);
+                let test = atom_at(source, a, level);
                 let yes = Branch {
                     row: b,
                     end: End::Truth,
-                    atom: atom_at(rows, table, store, b, level),
+                    atom: atom_at(source, b, level),
                 };
-                Choice::Choose(test, yes, number_branch(0))
+                Some((test, yes, number_branch(0)))
             }
             ChoiceShape::Or(a, b) => {
-                let test = atom_at(rows, table, store, a, level);
+                let test = atom_at(source, a, level);
                 let no = Branch {
                     row: b,
                     end: End::Truth,
-                    atom: atom_at(rows, table, store, b, level),
+                    atom: atom_at(source, b, level),
                 };
-                Choice::Choose(test, number_branch(1), no)
+                Some((test, number_branch(1), no))
             }
             ChoiceShape::Conditional(t, a, b) => {
-                let test = atom_at(rows, table, store, t, level);
+                let test = atom_at(source, t, level);
                 let yes = Branch {
                     row: a,
-                    end: end_at(rows, table, a),
-                    atom: atom_at(rows, table, store, a, level),
+                    end: end_at(source, a),
+                    atom: atom_at(source, a, level),
                 };
                 let no = Branch {
                     row: b,
-                    end: end_at(rows, table, b),
-                    atom: atom_at(rows, table, store, b, level),
+                    end: end_at(source, b),
+                    atom: atom_at(source, b, level),
                 };
-                Choice::Choose(test, yes, no)
+                Some((test, yes, no))
             }
         },
         // is no call
-        ExpressionShape::Call(_, _) => Choice::Straight,
+        ExpressionShape::Call(_, _) => None,
     }
 }
 
@@ -107,12 +112,12 @@ pub fn finish_size(end: End) -> usize
 }
 
 // The rows of a branch.
-pub fn branch_size(rows: &[i32], table: &[usize], branch: Branch) -> usize
-    requires { Measured rows.now table.now × (branch.row < row_count rows.now) × (size_of rows.now branch ≤ 40980) }
-    ensures { result ≡ size_of rows.now branch }
+pub fn branch_size(source: &WriteSource<'_>, branch: Branch) -> usize
+    requires { Measured source.now.rows.now source.now.table.now × (branch.row < row_count source.now.rows.now) × (size_of source.now.rows.now branch ≤ 40980) }
+    ensures { result ≡ size_of source.now.rows.now branch }
 {
     let end = branch.end;
-    1 + operand_size(rows, table, branch.row, Use::Wanted) + finish_size(end)
+    1 + operand_size(source, branch.row, Use::Wanted) + finish_size(end)
 }
 
 // The end of a branch: its atom into the temporary of a level, where it is not there already.

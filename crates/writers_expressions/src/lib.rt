@@ -21,10 +21,3 @@ pub struct Branch {
     pub end: End,
     pub atom: KernelAtom,
 }
-
-// What the code of an expression ends with.
-#[derive(Clone, Copy)]
-pub enum Choice {
-    Choose(KernelAtom, Branch, Branch),
-    Straight,
-}

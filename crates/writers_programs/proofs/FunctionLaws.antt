@@ -25,7 +25,7 @@ use Rattle.writers_rows.specs.Chain.{part, back_in, PutWords, reworded, link-is,
 use Rattle.write_sets_functions.specs.Definitions.{defines}
 use Rattle.write_sets_functions.proofs.DefinitionLaws.{there, defined-kind, next-later, list-is, items-inside, body-items, is_define}
 use Rattle.writers.proofs.Sequence.{put-behind}
-use Rattle.writers_programs.specs.Asks.{BlockList, NumberedFrom, ListTakes}
+use Rattle.writers_programs.specs.Asks.{BlockList, NumberedFrom, ListTakes, FunctionAsks}
 use Rattle.writers_programs.proofs.ParameterLaws.{parameters-link}
 
 -- ---- the main part
@@ -142,6 +142,11 @@ function-takes rows f parameters body next list takes at ec =
       levels_are = omega (arith, takes.levels_are, function-levels called f words inside rest, ap (items_levels called) at.is);
       labels_low = omega (arith, takes.labels_low, function-labels called f words inside rest, ap items_labels at.is);
     }
+
+-- What a definition takes, from what is asked and the list of its block.
+pub function-asked : {rows : List ℤ} {S f parameters body next size levels label base words list count : ℕ} → FunctionAsks rows S f parameters body next size levels label base words → list ≡ number_at rows body 1 → count ≡ length (parameter_list_at rows parameters)
+    → FunctionTakes rows next size levels label count (items_size (called_in rows) (list_at rows list)) (items_levels (called_in rows) (list_at rows list)) (items_labels (list_at rows list))
+function-asked {rows} {S} {f} {parameters} {body} {next} {size} {levels} {label} {base} {words} {list} asks at counted = function-takes rows f parameters body next list asks.takes (asks.block-list at) counted
 
 -- ---- the code of a program from an item on
 

@@ -7,7 +7,7 @@ ghost use Rattle.language.specs.Decode.{block_items, statement_at, list_at, para
 ghost use Rattle.translation.specs.Translate.{program_code};
 ghost use Rattle.language_emission.specs.Emission.{emit_items};
 ghost use Rattle.measures_table.specs.Parts.{called_in};
-ghost use Rattle.writers_steps.specs.Asks.{Writing};
+ghost use Rattle.writers_steps.specs.Asks.{Writes};
 ghost use Rattle.writers_programs.specs.Asks.{FrontAsks, FunctionAsks};
 
 use super::lists::{list_labels, list_levels};
@@ -15,17 +15,22 @@ use super::parameters::put_parameters;
 use measures::program::parameter_count;
 use words::table::number_at;
 use write_sets_functions::definitions::is_definition;
-use writers::Exits;
+use writers::blocks::{write_block, write_list};
 use writers::lists::list_size;
-use writers::statements::{write_block, write_list};
+use writers::{Exits, StatementPosition};
 use writers_rows::rows::{behind, more, put_row};
+use writers_steps::WriteSource;
+
+// Outside of all loops.
+const OUTSIDE: Exits = Exits {
+    breaking: 0,
+    continuing: 0,
+};
 
 // The code of a program from the item at a link on: its definitions, and then its main part.
 #[cycle(write_functions)]
 pub fn write_front(
-    rows: &[i32],
-    table: &[usize],
-    store: usize,
+    source: &WriteSource<'_>,
     item: usize,
     size: usize,
     levels: usize,
@@ -33,33 +38,37 @@ pub fn write_front(
     base: usize,
     out: &mut [i32],
 )
-    requires { Writing rows.now table.now store × FrontAsks rows.now store item size levels label base (length out.old) }
-    ensures { out.new ≡ over (emit_items false (program_code (called_in rows.now) store (list_at rows.now item) label) base) out.old }
+    requires { Writes source.now × FrontAsks source.now.rows.now source.now.store item size levels label base (length out.old) }
+    ensures { out.new ≡ over (emit_items false (program_code (called_in source.now.rows.now) source.now.store (list_at source.now.rows.now item) label) base) out.old }
 {
-    if is_definition(rows, item) {
-        let number = number_at(rows, item, 1);
-        let parameters = number_at(rows, item, 2);
-        let body = number_at(rows, item, 3);
-        let next = number_at(rows, item, 5);
+    if is_definition(source.rows, item) {
+        let number = number_at(source.rows, item, 1);
+        let parameters = number_at(source.rows, item, 2);
+        let body = number_at(source.rows, item, 3);
+        let next = number_at(source.rows, item, 5);
         write_function(
-            rows, table, store, number, parameters, body, next, size, levels, label, base, out,
+            source, number, parameters, body, next, size, levels, label, base, out,
         );
         return;
     }
-    let outside = Exits {
-        breaking: 0,
-        continuing: 0,
-    };
-    write_list(rows, table, store, item, outside, label, base, false, out);
+    write_list(
+        source,
+        item,
+        StatementPosition {
+            exits: OUTSIDE,
+            label,
+            base,
+        },
+        false,
+        out,
+    );
 }
 
 // The definition of a function, whose block is the row `body`, and then the code from the link `next` on. Its temporaries begin above those of what may
 // call it.
 #[cycle(write_functions)]
 fn write_function(
-    rows: &[i32],
-    table: &[usize],
-    store: usize,
+    source: &WriteSource<'_>,
     number: usize,
     parameters: usize,
     body: usize,
@@ -70,20 +79,16 @@ fn write_function(
     base: usize,
     out: &mut [i32],
 )
-    requires { Writing rows.now table.now store × FunctionAsks rows.now store number parameters body next size levels label base (length out.old) }
-    ensures { out.new ≡ over (emit_items false (program_code (called_in rows.now) store (define number (parameter_list_at rows.now parameters) (block_items (statement_at rows.now body)) (list_at rows.now next)) label) base) out.old }
+    requires { Writes source.now × FunctionAsks source.now.rows.now source.now.store number parameters body next size levels label base (length out.old) }
+    ensures { out.new ≡ over (emit_items false (program_code (called_in source.now.rows.now) source.now.store (define number (parameter_list_at source.now.rows.now parameters) (block_items (statement_at source.now.rows.now body)) (list_at source.now.rows.now next)) label) base) out.old }
 {
-    let outside = Exits {
-        breaking: 0,
-        continuing: 0,
-    };
-    let list = number_at(rows, body, 1);
-    let count = parameter_count(rows, parameters);
+    let list = number_at(source.rows, body, 1);
+    let count = parameter_count(source.rows, parameters);
     let own = 1 + count;
-    let n = own + 1 + list_size(rows, table, list);
+    let n = own + 1 + list_size(source, list);
     let rest = size - n;
-    let above = levels - list_levels(rows, table, list);
-    let from = label + list_labels(rows, table, list);
+    let above = levels - list_levels(source, list);
+    let from = label + list_labels(source, list);
     put_row(
         59,
         number,
@@ -92,27 +97,22 @@ fn write_function(
         behind(more(false, rest), base + n),
         out,
     );
-    put_parameters(rows, parameters, count, base + 1, &mut out[6..]);
+    put_parameters(source.rows, parameters, count, base + 1, &mut out[6..]);
+    let inside = WriteSource {
+        rows: source.rows,
+        table: source.table,
+        store: source.store + above,
+    };
     write_block(
-        rows,
-        table,
-        store + above,
+        &inside,
         list,
-        outside,
-        label,
-        base + own,
+        StatementPosition {
+            exits: OUTSIDE,
+            label,
+            base: base + own,
+        },
         false,
         &mut out[6 * own..],
     );
-    write_front(
-        rows,
-        table,
-        store,
-        next,
-        rest,
-        above,
-        from,
-        base + n,
-        &mut out[6 * n..],
-    );
+    write_front(source, next, rest, above, from, base + n, &mut out[6 * n..]);
 }

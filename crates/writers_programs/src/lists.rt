@@ -8,19 +8,20 @@ ghost use Rattle.measures_table.specs.Measures.{Measured};
 
 use measures_table::table::measure_at;
 use measures_table::{LIST_LABELS, LIST_LEVELS};
+use writers_steps::WriteSource;
 
 // The labels of the list at a link.
-pub fn list_labels(rows: &[i32], table: &[usize], list: usize) -> usize
-    requires { Measured rows.now table.now × (list < row_count rows.now) × (items_labels (list_at rows.now list) ≤ 65535) }
-    ensures { result ≡ items_labels (list_at rows.now list) }
+pub fn list_labels(source: &WriteSource<'_>, list: usize) -> usize
+    requires { Measured source.now.rows.now source.now.table.now × (list < row_count source.now.rows.now) × (items_labels (list_at source.now.rows.now list) ≤ 65535) }
+    ensures { result ≡ items_labels (list_at source.now.rows.now list) }
 {
-    measure_at(table, list, LIST_LABELS)
+    measure_at(source.table, list, LIST_LABELS)
 }
 
 // The levels of the list at a link.
-pub fn list_levels(rows: &[i32], table: &[usize], list: usize) -> usize
-    requires { Measured rows.now table.now × (list < row_count rows.now) × (items_levels (called_in rows.now) (list_at rows.now list) ≤ 65535) }
-    ensures { result ≡ items_levels (called_in rows.now) (list_at rows.now list) }
+pub fn list_levels(source: &WriteSource<'_>, list: usize) -> usize
+    requires { Measured source.now.rows.now source.now.table.now × (list < row_count source.now.rows.now) × (items_levels (called_in source.now.rows.now) (list_at source.now.rows.now list) ≤ 65535) }
+    ensures { result ≡ items_levels (called_in source.now.rows.now) (list_at source.now.rows.now list) }
 {
-    measure_at(table, list, LIST_LEVELS)
+    measure_at(source.table, list, LIST_LEVELS)
 }

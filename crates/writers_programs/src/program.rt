@@ -9,6 +9,7 @@ use super::definitions::write_front;
 use words::table::number_at;
 use writers_rows::control::put_block;
 use writers_rows::rows::{behind, more};
+use writers_steps::WriteSource;
 
 // Writes the translation of a program, whose list takes `size` kernel rows and `levels` temporaries, those from the store word `store` on.
 pub fn write_program(
@@ -24,5 +25,6 @@ pub fn write_program(
 {
     let list = number_at(rows, 0, 1);
     put_block(behind(more(false, size), 1), 0, out);
-    write_front(rows, table, store, list, size, levels, 1, 1, &mut out[6..]);
+    let source = WriteSource { rows, table, store };
+    write_front(&source, list, size, levels, 1, 1, &mut out[6..]);
 }

@@ -11,6 +11,7 @@ use words::Operator;
 use words_copying::put;
 
 // Writes a row at the start of the table: "kind, a, b, c, d, next". Only a for has a field d, and the kernel has no for.
+// The kind is a number, as the words are: each call names one kind, and no code reads it back.
 pub fn put_row(kind: usize, a: usize, b: usize, c: usize, next: usize, out: &mut [i32])
     requires { (6 ≤ length out.old) × (kind < 2 ^ 31) × (a < 2 ^ 31) × (b < 2 ^ 31) × (c < 2 ^ 31) × (next < 2 ^ 31) }
     ensures { out.new ≡ over (row_of kind (pos a) b c 0 next) out.old }

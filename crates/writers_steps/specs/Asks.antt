@@ -20,6 +20,7 @@ use Rattle.writers_rows.specs.Room.{Room}
 use Rattle.writers_rows.specs.Atoms.{atom_tree, place_tree, AtomFits, PlaceFits}
 use Rattle.writers_rows.specs.declared.KernelAtom.{KernelAtom}
 use Rattle.writers_rows.specs.declared.KernelPlace.{KernelPlace}
+use Rattle.writers_steps.specs.declared.WriteSource.{WriteSource}
 
 -- The source is measured; the temporaries begin at store word S.
 pub record Writing (rows : List ℤ) (table : List ℕ) (S : ℕ) : Type 0 where
@@ -28,6 +29,9 @@ pub record Writing (rows : List ℤ) (table : List ℕ) (S : ℕ) : Type 0 where
   pub small_store : S ≤ 10304
   -- an expression has no more levels than rows, and each row is linked once
   pub few_levels : (row : ℕ) → row < row_count rows → (u : Use) → expression_levels (called_in rows) (expression_at rows row) u ≤ 2048
+
+abbrev pub Writes : WriteSource → Type 0
+Writes source = Writing source.rows.now source.table.now source.store
 
 -- The rows of what an expression that chooses and calls nothing does with its operands' values.
 abbrev pub straight_size : (ℕ → ℕ → Bool) → Expression → Use → ℕ
@@ -74,50 +78,50 @@ pub record PlaceAt (S : ℕ) (rows : List ℤ) (row t : ℕ) (p : KernelPlace) :
 
 -- ---- what ends the code of an expression
 
-pub record ReadAsks (rows : List ℤ) (table : List ℕ) (S : ℕ) (place : PlaceShape) (u : Use) (level base words : ℕ) : Type 0 where
-  pub writing : Writing rows table S
-  pub place_inside : PlaceInside rows place
+pub record ReadAsks (source : WriteSource) (place : PlaceShape) (u : Use) (level base words : ℕ) : Type 0 where
+  pub writing : Writes source
+  pub place_inside : PlaceInside source.rows.now place
   pub level_low : level ≤ 2048
   pub use_fits : UseFits u
-  pub room : Room (5 * index_rows_of (place_shape_tree rows place)) base words
+  pub room : Room (5 * index_rows_of (place_shape_tree source.rows.now place)) base words
 
 -- `copies` is 1 where the value of the first operand was copied.
-pub record AssignmentAsks (rows : List ℤ) (table : List ℕ) (S place value copies level base words : ℕ) : Type 0 where
-  pub writing : Writing rows table S
-  pub place_inside : place < row_count rows
-  pub value_inside : value < row_count rows
-  pub copies_are : copies ≡ copied (atom_of (called_in rows) (expression_at rows value)) (index_writes (called_in rows) (place_of (expression_at rows place)))
+pub record AssignmentAsks (source : WriteSource) (place value copies level base words : ℕ) : Type 0 where
+  pub writing : Writes source
+  pub place_inside : place < row_count source.rows.now
+  pub value_inside : value < row_count source.rows.now
+  pub copies_are : copies ≡ copied (atom_of (called_in source.rows.now) (expression_at source.rows.now value)) (index_writes (called_in source.rows.now) (place_of (expression_at source.rows.now place)))
   pub level_low : level ≤ 2048
-  pub room : Room (store_rows (place_of (expression_at rows place)) (direct (expression_at rows value))) base words
+  pub room : Room (store_rows (place_of (expression_at source.rows.now place)) (direct (expression_at source.rows.now value))) base words
 
-pub record VariableAsks (rows : List ℤ) (table : List ℕ) (S i value level base words : ℕ) : Type 0 where
-  pub writing : Writing rows table S
+pub record VariableAsks (source : WriteSource) (i value level base words : ℕ) : Type 0 where
+  pub writing : Writes source
   pub low : i < most_words
-  pub value_inside : value < row_count rows
+  pub value_inside : value < row_count source.rows.now
   pub level_low : level ≤ 2048
-  pub room : Room (store_rows (variable i) (direct (expression_at rows value))) base words
+  pub room : Room (store_rows (variable i) (direct (expression_at source.rows.now value))) base words
 
-pub record ElementAsks (rows : List ℤ) (table : List ℕ) (S array index value copies level base words : ℕ) : Type 0 where
-  pub writing : Writing rows table S
+pub record ElementAsks (source : WriteSource) (array index value copies level base words : ℕ) : Type 0 where
+  pub writing : Writes source
   pub low : array < most_arrays
-  pub index_inside : index < row_count rows
-  pub value_inside : value < row_count rows
-  pub copies_are : copies ≡ copied (atom_of (called_in rows) (expression_at rows value)) (index_writes (called_in rows) (element array (expression_at rows index)))
+  pub index_inside : index < row_count source.rows.now
+  pub value_inside : value < row_count source.rows.now
+  pub copies_are : copies ≡ copied (atom_of (called_in source.rows.now) (expression_at source.rows.now value)) (index_writes (called_in source.rows.now) (element array (expression_at source.rows.now index)))
   pub level_low : level ≤ 2048
   pub room : Room 5 base words
 
 -- An operation on a place, of so many rows.
-pub record OperationAsks (rows : List ℤ) (table : List ℕ) (S place size level base words : ℕ) : Type 0 where
-  pub writing : Writing rows table S
-  pub place_inside : place < row_count rows
+pub record OperationAsks (source : WriteSource) (place size level base words : ℕ) : Type 0 where
+  pub writing : Writes source
+  pub place_inside : place < row_count source.rows.now
   pub level_low : level ≤ 2048
   pub room : Room size base words
 
-pub record OperatorAsks (rows : List ℤ) (table : List ℕ) (S left right copies : ℕ) (u : Use) (level base words : ℕ) : Type 0 where
-  pub writing : Writing rows table S
-  pub left_inside : left < row_count rows
-  pub right_inside : right < row_count rows
-  pub copies_are : copies ≡ copied (atom_of (called_in rows) (expression_at rows right)) (writes (called_in rows) (expression_at rows left))
+pub record OperatorAsks (source : WriteSource) (left right copies : ℕ) (u : Use) (level base words : ℕ) : Type 0 where
+  pub writing : Writes source
+  pub left_inside : left < row_count source.rows.now
+  pub right_inside : right < row_count source.rows.now
+  pub copies_are : copies ≡ copied (atom_of (called_in source.rows.now) (expression_at source.rows.now right)) (writes (called_in source.rows.now) (expression_at source.rows.now left))
   pub use_fits : UseFits u
   pub level_low : level ≤ 2048
   pub room : Room 6 base words

@@ -6,8 +6,9 @@ ghost use Rattle.translation.specs.Translate.{place_taken};
 ghost use Rattle.translation.specs.TranslateSize.{operand_size};
 ghost use Rattle.measures_table.specs.Parts.{called_in, first_copied, UseFits};
 ghost use Rattle.measures_table.specs.Measures.{Measured};
-ghost use Rattle.writers_steps.specs.Asks.{Writing, AtomAt, TargetIs, HeldAt, PlaceInside, HeldPlace, PlaceAt};
+ghost use Rattle.writers_steps.specs.Asks.{Writes, AtomAt, TargetIs, HeldAt, PlaceInside, HeldPlace, PlaceAt};
 
+use super::WriteSource;
 use language_shapes::PlaceShape;
 use language_shapes::rows::place_at;
 use measures_expressions::holders::{holder_at, taken_at};
@@ -18,15 +19,15 @@ use translation::Use;
 use writers_rows::{KernelAtom, KernelPlace};
 
 // The atom of the expression at a row, worked out at a level.
-pub fn atom_at(rows: &[i32], table: &[usize], store: usize, row: usize, level: usize) -> KernelAtom
-    requires { Writing rows.now table.now store × (row < row_count rows.now) × (level ≤ 4096) }
-    ensures { AtomAt store rows.now row level result }
+pub fn atom_at(source: &WriteSource<'_>, row: usize, level: usize) -> KernelAtom
+    requires { Writes source.now × (row < row_count source.now.rows.now) × (level ≤ 4096) }
+    ensures { AtomAt source.now.store source.now.rows.now row level result }
 {
-    let holder = holder_at(rows, table, row);
+    let holder = holder_at(source.rows, source.table, row);
     match holder {
         Holder::Number(value) => KernelAtom::Constant(value),
         Holder::Variable(number) => KernelAtom::Variable(number),
-        Holder::Temporary => KernelAtom::Variable(store + level),
+        Holder::Temporary => KernelAtom::Variable(source.store + level),
     }
 }
 
@@ -43,82 +44,63 @@ pub fn target_word(store: usize, level: usize, usage: Use) -> usize
 }
 
 // 1 where the expression at a row copies the value of its first operand, else 0.
-pub fn operand_copied(rows: &[i32], table: &[usize], row: usize) -> usize
-    requires { Measured rows.now table.now × (row < row_count rows.now) }
-    ensures { result ≡ first_copied (called_in rows.now) (expression_at rows.now row) }
+pub fn operand_copied(source: &WriteSource<'_>, row: usize) -> usize
+    requires { Measured source.now.rows.now source.now.table.now × (row < row_count source.now.rows.now) }
+    ensures { result ≡ first_copied (called_in source.now.rows.now) (expression_at source.now.rows.now row) }
 {
-    table[WIDTH * row + COPIED]
+    source.table[WIDTH * row + COPIED]
 }
 
 // The atom of a value that waits for its use: where it was copied, the temporary of its level.
-pub fn held_atom(
-    rows: &[i32],
-    table: &[usize],
-    store: usize,
-    row: usize,
-    copied: usize,
-    level: usize,
-) -> KernelAtom
-    requires { Writing rows.now table.now store × (row < row_count rows.now) × (level ≤ 4096) }
-    ensures { HeldAt store rows.now row copied level result }
+pub fn held_atom(source: &WriteSource<'_>, row: usize, copied: usize, level: usize) -> KernelAtom
+    requires { Writes source.now × (row < row_count source.now.rows.now) × (level ≤ 4096) }
+    ensures { HeldAt source.now.store source.now.rows.now row copied level result }
 {
     if copied == 1 {
-        return KernelAtom::Variable(store + level);
+        return KernelAtom::Variable(source.store + level);
     }
-    atom_at(rows, table, store, row, level)
+    atom_at(source, row, level)
 }
 
 // A place, whose index is held at a level.
-pub fn held_place(
-    rows: &[i32],
-    table: &[usize],
-    store: usize,
-    place: PlaceShape,
-    level: usize,
-) -> KernelPlace
-    requires { Writing rows.now table.now store × PlaceInside rows.now place × (level ≤ 4096) }
-    ensures { HeldPlace store rows.now place level result }
+pub fn held_place(source: &WriteSource<'_>, place: PlaceShape, level: usize) -> KernelPlace
+    requires { Writes source.now × PlaceInside source.now.rows.now place × (level ≤ 4096) }
+    ensures { HeldPlace source.now.store source.now.rows.now place level result }
 {
     match place {
         PlaceShape::Variable(number) => KernelPlace::Variable(number),
         PlaceShape::Element(array, index) => KernelPlace::Element(
             array,
-            atom_at(rows, table, store, index, level),
+            atom_at(source, index, level),
         ),
     }
 }
 
 // The place at a row, its index held at a level.
-pub fn kernel_place(
-    rows: &[i32],
-    table: &[usize],
-    store: usize,
-    row: usize,
-    level: usize,
-) -> KernelPlace
-    requires { Writing rows.now table.now store × (row < row_count rows.now) × (level ≤ 4096) }
-    ensures { PlaceAt store rows.now row level result }
+pub fn kernel_place(source: &WriteSource<'_>, row: usize, level: usize) -> KernelPlace
+    requires { Writes source.now × (row < row_count source.now.rows.now) × (level ≤ 4096) }
+    ensures { PlaceAt source.now.store source.now.rows.now row level result }
 {
-    let place = place_at(rows, row);
-    held_place(rows, table, store, place, level)
+    let place = place_at(source.rows, row);
+    held_place(source, place, level)
 }
 
 // How many temporaries the index of the place at a row takes.
-pub fn place_taken(rows: &[i32], table: &[usize], row: usize) -> usize
-    requires { Measured rows.now table.now × (row < row_count rows.now) }
-    ensures { result ≡ place_taken (called_in rows.now) (place_of (expression_at rows.now row)) }
+pub fn place_taken(source: &WriteSource<'_>, row: usize) -> usize
+    requires { Measured source.now.rows.now source.now.table.now × (row < row_count source.now.rows.now) }
+    ensures { result ≡ place_taken (called_in source.now.rows.now) (place_of (expression_at source.now.rows.now row)) }
 {
-    let place = place_at(rows, row);
+    let place = place_at(source.rows, row);
     match place {
         PlaceShape::Variable(_) => 0,
-        PlaceShape::Element(_, index) => taken_at(rows, table, index),
+        PlaceShape::Element(_, index) => taken_at(source.rows, source.table, index),
     }
 }
 
 // The kernel rows of the expression at a link, where its value has this use.
-pub fn operand_size(rows: &[i32], table: &[usize], row: usize, usage: Use) -> usize
-    requires { Measured rows.now table.now × (row < row_count rows.now) × (operand_size (called_in rows.now) (part_at rows.now row) usage ≤ 40980) }
-    ensures { result ≡ operand_size (called_in rows.now) (part_at rows.now row) usage }
+pub fn operand_size(source: &WriteSource<'_>, row: usize, usage: Use) -> usize
+    requires { Measured source.now.rows.now source.now.table.now × (row < row_count source.now.rows.now) × (operand_size (called_in source.now.rows.now) (part_at source.now.rows.now row) usage ≤ 40980) }
+    ensures { result ≡ operand_size (called_in source.now.rows.now) (part_at source.now.rows.now row) usage }
 {
-    measure_at(table, row, rows_for(usage))
+    measure_at(source.table, row, rows_for(usage))
 }

@@ -1,7 +1,6 @@
 -- `add`: 64 bits hold the sum of two words, and `narrow` says whether it is one.
 use mathlib.Core.Path.{ap, ◌∙◌}
 use lib.IntN.{◌+ℤ◌}
-use borrow.Author.Rules.{rules}
 use Rattle.arithmetic.specs.Arithmetic.{in_word, apply}
 use Rattle.arithmetic.proofs.Results.{sum_64, wide_fits, operation-fits, operation_is}
 use Rattle.arithmetic.proofs.add.Goals as goal

@@ -1,8 +1,8 @@
 -- `apply` hands the operands on to the function of the operator, or tests them.
+use Rattle.std.specs.Prelude.{Ok}
 use mathlib.Core.Path.{refl, ap, ◌∙◌}
 use mathlib.Core.Bool.{not}
-use borrow.Author.Rules.{rules}
-use Rattle.arithmetic.specs.Arithmetic.{value, bit, apply}
+use Rattle.arithmetic.specs.Arithmetic.{bit, apply}
 use Rattle.arithmetic.proofs.Results.{handed-on, compared, equal-bits}
 use Rattle.arithmetic.proofs.apply.Goals as goal
 
@@ -39,8 +39,8 @@ returns-in-GreaterOrEqual c = let s = c.before.before in compared s.ranges.left 
 
 pub returns-in-Equal : goal.returns-in-Equal
 unfolding apply
-returns-in-Equal c = let s = c.before.before in compared s.ranges.left s.ranges.right _ c.in-Equal.is c.bit-in-Equal.ensures (ap (λ b. value (bit b)) (equal-bits s.ranges.left s.ranges.right))
+returns-in-Equal c = let s = c.before.before in compared s.ranges.left s.ranges.right _ c.in-Equal.is c.bit-in-Equal.ensures (ap (λ b. Ok (bit b)) (equal-bits s.ranges.left s.ranges.right))
 
 pub returns-in-NotEqual : goal.returns-in-NotEqual
 unfolding apply
-returns-in-NotEqual c = let s = c.before.before in compared s.ranges.left s.ranges.right _ c.in-NotEqual.is c.bit-in-NotEqual.ensures (ap (λ b. value (bit (not b))) (equal-bits s.ranges.left s.ranges.right))
+returns-in-NotEqual c = let s = c.before.before in compared s.ranges.left s.ranges.right _ c.in-NotEqual.is c.bit-in-NotEqual.ensures (ap (λ b. Ok (bit (not b))) (equal-bits s.ranges.left s.ranges.right))

@@ -1,5 +1,4 @@
 -- `divide`: past its tests the quotient is a word.
-use borrow.Author.Rules.{rules}
 use Rattle.arithmetic.proofs.Results.{divide-zero, divide-overflows, quotient-told, divide-fits, divide_is}
 use Rattle.arithmetic.proofs.divide.Goals as goal
 

@@ -1,7 +1,6 @@
 -- `element` tests the number that the index names.
 use mathlib.Core.Path.{◌≡◌, ap, ◌∙◌}
 use mir.Facts.{to_z-of_z}
-use borrow.Author.Rules.{rules}
 use borrow.Author.Tests.{lt-ltb, le-ltb}
 use Rattle.words.specs.Word.{natural}
 use Rattle.arithmetic.specs.Arithmetic.{element}

@@ -2,7 +2,6 @@
 use mathlib.Core.Path.{ap, ◌∙◌}
 use mathlib.Core.Bool.{not}
 use mir.Facts.{to_z-of_z}
-use borrow.Author.Rules.{rules}
 use Rattle.arithmetic.specs.Arithmetic.{bit, is_true, logical_not}
 use Rattle.arithmetic.proofs.Results.{bit-again}
 use Rattle.arithmetic.proofs.logical_not.Goals as goal

@@ -1,5 +1,4 @@
 -- `remainder`: past its tests the quotient is a word.
-use borrow.Author.Rules.{rules}
 use Rattle.arithmetic.proofs.Results.{remainder-zero, remainder-overflows, quotient-told, divide-fits, remainder_is}
 use Rattle.arithmetic.proofs.remainder.Goals as goal
 

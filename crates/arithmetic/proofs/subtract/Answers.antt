@@ -1,7 +1,6 @@
 -- `subtract`: 64 bits hold the difference of two words, and `narrow` says whether it is one.
 use mathlib.Core.Path.{ap, ◌∙◌}
 use lib.IntN.{◌-ℤ◌}
-use borrow.Author.Rules.{rules}
 use Rattle.arithmetic.specs.Arithmetic.{in_word, apply}
 use Rattle.arithmetic.proofs.Results.{difference-64, wide_fits, operation-fits, operation_is}
 use Rattle.arithmetic.proofs.subtract.Goals as goal

@@ -6,4 +6,4 @@ use Rattle.check_declarations.proofs.declaration_refusal.Goals as goal
 
 pub returns-then-declared-eq0 : goal.returns-then-declared-eq0
 returns-then-declared-eq0 c =
-    sym (undeclared-accepted _ (sym c.requires.3 ∙ c.if-declared-eq0.true))
+    sym (undeclared-accepted _ (sym c.requires.2 ∙ c.if-declared-eq0.true))

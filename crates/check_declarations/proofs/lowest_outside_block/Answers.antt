@@ -6,4 +6,4 @@ use Rattle.check_declarations.proofs.lowest_outside_block.Goals as goal
 
 pub returns-then-declared-eq0 : goal.returns-then-declared-eq0
 returns-then-declared-eq0 c =
-    sym (undeclared-inside _ (sym c.requires.3 ∙ c.if-declared-eq0.true))
+    sym (undeclared-inside _ (sym c.requires.2 ∙ c.if-declared-eq0.true))

@@ -5,7 +5,7 @@ use Rattle.check_functions.proofs.write_known.Goals as goal
 
 pub write_notes-requires : goal.write_notes-requires
 write_notes-requires c =
-    (c.requires.0, c.requires.2.room, c.requires.2.is 0 c.requires.0.some_rows, c.requires.4)
+    (c.requires.0, c.requires.2.room, c.requires.2.is 0 c.requires.0.some_rows)
 
 pub returns : goal.returns
 returns c =

@@ -1,24 +1,20 @@
 -- `form_causes` takes the causes in order.
-use mathlib.Core.Path.{sym, ◌∙◌}
-use borrow.Author.Rules.{rules}
-use Rattle.check_structure.specs.RefusalLaws.{ends, goes_on, last}
+use Rattle.check_structure.specs.RefusalLaws.{refused-at, passed-at, last}
 use Rattle.check_kernel.specs.Refusal.{form_causes}
-use borrow.Author.Rules.{rules}
 use Rattle.check_kernel.proofs.form_causes.Goals as goal
 
-pub returns-in-At : goal.returns-in-At
+pub returns-in_err-at : goal.returns-in_err-at
 unfolding form_causes
-returns-in-At c = ends _ _ _ _ _ c.in-At.is c.lowest_deep_row-deep.ensures
+returns-in_err-at c = refused-at _ _ _ _ _ _ c.from_residual.ensures.1 c.in_err-at.ensures c.lowest_deep_row.ensures
 
-pub returns-in-At-formless : goal.returns-in-At-formless
+pub returns-in_err-at-2 : goal.returns-in_err-at-2
 unfolding form_causes
-returns-in-At-formless c =
-    ends _ _ _ _ _ c.in-At-formless.is c.lowest_not_kernel_form-formless.ensures
-    ∙ sym (goes_on _ _ _ _ c.in_default.is c.lowest_deep_row-deep.ensures)
+returns-in_err-at-2 c =
+    passed-at _ _ _ _ _ c.in_ok-at.ensures c.lowest_deep_row.ensures
+    (refused-at _ _ _ _ _ _ c.from_residual-in_err-at-2.ensures.1 c.in_err-at-2.ensures c.lowest_not_kernel_form.ensures)
 
 pub returns : goal.returns
 unfolding form_causes
 returns c =
-    last _ _ _ _ c.at.ensures c.lowest_label_fault.ensures
-    ∙ sym (goes_on _ _ _ _ c.in_default-formless.is c.lowest_not_kernel_form-formless.ensures)
-    ∙ sym (goes_on _ _ _ _ c.in_default.is c.lowest_deep_row-deep.ensures)
+    passed-at _ _ _ _ _ c.in_ok-at.ensures c.lowest_deep_row.ensures
+    (passed-at _ _ _ _ _ c.in_ok-at-2.ensures c.lowest_not_kernel_form.ensures (last _ _ _ _ c.at-3.ensures c.lowest_label_fault.ensures))

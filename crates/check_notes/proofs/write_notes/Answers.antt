@@ -12,7 +12,7 @@ loop-word-init c =
 
 pub link-linked-requires : goal.link-linked-requires
 link-linked-requires c =
-    let whole = c.requires.0.whole in (omega arith, omega arith, c.requires.3)
+    let whole = c.requires.0.whole in (omega arith, omega arith)
 
 pub write_note-requires : goal.write_note-requires
 unfolding target

@@ -1,11 +1,11 @@
 -- `lowest_wrongly_placed` takes the lowest of what its three searches found.
+use Rattle.std.specs.Prelude.{Option}
 use mathlib.Core.Path.{◌≡◌, sym, ◌∙◌}
 use mathlib.Core.Bool.{◌||◌}
 use mathlib.Core.List.{List}
 use Prim.Native.Nat.{ℕ}
 use lib.IntN.{ℤ}
 use Rattle.words.specs.Search.{lowest_row}
-use Rattle.words.specs.declared.Found.{Found}
 use Rattle.check_places.specs.Places.{misplaced}
 use Rattle.check_declaration_causes.specs.Causes.{outside_block}
 use Rattle.check_function_causes.specs.Causes.{returns_outside}
@@ -15,7 +15,7 @@ use Rattle.check_declarations.specs.LowerLaws.{lowest_row-either}
 use borrow.Author.Rules.{rules}
 use Rattle.check_source.proofs.lowest_wrongly_placed.Goals as goal
 
-lower-found : (rows : List ℤ) (one two three later found : Found) → one ≡ lowest_row rows (misplaced rows) → two ≡ lowest_row rows (outside_block rows) → three ≡ lowest_row rows (returns_outside rows)
+lower-found : (rows : List ℤ) (one two three later found : Option ℕ) → one ≡ lowest_row rows (misplaced rows) → two ≡ lowest_row rows (outside_block rows) → three ≡ lowest_row rows (returns_outside rows)
     → later ≡ lower two three → found ≡ lower one later → found ≡ lowest_row rows (wrongly_placed rows)
 unfolding wrongly_placed
 lower-found rows one two three later found e f g h k =

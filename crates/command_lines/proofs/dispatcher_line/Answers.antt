@@ -9,10 +9,10 @@ kernel_line-requires c = c.requires
 pub refused_line-requires : goal.refused_line-requires
 refused_line-requires c = omega (arith, c.requires)
 
-pub returns-in-Shown : goal.returns-in-Shown
+pub returns-in-Ok : goal.returns-in-Ok
 unfolding dispatcher_line
-returns-in-Shown c = rw c.in-Shown.is c.kernel_line.ensures
+returns-in-Ok c = rw c.in-Ok.is c.kernel_line.ensures
 
-pub returns-in-Refused : goal.returns-in-Refused
+pub returns-in-Err : goal.returns-in-Err
 unfolding dispatcher_line
-returns-in-Refused c = rw c.in-Refused.is c.refused_line.ensures
+returns-in-Err c = rw c.in-Err.is c.refused_line.ensures

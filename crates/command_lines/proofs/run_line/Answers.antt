@@ -9,10 +9,10 @@ ended_line-requires c = c.requires
 pub refused_line-requires : goal.refused_line-requires
 refused_line-requires c = omega (arith, c.requires)
 
-pub returns-in-Ran : goal.returns-in-Ran
+pub returns-in-Ok : goal.returns-in-Ok
 unfolding run_line
-returns-in-Ran c = rw c.in-Ran.is c.ended_line.ensures
+returns-in-Ok c = rw c.in-Ok.is c.ended_line.ensures
 
-pub returns-in-Refused : goal.returns-in-Refused
+pub returns-in-Err : goal.returns-in-Err
 unfolding run_line
-returns-in-Refused c = rw c.in-Refused.is c.refused_line.ensures
+returns-in-Err c = rw c.in-Err.is c.refused_line.ensures

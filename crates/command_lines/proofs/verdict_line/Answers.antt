@@ -9,10 +9,10 @@ put_bytes-requires c = omega (arith, c.requires)
 pub refused_line-requires : goal.refused_line-requires
 refused_line-requires c = c.requires
 
-pub returns-in-Accepted : goal.returns-in-Accepted
+pub returns-in-Ok : goal.returns-in-Ok
 unfolding verdict_line
-returns-in-Accepted c = rw c.in-Accepted.is c.put_bytes.ensures
+returns-in-Ok c = rw c.in-Ok.is c.put_bytes.ensures
 
-pub returns-in-Refused : goal.returns-in-Refused
+pub returns-in-Err : goal.returns-in-Err
 unfolding verdict_line
-returns-in-Refused c = rw c.in-Refused.is c.refused_line.ensures
+returns-in-Err c = rw c.in-Err.is c.refused_line.ensures

@@ -6,7 +6,6 @@ use Rattle.words.specs.Laws.{same_word-bits, back}
 use Rattle.text_numbers.specs.PutLaws.{put-none, put_as}
 use Rattle.command_preview_lines.specs.Changes.{change_line}
 use Rattle.command_preview_lines.proofs.Changed.{unchanged, changed}
-use borrow.Author.Rules.{rules}
 use Rattle.command_preview_lines.proofs.change_at.Goals as goal
 
 pub returns-then-before-after : goal.returns-then-before-after

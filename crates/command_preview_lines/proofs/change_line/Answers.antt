@@ -17,7 +17,6 @@ use Rattle.text_numbers.specs.PutLaws.{put_as, put_byte, number-eleven}
 use Rattle.text_report.specs.Lines.{blank, spaced, line_of}
 use Rattle.text_report.proofs.Spacing.{SoFar, far-below, far-length, far-inside, far-space, far-next, place-few}
 use Rattle.command_preview_lines.specs.Changes.{colon, change_line}
-use borrow.Author.Rules.{rules}
 use Rattle.command_preview_lines.proofs.change_line.Goals as goal
 use Rattle.command_preview_lines.proofs.change_line.Goals.{After-slice_known-2-1, After-slice_known-3-1, After-slice_known-4-1}
 

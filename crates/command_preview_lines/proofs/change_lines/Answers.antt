@@ -1,26 +1,13 @@
 -- `change_lines` passes one place after the other; the invariant is `Passed`.
-use Prim.Native.Nat.{◌+◌, ◌-◌}
+use Prim.Native.Nat.{◌+◌}
 use native.Mathlib.Omega.{arith}
 use Rattle.words.specs.OverLaws.{back_in}
 use Rattle.command_preview_lines.proofs.Changed.{Passed, passed_start, passed_length, passed-inside, passed-end, passed-space, passed-next}
-use borrow.Author.Rules.{rules}
 use Rattle.command_preview_lines.proofs.change_lines.Goals as goal
 use Rattle.command_preview_lines.proofs.change_lines.Goals.{After-slice_known-in-loop-i-1}
 
 pub loop-i-init : goal.loop-i-init
 loop-i-init c = passed_start _ _ _ _ c.requires.size_in_bounds_2
-
-pub offset_bounds-store-i : goal.offset_bounds-store-i
-offset_bounds-store-i c = omega (arith, c.loop-i-test.true, c.requires.size_in_bounds.0, c.well_formed)
-
-pub bounds-store-i : goal.bounds-store-i
-bounds-store-i c = omega (arith, c.loop-i-test.true, c.requires.size_in_bounds.0)
-
-pub offset_bounds-left-i : goal.offset_bounds-left-i
-offset_bounds-left-i c = omega (arith, c.loop-i-test.true, c.requires.size_in_bounds.0, c.well_formed)
-
-pub bounds-left-i : goal.bounds-left-i
-bounds-left-i c = omega (arith, c.loop-i-test.true, c.requires.size_in_bounds.1)
 
 pub slice_bounds-change_at-count : goal.slice_bounds-change_at-count
 slice_bounds-change_at-count c = passed-inside c.loop-i.invariant
@@ -37,12 +24,6 @@ next c = passed-next c.loop-i.invariant c.loop-i-test.true c.change_at-arg-1.giv
 
 pub overflow_add-at : goal.overflow_add-at
 overflow_add-at c = omega (arith, passed-inside (next c), passed_length (next c), c.well_formed)
-
-pub overflow_add-i : goal.overflow_add-i
-overflow_add-i c = omega (arith, c.loop-i-test.true, c.requires.size_in_bounds.0, c.well_formed)
-
-pub loop-i-smaller : goal.loop-i-smaller
-loop-i-smaller c = omega (arith, c.loop-i-test.true)
 
 pub loop-i-preserved : goal.loop-i-preserved
 loop-i-preserved c = next c

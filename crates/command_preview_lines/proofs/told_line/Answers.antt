@@ -3,7 +3,7 @@ use mathlib.Core.Path.{◌≡◌, ◌∙◌}
 use mathlib.Core.List.{List, [], ◌∷◌, ◌++◌, append_assoc}
 use Prim.Native.Nat.{ℕ, ◌+◌}
 use native.Mathlib.Omega.{arith}
-use lib.ListN.{length, length-set}
+use lib.ListN.{length-set}
 use Rattle.words.specs.OverLaws.{back_in}
 use Rattle.words.specs.Answers.{ending_name}
 use Rattle.words.specs.declared.Ending.{Ending}
@@ -13,7 +13,6 @@ use Rattle.text_numbers.specs.PutLaws.{put_as, put_byte}
 use Rattle.text_report.specs.Lines.{blank, spaced, line_of}
 use Rattle.text_report.proofs.Spacing.{SoFar, far-below, far-length, far-inside, far-space, far-next, ending-few, count-few, place-few}
 use Rattle.command_preview_lines.specs.Changes.{told_line}
-use borrow.Author.Rules.{rules}
 use Rattle.command_preview_lines.proofs.told_line.Goals as goal
 use Rattle.command_preview_lines.proofs.told_line.Goals.{After-slice_known-2-1, After-slice_known-3-1, After-slice_known-4-1}
 

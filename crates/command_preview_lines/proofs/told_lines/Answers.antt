@@ -3,7 +3,6 @@ use native.Mathlib.Omega.{arith}
 use Rattle.text_numbers.specs.PutLaws.{put_next, put_back}
 use Rattle.text_report.proofs.Spacing.{SoFar, far-inside, far-space, far-total}
 use Rattle.command_preview_lines.specs.Changes.{told_line, preview_lines}
-use borrow.Author.Rules.{rules}
 use Rattle.command_preview_lines.proofs.told_lines.Goals as goal
 use Rattle.command_preview_lines.proofs.told_lines.Goals.{After-slice_known-2-1}
 

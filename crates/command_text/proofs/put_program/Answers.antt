@@ -1,6 +1,5 @@
 -- `put_program`: a table of rows of six words.
 use Rattle.command_text.proofs.Printing.{printable-table}
-use borrow.Author.Rules.{rules}
 use Rattle.command_text.proofs.put_program.Goals as goal
 
 pub put_table-requires : goal.put_table-requires

@@ -2,7 +2,6 @@
 use Prim.Native.Nat.{◌+◌}
 use native.Mathlib.Omega.{arith}
 use Rattle.command_text.proofs.Printing.{few_bytes, sizes-fill, put_first}
-use borrow.Author.Rules.{rules}
 use Rattle.command_text.proofs.put_table.Goals as goal
 
 pub size_of-requires : goal.size_of-requires

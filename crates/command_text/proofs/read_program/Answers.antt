@@ -1,6 +1,5 @@
 -- `read_program`: the answer of the reader, by what is printed for it.
 use Rattle.command_text.proofs.Readings.{read-for}
-use borrow.Author.Rules.{rules}
 use Rattle.command_text.proofs.read_program.Goals as goal
 
 pub returns : goal.returns

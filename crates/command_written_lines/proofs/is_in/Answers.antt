@@ -1,5 +1,4 @@
 -- `is_in`: the set of each sort.
-use borrow.Author.Rules.{rules}
 use Rattle.command_written_lines.proofs.is_in.Goals as goal
 
 pub has_array-requires : goal.has_array-requires

@@ -1,11 +1,10 @@
 -- `put_if`: the number, or nothing.
 use native.Mathlib.Omega.{arith}
-use mathlib.Core.List.{[], ◌∷◌}
+use mathlib.Core.List.{◌∷◌}
 use Rattle.text_numbers.specs.Number.{digits}
 use Rattle.text_numbers.specs.PutLaws.{digits-within}
 use Rattle.text_report.specs.Lines.{blank}
 use Rattle.command_written_lines.proofs.NumberLaws.{put-unwanted, put_wanted}
-use borrow.Author.Rules.{rules}
 use Rattle.command_written_lines.proofs.put_if.Goals as goal
 
 pub put_count-requires : goal.put_count-requires

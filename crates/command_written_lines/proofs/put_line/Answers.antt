@@ -8,7 +8,6 @@ use Rattle.text_numbers.specs.PutLaws.{put_byte}
 use Rattle.text_report.proofs.Spacing.{SoFar, far-below, far-length, far-inside, far-space, far-next}
 use Rattle.command_written_lines.specs.Lines.{numbers, name_of, bits_of, is_in, written_line}
 use Rattle.command_written_lines.proofs.NumberLaws.{name-few}
-use borrow.Author.Rules.{rules}
 use Rattle.command_written_lines.proofs.put_line.Goals as goal
 use Rattle.command_written_lines.proofs.put_line.Goals.{After-slice_known-2-1, After-slice_known-3-1}
 

@@ -7,7 +7,6 @@ use Rattle.text_numbers.specs.PutLaws.{put_next, put_back}
 use Rattle.text_report.proofs.Spacing.{SoFar, far-below, far-inside, far-space, far-next, far-total}
 use Rattle.command_written_lines.specs.Lines.{is_in, written_line}
 use Rattle.command_written_lines.specs.declared.PlaceSort.TheVariants.{Variables, Arrays}
-use borrow.Author.Rules.{rules}
 use Rattle.command_written_lines.proofs.put_lines.Goals as goal
 use Rattle.command_written_lines.proofs.put_lines.Goals.{After-slice_known-2-1, After-slice_known-3-1}
 

@@ -1,5 +1,4 @@
 -- `put_name`: the word of each sort.
-use borrow.Author.Rules.{rules}
 use Rattle.command_written_lines.proofs.put_name.Goals as goal
 
 pub returns-in-Variables : goal.returns-in-Variables

@@ -1,14 +1,7 @@
 -- `put_numbers`: one number after the other; the invariant is `Listed`.
-use native.Mathlib.Omega.{arith}
-use Prim.Native.Nat.{◌+◌, ◌-◌}
-use Rattle.words.specs.OverLaws.{back_in}
 use Rattle.command_written_lines.specs.Lines.{bits_of, is_in}
-use Rattle.command_written_lines.proofs.NumberLaws.{Listed, listed_start, listed-length, listed-inside, listed-space, listed_next, listed-end}
-use borrow.Author.Rules.{rules}
+use Rattle.command_written_lines.proofs.NumberLaws.{Listed}
 use Rattle.command_written_lines.proofs.put_numbers.Given as goal
 
 abbrev pub invariant-loop-i : goal.invariant-loop-i
 invariant-loop-i l = Listed (is_in l.set l.arrays l.sort) (bits_of l.sort) l.i l.at l.initial.text l.text
-
-abbrev pub decreases-loop-i : goal.decreases-loop-i
-decreases-loop-i l = l.bits - l.i

@@ -1,13 +1,16 @@
 -- `read`: cause 14 by the shape, the rest by `read_lines`.
+use Rattle.std.specs.Prelude.{◌≡◌, Ok}
 use Rattle.flat_text.specs.ReaderLaws.{reads-malformed}
 use borrow.Author.Rules.{rules}
+use Rattle.text_form.proofs.ReaderLaws.{err-is, mapped-ok, mapped-malformed}
 use Rattle.flat_text.proofs.read.Goals as goal
 
 pub read_lines-requires : goal.read_lines-requires
-read_lines-requires c = rw c.in-Lines.is at c.shape_of-shape.ensures
+read_lines-requires c =
+    let shape : c.shape_of.result ≡ Ok (c.in_ok-end.end, c.in_ok-end.numbers, c.in_ok-end.words) = mapped-ok c.shape_of.result _ _ _ c.map_err.ensures.cases c.in_ok-end.was in
+    rw shape at c.shape_of.ensures
 
-pub returns-in-Malformed : goal.returns-in-Malformed
-returns-in-Malformed c = reads-malformed _ _ _ _ (rw c.in-Malformed.is at c.shape_of-shape.ensures)
-
-pub returns-in-Lines : goal.returns-in-Lines
-returns-in-Lines c = c.read_lines.ensures
+pub returns-in_err-end : goal.returns-in_err-end
+returns-in_err-end c =
+    let bad = mapped-malformed c.shape_of.result c.map_err.result _ c.in_err-end.field-0.0 c.map_err.ensures.cases c.in_err-end.was (λ e d k. search rules) in
+    rw (err-is _ _ c.from_residual.ensures.1, bad.2) (reads-malformed _ _ _ _ (rw bad.1 at c.shape_of.ensures))

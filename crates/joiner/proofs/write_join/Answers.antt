@@ -3,7 +3,6 @@ use mathlib.Core.Path.{sym}
 use native.Mathlib.Omega.{arith}
 use Rattle.join.specs.Join.{joined_rows}
 use Rattle.joiner.specs.JoinerLaws.{parts-length, no_room, with-room}
-use borrow.Author.Rules.{rules}
 use Rattle.joiner.proofs.write_join.Goals as goal
 
 pub returns-then-words-out : goal.returns-then-words-out

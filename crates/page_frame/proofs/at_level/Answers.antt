@@ -11,8 +11,8 @@ returns-in_default c =
 
 pub returns-then-start-indent_of : goal.returns-then-start-indent_of
 returns-then-start-indent_of c =
-    level-is _ _ _ c.in-Read.found c.in-Read.is (c.if-start-indent_of.true ∙ c.indent_of.ensures ∙ ap indent c.level_of.ensures)
+    level-is _ _ _ c.in-Some.found c.in-Some.is (c.if-start-indent_of.true ∙ c.indent_of.ensures ∙ ap indent c.level_of.ensures)
 
 pub returns : goal.returns
 returns c =
-    level-not _ _ _ c.in-Read.found c.in-Read.is (λ e. c.if-start-indent_of.false (e ∙ sym (c.indent_of.ensures ∙ ap indent c.level_of.ensures)))
+    level-not _ _ _ c.in-Some.found c.in-Some.is (λ e. c.if-start-indent_of.false (e ∙ sym (c.indent_of.ensures ∙ ap indent c.level_of.ensures)))

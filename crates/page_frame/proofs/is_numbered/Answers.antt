@@ -15,10 +15,10 @@ pub slice_bounds-number_below-start : goal.slice_bounds-number_below-start
 slice_bounds-number_below-start c =
     omega (arith, c.leading_blanks-start.ensures, leading-within c.args.columns.now)
 
-pub returns-in-Number : goal.returns-in-Number
-returns-in-Number c =
-    sym (ap (is_number c.args.number) c.in-Number.is) ∙ numbered-by c.args.number c.args.columns.now c.leading_blanks-start.result c.number_below-read.result c.leading_blanks-start.ensures c.number_below-read.ensures
+pub returns-in-Some : goal.returns-in-Some
+returns-in-Some c =
+    sym (ap (is_number c.args.number) c.in-Some.is) ∙ numbered-by c.args.number c.args.columns.now c.leading_blanks-start.result c.number_below-read.result c.leading_blanks-start.ensures c.number_below-read.ensures
 
-pub returns-in-Malformed : goal.returns-in-Malformed
-returns-in-Malformed c =
-    sym (ap (is_number c.args.number) c.in-Malformed.is) ∙ numbered-by c.args.number c.args.columns.now c.leading_blanks-start.result c.number_below-read.result c.leading_blanks-start.ensures c.number_below-read.ensures
+pub returns-in-None : goal.returns-in-None
+returns-in-None c =
+    sym (ap (is_number c.args.number) c.in-None.is) ∙ numbered-by c.args.number c.args.columns.now c.leading_blanks-start.result c.number_below-read.result c.leading_blanks-start.ensures c.number_below-read.ensures

@@ -16,13 +16,13 @@ names_of-names-requires c =
 
 pub read_whole-requires : goal.read_whole-requires
 read_whole-requires c =
-    (sym c.header_fits.ensures ∙ c.if-not-header_fits.false, c.names_of-names.ensures, sym c.scan-scanned.ensures ∙ c.in-Whole.is)
+    (sym c.header_fits.ensures ∙ c.if-not-header_fits.false, c.names_of-names.ensures, sym c.scan-scanned.ensures ∙ c.in-Ok.is)
 
-pub returns-in-Whole : goal.returns-in-Whole
-returns-in-Whole c =
-    record { rows_after = by-scan c.args.header.now c.args.page.now c.args.rows.now (sym c.header_fits.ensures ∙ c.if-not-header_fits.false) _ c.names_of-names.ensures _ (sym c.in-Whole.is ∙ c.scan-scanned.ensures) _ c.read_whole.ensures.rows_after; gives_rows = c.read_whole.ensures.gives_rows }
+pub returns-in-Ok : goal.returns-in-Ok
+returns-in-Ok c =
+    record { rows_after = by-scan c.args.header.now c.args.page.now c.args.rows.now (sym c.header_fits.ensures ∙ c.if-not-header_fits.false) _ c.names_of-names.ensures _ (sym c.in-Ok.is ∙ c.scan-scanned.ensures) _ c.read_whole.ensures.rows_after; gives_rows = c.read_whole.ensures.gives_rows }
 
-pub returns-in-Wrong : goal.returns-in-Wrong
-returns-in-Wrong c =
-    let both = line_refused c.args.header.now c.args.page.now c.args.rows.now (sym c.header_fits.ensures ∙ c.if-not-header_fits.false) _ c.names_of-names.ensures _ c.scan-scanned.ensures _ _ c.refused-in-Wrong.ensures c.in-Wrong.is in
+pub returns-in-Err : goal.returns-in-Err
+returns-in-Err c =
+    let both = line_refused c.args.header.now c.args.page.now c.args.rows.now (sym c.header_fits.ensures ∙ c.if-not-header_fits.false) _ c.names_of-names.ensures _ c.scan-scanned.ensures _ _ c.refused-in-Err.ensures c.in-Err.is in
     record { rows_after = both.0; gives_rows = both.1 }

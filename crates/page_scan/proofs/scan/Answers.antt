@@ -49,7 +49,7 @@ pass_line-next-requires c =
 
 pub returns-in_default-next : goal.returns-in_default-next
 returns-in_default-next c =
-    wrong-block c.loop-k.invariant.0 c.loop-k-test.true c.line_in-read.result c.line_in-read.ensures c.in-Read.line c.in-Read.is (rw c.in_default-next.is at c.pass_line-next.ensures.around_after)
+    wrong-block c.loop-k.invariant.0 c.loop-k-test.true c.line_in-read.result c.line_in-read.ensures c.in-Some.line c.in-Some.is (rw c.in_default-next.is at c.pass_line-next.ensures.around_after)
 
 pub overflow_add-rows : goal.overflow_add-rows
 overflow_add-rows c =
@@ -61,7 +61,7 @@ loop-k-smaller c =
 
 pub loop-k-preserved : goal.loop-k-preserved
 loop-k-preserved c =
-    (scanning-next c.loop-k.invariant.0 c.loop-k-test.true c.line_in-read.result c.line_in-read.ensures c.in-Read.line c.in-Read.is _ _ _ _ (rw c.in-To.is at c.pass_line-next.ensures.around_after) (rw c.in-To.is at c.pass_line-next.ensures.result_bound.0) c.rows_of-rows.ensures.value c.rows_of-rows.ensures.upper_bound, c.pass_line-next.ensures.result_bound.1)
+    (scanning-next c.loop-k.invariant.0 c.loop-k-test.true c.line_in-read.result c.line_in-read.ensures c.in-Some.line c.in-Some.is _ _ _ _ (rw c.in-Some-next.is at c.pass_line-next.ensures.around_after) (rw c.in-Some-next.is at c.pass_line-next.ensures.result_bound.0) c.rows_of-rows.ensures.value c.rows_of-rows.ensures.upper_bound, c.pass_line-next.ensures.result_bound.1)
 
 pub overflow_mul-k : goal.overflow_mul-k
 overflow_mul-k c =

@@ -1,15 +1,16 @@
 -- `dispatcher_run` hands the check's refusal on, or the answer for an accepted program.
 use mathlib.Core.Path.{sym, ◌∙◌}
+use Rattle.std.proofs.lemmas.Result.{err_from_is_err_and}
 use Rattle.program_dispatcher.specs.DispatcherRuns.{dispatcher_result}
 use Rattle.program_dispatcher.proofs.dispatcher_run.Goals as goal
 
 pub run_shown-requires : goal.run_shown-requires
-run_shown-requires c = sym c.kernel_check-verdict.ensures.value ∙ c.in-Accepted.is
+run_shown-requires c = sym c.kernel_check.ensures.value ∙ c.in_ok-kernel_check.was
 
-pub returns-in-Accepted : goal.returns-in-Accepted
+pub returns-in_err-kernel_check : goal.returns-in_err-kernel_check
 unfolding dispatcher_result
-returns-in-Accepted c = rw (← c.kernel_check-verdict.ensures.value, c.in-Accepted.is) c.run_shown.ensures
+returns-in_err-kernel_check c = let p = err_from_is_err_and c.from_residual.result c.from_residual.ensures.1 in rw (p.1, p.2, ← c.kernel_check.ensures.value, c.in_err-kernel_check.was)
 
-pub returns-in-Refused : goal.returns-in-Refused
+pub returns : goal.returns
 unfolding dispatcher_result
-returns-in-Refused c = rw (← c.kernel_check-verdict.ensures.value, c.in-Refused.is)
+returns c = rw (← c.kernel_check.ensures.value, c.in_ok-kernel_check.was) c.run_shown.ensures

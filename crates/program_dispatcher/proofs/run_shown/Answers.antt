@@ -14,14 +14,12 @@ store_size-requires c = accepted-header Kernel c.args.header.now c.args.rows.now
 
 pub returns-then-words-store_size : goal.returns-then-words-store_size
 returns-then-words-store_size c =
-    let s = c in
-    rw (ne_eqb (length s.args.words.now) (store_size (layout_of Kernel s.args.header.now)) (λ e. omega (arith, c.if-words-store_size.true, c.store_size.ensures, e)))
+    rw (ne_eqb (length c.args.words.now) (store_size (layout_of Kernel c.args.header.now)) (λ e. omega (arith, c.if-words-store_size.true, c.store_size.ensures, e)))
 
 pub run_on_words-requires : goal.run_on_words-requires
 run_on_words-requires c = record { rows_value = c.requires; words_len = omega (arith, c.if-words-store_size.false, c.store_size.ensures) }
 
 pub returns : goal.returns
 returns c =
-    let s = c in
-    let same : length s.args.words.now ≡ store_size (layout_of Kernel s.args.header.now) = omega (arith, c.if-words-store_size.false, c.store_size.ensures) in
-    rw (eq-eqb (length s.args.words.now) (store_size (layout_of Kernel s.args.header.now)) same) (ap shown c.run_on_words.ensures)
+    let same : length c.args.words.now ≡ store_size (layout_of Kernel c.args.header.now) = omega (arith, c.if-words-store_size.false, c.store_size.ensures) in
+    rw (eq-eqb (length c.args.words.now) (store_size (layout_of Kernel c.args.header.now)) same) (ap shown c.run_on_words.ensures)

@@ -24,18 +24,18 @@ counted i before after tally more t f g m =
 
 pub loop-i-init : goal.loop-i-init
 unfolding differences
-loop-i-init c = (search rules, refl)
+loop-i-init c = refl
 
 next : (c : After-differs-tally) → c.loop-i.tally + c.differs-tally.result ≡ differences (c.loop-i.i + 1) c.args.store.now c.args.copy.now
-next c = counted _ _ _ _ _ c.loop-i.invariant.1 c.differs-arg-1.given c.differs-arg-in-loop-i-1.given c.differs-tally.ensures
+next c = counted _ _ _ _ _ c.loop-i.invariant c.differs-arg-1.given c.differs-arg-in-loop-i-1.given c.differs-tally.ensures
 
 pub overflow_add-tally : goal.overflow_add-tally
 overflow_add-tally c = omega (arith, next c, differences-most (c.loop-i.i + 1) c.args.store.now c.args.copy.now)
 
 pub loop-i-preserved : goal.loop-i-preserved
-loop-i-preserved c = (omega arith, next c)
+loop-i-preserved c = next c
 
 pub returns : goal.returns
 returns c =
     let e : c.loop-i.i ≡ c.args.size = omega arith in
-    rw e at c.loop-i.invariant.1
+    rw e at c.loop-i.invariant

@@ -5,7 +5,4 @@ use Rattle.program_previews.specs.Previews.{differences}
 use Rattle.program_previews.proofs.count_differences.Given as goal
 
 abbrev pub invariant-loop-i : goal.invariant-loop-i
-invariant-loop-i l = (l.i ≤ l.size) × (l.tally ≡ differences l.i l.store l.copy)
-
-abbrev pub decreases-loop-i : goal.decreases-loop-i
-decreases-loop-i l = l.size - l.i
+invariant-loop-i l = l.tally ≡ differences l.i l.store l.copy

@@ -7,11 +7,9 @@ use Rattle.program_previews.proofs.differs.Goals as goal
 pub returns-then-word-other : goal.returns-then-word-other
 unfolding difference
 returns-then-word-other c =
-    let start = c.before in
-    rw (← same_word-bits start.args.word start.args.other start.ranges.word.sfits start.ranges.other.sfits, eq-eqb _ _ c.if-word-other.true)
+    rw (← same_word-bits c.args.word c.args.other c.ranges.word.sfits c.ranges.other.sfits, eq-eqb _ _ c.if-word-other.true)
 
 pub returns : goal.returns
 unfolding difference
 returns c =
-    let start = c.before in
-    rw (← same_word-bits start.args.word start.args.other start.ranges.word.sfits start.ranges.other.sfits, ne_eqb _ _ c.if-word-other.false)
+    rw (← same_word-bits c.args.word c.args.other c.ranges.word.sfits c.ranges.other.sfits, ne_eqb _ _ c.if-word-other.false)

@@ -1,16 +1,17 @@
 -- `preview` hands the check's refusal on, or the preview of an accepted program.
 use mathlib.Core.Path.{sym, ◌∙◌}
+use Rattle.std.proofs.lemmas.Result.{err_from_is_err_and}
 use Rattle.program_runs.specs.Runs.{run_result}
 use Rattle.program_previews.specs.Previews.{preview_result}
 use Rattle.program_previews.proofs.preview.Goals as goal
 
 pub preview_accepted-requires : goal.preview_accepted-requires
-preview_accepted-requires c = sym c.check-verdict.ensures.value ∙ c.in-Accepted.is
+preview_accepted-requires c = sym c.check.ensures.value ∙ c.in_ok-check.was
 
-pub returns-in-Accepted : goal.returns-in-Accepted
+pub returns-in_err-check : goal.returns-in_err-check
 unfolding preview_result run_result
-returns-in-Accepted c = rw (← c.check-verdict.ensures.value, c.in-Accepted.is) c.preview_accepted.ensures
+returns-in_err-check c = let p = err_from_is_err_and c.from_residual.result c.from_residual.ensures.1 in rw (p.1, p.2, ← c.check.ensures.value, c.in_err-check.was)
 
-pub returns-in-Refused : goal.returns-in-Refused
+pub returns : goal.returns
 unfolding preview_result run_result
-returns-in-Refused c = rw (← c.check-verdict.ensures.value, c.in-Refused.is)
+returns c = rw (← c.check.ensures.value, c.in_ok-check.was) c.preview_accepted.ensures

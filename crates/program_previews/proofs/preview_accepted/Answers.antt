@@ -1,4 +1,5 @@
 -- `preview_accepted` gives cause 11 for a store of another size, cause 15 for a shorter scratch, and else the preview of the run.
+use Rattle.std.specs.Prelude.{Ok}
 use mathlib.Core.Path.{ap, ◌∙◌}
 use mathlib.Core.List.{◌++◌}
 use Prim.Native.Nat.{ℕ}
@@ -8,7 +9,6 @@ use lib.Seq.{length-take-le, length_front}
 use Rattle.words.specs.declared.Form.TheVariants.{Source}
 use Rattle.program_runs.proofs.AcceptedLaws.{accepted-header}
 use Rattle.program_previews.specs.Previews.{answer_and_words}
-use Rattle.program_previews.specs.declared.PreviewVerdict.TheVariants.{Previewed}
 use Rattle.program_previews.proofs.PreviewLaws.{store-refused, scratch-refused, run-told}
 use Rattle.program_previews.proofs.preview_accepted.Goals as goal
 use Rattle.program_previews.proofs.preview_accepted.Goals.{Else-scratch-words}
@@ -37,5 +37,5 @@ pub returns : goal.returns
 returns c =
     let call = c.preview_on_copy in
     let size = c.store_words-words.ensures in
-    ap (λ (n : ℕ). answer_and_words (Previewed call.result) c.args.store.now (call.new.copy ++ drop n c.args.scratch.now)) size
+    ap (λ (n : ℕ). answer_and_words (Ok call.result) c.args.store.now (call.new.copy ++ drop n c.args.scratch.now)) size
     ∙ run-told c.args.header.now c.args.rows.now c.args.budget c.args.store.now c.args.scratch.now (omega (arith, c.if-store-words.false, size)) (omega (arith, c.if-scratch-words.false, size)) call.result _ call.ensures

@@ -14,14 +14,12 @@ store_words-requires c = accepted-header c.args.form c.args.header.now c.args.ro
 
 pub returns-then-store-store_words : goal.returns-then-store-store_words
 returns-then-store-store_words c =
-    let s = c in
-    rw (ne_eqb (length s.args.store.now) (store_words s.args.form s.args.header.now s.args.rows.now) (λ e. omega (arith, c.if-store-store_words.true, c.store_words.ensures, e)))
+    rw (ne_eqb (length c.args.store.now) (store_words c.args.form c.args.header.now c.args.rows.now) (λ e. omega (arith, c.if-store-store_words.true, c.store_words.ensures, e)))
 
 pub run_accepted-requires : goal.run_accepted-requires
 run_accepted-requires c = record { rows_value = c.requires; store_len = omega (arith, c.if-store-store_words.false, c.store_words.ensures) }
 
 pub returns : goal.returns
 returns c =
-    let s = c in
-    let same : length s.args.store.now ≡ store_words s.args.form s.args.header.now s.args.rows.now = omega (arith, c.if-store-store_words.false, c.store_words.ensures) in
-    rw (eq-eqb (length s.args.store.now) (store_words s.args.form s.args.header.now s.args.rows.now) same) (ap ran c.run_accepted.ensures)
+    let same : length c.args.store.now ≡ store_words c.args.form c.args.header.now c.args.rows.now = omega (arith, c.if-store-store_words.false, c.store_words.ensures) in
+    rw (eq-eqb (length c.args.store.now) (store_words c.args.form c.args.header.now c.args.rows.now) same) (ap ran c.run_accepted.ensures)

@@ -4,9 +4,6 @@ use Prim.Native.Nat.{◌≤◌}
 use lib.ListN.{length}
 use Rattle.programs.proofs.answer_input.Given as goal
 
-abbrev pub invariant-loop-turns : goal.invariant-loop-turns
-invariant-loop-turns g l =
+abbrev pub invariant-loop-turn : goal.invariant-loop-turn
+invariant-loop-turn g l =
     (length l.buffer ≡ length l.initial.buffer) × ((length l.kernel_rows ≡ length l.initial.kernel_rows) × ((length l.text ≡ length l.initial.text) × ((length l.read_rows ≡ length l.initial.read_rows) × (l.filled ≤ length l.buffer))))
-
-abbrev pub decreases-loop-turns : goal.decreases-loop-turns
-decreases-loop-turns g l = l.turns

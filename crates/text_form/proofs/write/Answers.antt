@@ -1,22 +1,21 @@
 -- `write`: causes 1 and 2, then 10 by the sizes, then the text is put.
+use Rattle.std.specs.Prelude.{None}
 use mathlib.Core.Path.{◌≡◌, sym, ap, ◌∙◌}
 use native.Mathlib.Omega.{arith}
 use mathlib.Core.Bool.{true}
-use mathlib.Core.Option.{none}
 use lib.ListN.{length}
 use Rattle.text_form.specs.Answers.{cause_of}
 use Rattle.text_form.specs.Reader.{cause_says}
 use Rattle.text_form.proofs.Sizing.{Sized, Limited, limited, sized-fills, writes_short, writes-all, writes-cause}
-use borrow.Author.Rules.{rules}
 use Rattle.text_form.proofs.write.Goals as goal
 use Rattle.text_form.proofs.write.Goals.{After-size_of-2, In_default}
 
-pub returns-in-Number : goal.returns-in-Number
-returns-in-Number c = writes-cause _ _ _ _ _ (sym c.first_cause-cause.ensures ∙ ap cause_says c.in-Number.is)
+pub returns-in-Some : goal.returns-in-Some
+returns-in-Some c = writes-cause _ _ _ _ _ (sym c.first_cause.ensures ∙ ap cause_says c.in-Some.is)
 
 -- no cause but 10 is left
-passes : (c : In_default) → cause_of c.args.form c.args.header.now (length c.args.rows.now) true ≡ none
-passes c = sym c.first_cause-cause.ensures ∙ ap cause_says c.in_default.is
+passes : (c : In_default) → cause_of c.args.form c.args.header.now (length c.args.rows.now) true ≡ None
+passes c = sym c.first_cause.ensures ∙ ap cause_says c.in_default.is
 
 limits : (c : In_default) → Limited c.args.header.now c.args.rows.now
 limits c = limited c.args.form _ _ (passes c)

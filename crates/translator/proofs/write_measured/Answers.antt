@@ -1,4 +1,5 @@
 -- `write_measured` tests the room that the program's measures ask for, and writes both tables: they are the kernel form's.
+use Rattle.std.specs.Prelude.{Ok}
 use mathlib.Core.Path.{◌≡◌, sym, ap, subst, ◌∙◌}
 use mathlib.Core.List.{List}
 use Prim.Native.Nat.{ℕ, ◌+◌, ◌≤◌}
@@ -16,10 +17,8 @@ use Rattle.measures_table.specs.Parts.{called_in}
 use Rattle.measures_table.specs.Measures.{Measured, ProgramMeasured}
 use Rattle.writers_programs.specs.Asks.{ProgramAsks, kernel_program}
 use Rattle.translation_fate.specs.KernelForms.{kernel_header_of, kernel_rows_of}
-use Rattle.words.specs.declared.Verdict.TheVariants.{Accepted}
 use Rattle.translator.specs.Translation.{answer_and_tables, translate_after}
 use Rattle.translator.proofs.TranslationLaws.{header-short, rows_short, both-written}
-use Rattle.translator.specs.declared.TranslateAnswer.TheVariants.{Translated}
 use Rattle.translator.specs.AcceptedLaws.{accepted-header, few_declarations, first_is, first-low, accepted-asks, temporaries-low, header-words, row-words, row-words-low, header_is, rows_are}
 use Rattle.translator.proofs.write_measured.Goals as goal
 use Rattle.translator.proofs.write_measured.Goals.{After-measured_program-program, After-store_size, Start}
@@ -31,7 +30,7 @@ measured start = subst (λ (l : List ℤ). Measured l start.args.table.now) star
 -- what stands in both tables, where they have room
 all-written : (header rows outHeader outRows : List ℤ) {n k : ℕ} {headerLeft rows_left : List ℤ} → n ≡ length (kernel_header_of header rows) → k ≡ length (kernel_rows_of header rows)
     → headerLeft ≡ over (kernel_header_of header rows) outHeader → rows_left ≡ over (kernel_rows_of header rows) outRows → n ≤ length outHeader → k ≤ length outRows
-    → answer_and_tables (Translated n k) headerLeft rows_left ≡ translate_after Accepted header rows outHeader outRows
+    → answer_and_tables (Ok (n, k)) headerLeft rows_left ≡ translate_after (Ok tt) header rows outHeader outRows
 all-written header rows outHeader outRows en ek eh er hn hk =
     rw (en, ek, eh, er) (both-written (kernel_header_of header rows) (kernel_rows_of header rows) outHeader outRows (omega (arith, en, hn)) (omega (arith, ek, hk)))
 

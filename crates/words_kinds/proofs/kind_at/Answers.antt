@@ -1,6 +1,5 @@
 -- `kind_at` is the kind with the number in the row.
 use mathlib.Core.Path.{ap, ◌∙◌}
-use borrow.Author.Rules.{rules}
 use Rattle.words.specs.Kinds.{kind_of, kind_at}
 use Rattle.words_kinds.proofs.kind_at.Goals as goal
 

@@ -1,9 +1,9 @@
 -- `operator_of` is the order of the operators.
-use mathlib.Core.Path.{◌≡◌, refl, sym, ap}
+use mathlib.Core.Path.{◌≡◌, sym, ap}
 use Prim.Native.Nat.{ℕ, ◌≤◌}
 use native.Mathlib.Omega.{arith}
 use lib.Dec.{eqb}
-use lib.ListN.{length, get_or-eq_default}
+use lib.ListN.{get_or-eq_default}
 use borrow.Author.Tests.{eqb-true, eqb-false}
 use Rattle.words.specs.Kinds.{operators, operator_of}
 use Rattle.words.specs.KindLaws.{passed}

@@ -1,6 +1,5 @@
 -- `write_sets::bit_of` meets its contract: a variable's bit, or a declared word's.
 use native.Mathlib.Omega.{arith}
-use borrow.Author.Rules.{rules}
 use Rattle.write_sets.specs.SetLaws.{found_below, found-behind}
 use Rattle.write_sets.proofs.bit_of.Goals as goal
 

@@ -7,4 +7,4 @@ use Rattle.write_sets_entry.proofs.accepted_count.Goals as goal
 
 pub returns : goal.returns
 returns c =
-    written_count (resolved_rows Source c.args.header.now c.args.rows.now) c.accepted_writes-sets.ensures.variables c.count.ensures
+    written_count (resolved_rows Source c.args.header.now c.args.rows.now) c.accepted_writes.ensures.variables c.count.ensures

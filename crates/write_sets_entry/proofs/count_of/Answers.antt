@@ -4,10 +4,10 @@ use borrow.Author.Rules.{rules}
 use Rattle.write_sets_entry.proofs.count_of.Goals as goal
 
 pub accepted_count-requires : goal.accepted_count-requires
-accepted_count-requires c = accepted-of c.args.header.now c.args.rows.now c.check-verdict.ensures c.in-Accepted.is
+accepted_count-requires c = accepted-of c.args.header.now c.args.rows.now c.check-verdict.ensures c.in-Ok.is
 
-pub returns-in-Accepted : goal.returns-in-Accepted
-returns-in-Accepted c = count-accepted c.args.header.now c.args.rows.now c.check-verdict.ensures c.in-Accepted.is c.accepted_count.ensures
+pub returns-in-Ok : goal.returns-in-Ok
+returns-in-Ok c = count-accepted c.args.header.now c.args.rows.now c.check-verdict.ensures c.in-Ok.is c.accepted_count.ensures
 
-pub returns-in-Refused : goal.returns-in-Refused
-returns-in-Refused c = count-refused c.args.header.now c.args.rows.now c.check-verdict.ensures _ c.in-Refused.is
+pub returns-in-Err : goal.returns-in-Err
+returns-in-Err c = count-refused c.args.header.now c.args.rows.now c.check-verdict.ensures _ c.in-Err.is

@@ -4,4 +4,4 @@ use Rattle.text_lines.specs.CountLaws.{counted-fits}
 use Rattle.cases.proofs.start.start_words.Goals as goal
 
 pub store_numbers-requires : goal.store_numbers-requires
-store_numbers-requires c = counted-fits _ _ _ _ c.count_numbers-count.ensures c.in-Numbers.is (omega (arith, c.if-n-store.false))
+store_numbers-requires c = counted-fits _ _ _ _ c.count_numbers-count.ensures c.in-Some.is (omega (arith, c.if-n-store.false))

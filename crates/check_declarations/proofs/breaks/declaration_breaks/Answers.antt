@@ -21,7 +21,7 @@ outside_block-requires c =
 pub named_from-requires : goal.named_from-requires
 named_from-requires c =
     let start = c.before.before.before.before in
-    (start.requires.0, part-inside _ start.requires.0 _ 2 _ start.requires.1 (omega arith) c.link.ensures, start.requires.4)
+    (start.requires.0, part-inside _ start.requires.0 _ 2 _ start.requires.1 (omega arith) c.link.ensures)
 
 pub number_before-requires : goal.number_before-requires
 unfolding looked_up
@@ -34,7 +34,7 @@ unfolding looked_up
 as_parameter-requires c =
     let start = c.before.before.before.before in
     let is = c.wide.ensures ∙ (rw c.in-DeclaredAsParameter.is at (start.requires.3.is start.args.row start.requires.1)) in
-    (start.requires.0, omega (arith, is, body_inside start.args.rows.now start.requires.0 start.args.row start.requires.1), start.requires.1, start.requires.4)
+    (start.requires.0, omega (arith, is, body_inside start.args.rows.now start.requires.0 start.args.row start.requires.1), start.requires.1)
 
 pub returns-in-OutsideBlock : goal.returns-in-OutsideBlock
 unfolding breaks outside_block looked_up

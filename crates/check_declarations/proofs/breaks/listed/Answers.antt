@@ -31,7 +31,7 @@ returns-then-number_at-number c =
     sym (at.invariant.1 ∙ some-here _ s.requires.0 _ at.parameter c.if-parameter-eq0.false at.invariant.0 (eq-eqb _ _ (sym c.number_at.ensures ∙ c.if-number_at-number.true ∙ c.number_at-number.ensures)))
 
 pub link-parameter-requires : goal.link-parameter-requires
-link-parameter-requires c = let s = c.before.before.before.before.before in let n = c.loop-parameter.invariant.0 in let whole = s.requires.0.whole in (omega arith, omega arith, s.requires.3)
+link-parameter-requires c = let s = c.before.before.before.before.before in let n = c.loop-parameter.invariant.0 in let whole = s.requires.0.whole in (omega arith, omega arith)
 
 pub loop-parameter-smaller : goal.loop-parameter-smaller
 loop-parameter-smaller c =

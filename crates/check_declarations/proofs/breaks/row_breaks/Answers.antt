@@ -7,7 +7,7 @@ use Rattle.check_declarations.proofs.breaks.row_breaks.Goals as goal
 pub declaration_breaks-requires : goal.declaration_breaks-requires
 declaration_breaks-requires c =
     let start = c.before.before.before in
-    (start.requires.0, start.requires.1, sym c.is_declaration.ensures ∙ c.if-is_declaration.true, start.requires.2, start.requires.3)
+    (start.requires.0, start.requires.1, sym c.is_declaration.ensures ∙ c.if-is_declaration.true, start.requires.2)
 
 pub returns : goal.returns
 returns c =

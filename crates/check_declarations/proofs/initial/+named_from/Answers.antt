@@ -26,14 +26,14 @@ returns-then-names_number t c =
 
 pub loop-field-init : goal.loop-field-init
 loop-field-init t c =
-    (omega arith, tried-start _ _)
+    tried-start _ _
 
 pub link-requires : goal.link-requires
 link-requires t c =
     let start = c.before.before.before.before.before in
     let n = start.requires.1 in
     let whole = start.requires.0.whole in
-    (omega arith, omega arith, start.requires.2)
+    (omega arith, omega arith)
 
 pub named_from-requires : goal.named_from-requires
 named_from-requires t c =
@@ -42,20 +42,20 @@ named_from-requires t c =
     let h : c.loop-field.field < 6 = omega arith in
     let less = part_falls _ tree _ _ _ c.if-row-eq0.false start.requires.1 h c.link.ensures in
     let same = start.decreases in
-    (omega arith, (tree, part-inside _ tree _ _ _ start.requires.1 h c.link.ensures, start.requires.2))
+    (omega arith, (tree, part-inside _ tree _ _ _ start.requires.1 h c.link.ensures))
 
 pub returns-then-named_from : goal.returns-then-named_from
 returns-then-named_from t c =
     let start = c.before.before.before.before.before.before.before.before in
-    tried-hit _ 6 _ _ (omega arith) c.loop-field.invariant.1 (c.named_from.ensures ∙ ap (named_from _ _) c.link.ensures) c.if-named_from.true
+    tried-hit _ 6 _ _ (omega arith) c.loop-field.invariant (c.named_from.ensures ∙ ap (named_from _ _) c.link.ensures) c.if-named_from.true
     ∙ sym (below-only _ start.requires.0 _ _ _ c.if-row-eq0.false start.requires.1 c.names_number.ensures c.if-names_number.false)
 
 pub loop-field-preserved : goal.loop-field-preserved
 loop-field-preserved t c =
-    (omega arith, tried-on _ 6 _ _ (omega arith) c.loop-field.invariant.1 (c.named_from.ensures ∙ ap (named_from _ _) c.link.ensures) c.if-named_from.false)
+    tried-on _ 6 _ _ (omega arith) c.loop-field.invariant (c.named_from.ensures ∙ ap (named_from _ _) c.link.ensures) c.if-named_from.false
 
 pub returns : goal.returns
 returns t c =
     let start = c.before.before.before.before.before in
-    tried-end _ 6 _ (omega arith) c.loop-field.invariant.1
+    tried-end _ 6 _ (omega arith) c.loop-field.invariant
     ∙ sym (below-only _ start.requires.0 _ _ _ c.if-row-eq0.false start.requires.1 c.names_number.ensures c.if-names_number.false)

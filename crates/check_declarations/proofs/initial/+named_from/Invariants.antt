@@ -17,8 +17,4 @@ decreases-named_from l =
 
 abbrev pub invariant-loop-field : goal.invariant-loop-field
 invariant-loop-field l =
-    (l.field ≤ 6) × Tried (λ (f : ℕ). named_from l.rows l.number (link_of l.rows l.row f)) 6 l.field
-
-abbrev pub decreases-loop-field : goal.decreases-loop-field
-decreases-loop-field l =
-    6 - l.field
+    Tried (λ (f : ℕ). named_from l.rows l.number (link_of l.rows l.row f)) 6 l.field

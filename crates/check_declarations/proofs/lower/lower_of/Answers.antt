@@ -3,11 +3,11 @@ use Rattle.check_declarations.specs.Lower.{lower}
 use borrow.Author.Rules.{rules}
 use Rattle.check_declarations.proofs.lower.lower_of.Goals as goal
 
-pub returns-in-At : goal.returns-in-At
-returns-in-At c =
-    rw c.in-At.is c.lower_than.ensures
+pub returns-in-Some : goal.returns-in-Some
+returns-in-Some c =
+    rw c.in-Some.is c.lower_than.ensures
 
-pub returns-in-Nothing : goal.returns-in-Nothing
+pub returns-in-None : goal.returns-in-None
 unfolding lower
-returns-in-Nothing c =
-    rw c.in-Nothing.is
+returns-in-None c =
+    rw c.in-None.is

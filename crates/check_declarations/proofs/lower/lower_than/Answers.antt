@@ -1,8 +1,8 @@
 -- `lower_than` compares the two rows, where there are two.
+use Rattle.std.specs.Prelude.{Some}
 use mathlib.Core.Path.{◌≡◌, ap}
 use Prim.Native.Nat.{min}
 use native.Mathlib.Omega.{arith}
-use Rattle.words.specs.declared.Found.TheVariants.{At}
 use Rattle.check_declarations.specs.Lower.{lower}
 use borrow.Author.Rules.{rules}
 use Rattle.check_declarations.proofs.lower.lower_than.Goals as goal
@@ -10,14 +10,14 @@ use Rattle.check_declarations.proofs.lower.lower_than.Goals as goal
 pub returns-then-found-row : goal.returns-then-found-row
 unfolding lower
 returns-then-found-row c =
-    rw c.in-At.is (ap At (omega arith))
+    rw c.in-Some.is (ap Some (omega arith))
 
 pub returns-else-found-row : goal.returns-else-found-row
 unfolding lower
 returns-else-found-row c =
-    rw c.in-At.is (ap At (omega arith))
+    rw c.in-Some.is (ap Some (omega arith))
 
-pub returns-in-Nothing : goal.returns-in-Nothing
+pub returns-in-None : goal.returns-in-None
 unfolding lower
-returns-in-Nothing c =
-    rw c.in-Nothing.is
+returns-in-None c =
+    rw c.in-None.is

@@ -11,7 +11,7 @@ use Rattle.check_functions.proofs.breaks.calls_wrongly.Goals as goal
 
 pub is_wrong_call-requires : goal.is_wrong_call-requires
 is_wrong_call-requires c =
-    let start = c.before.before.before.before.before.before.before.before in let n = start.requires.2 in let is = c.wide.ensures ∙ start.requires.3.stands.is _ n in let most = around-most _ start.requires.0 _ n in (start.requires.0, rw c.function_of-definition.ensures (function-inside _ start.requires.0 start.requires.1 _), omega arith, n, start.requires.4)
+    let start = c.before.before.before.before.before.before.before.before in let n = start.requires.2 in let is = c.wide.ensures ∙ start.requires.3.stands.is _ n in let most = around-most _ start.requires.0 _ n in (start.requires.0, rw c.function_of-definition.ensures (function-inside _ start.requires.0 start.requires.1 _), omega arith, n)
 
 pub returns-then-number_at-eq31 : goal.returns-then-number_at-eq31
 unfolding wrong_call is_call

@@ -7,7 +7,7 @@ use Rattle.check_functions.proofs.calls.is_wrong_count.Goals as goal
 
 pub same_length-requires : goal.same_length-requires
 same_length-requires c =
-    (c.requires.0, part-inside _ c.requires.0 _ 2 _ c.requires.2 (omega arith) c.link-arguments.ensures, part-inside _ c.requires.0 _ 2 _ c.requires.1 (omega arith) c.link-parameters.ensures, c.requires.3)
+    (c.requires.0, part-inside _ c.requires.0 _ 2 _ c.requires.2 (omega arith) c.link-arguments.ensures, part-inside _ c.requires.0 _ 2 _ c.requires.1 (omega arith) c.link-parameters.ensures)
 
 pub returns : goal.returns
 unfolding wrong_count

@@ -24,11 +24,11 @@ returns-then-beside-eq0 c =
 
 pub link-row-requires : goal.link-row-requires
 link-row-requires c =
-    let n = c.loop-row.invariant.0 in (omega arith, omega arith, c.requires.3)
+    let n = c.loop-row.invariant.0 in (omega arith, omega arith)
 
 pub link-beside-requires : goal.link-beside-requires
 link-beside-requires c =
-    let n = c.loop-row.invariant.1 in (omega arith, omega arith, c.requires.3)
+    let n = c.loop-row.invariant.1 in (omega arith, omega arith)
 
 pub loop-row-smaller : goal.loop-row-smaller
 loop-row-smaller c =

@@ -8,7 +8,7 @@ use Rattle.check_functions.proofs.front.write_functions.Goals as goal
 
 pub link-row-requires : goal.link-row-requires
 link-row-requires c =
-    let whole = c.requires.0.whole in let some = c.requires.0.some_rows in (omega arith, omega arith, c.requires.3)
+    let whole = c.requires.0.whole in let some = c.requires.0.some_rows in (omega arith, omega arith)
 
 pub loop-functions-init : goal.loop-functions-init
 loop-functions-init c =
@@ -36,7 +36,7 @@ overflow_add-number c =
 
 pub link-row-requires-in-loop-functions : goal.link-row-requires-in-loop-functions
 link-row-requires-in-loop-functions c =
-    let n = c.loop-functions.invariant.inside in let whole = c.requires.0.whole in (omega arith, omega arith, c.requires.3)
+    let n = c.loop-functions.invariant.inside in let whole = c.requires.0.whole in (omega arith, omega arith)
 
 pub loop-functions-smaller : goal.loop-functions-smaller
 loop-functions-smaller c =

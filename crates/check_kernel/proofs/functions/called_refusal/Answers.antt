@@ -5,4 +5,4 @@ use Rattle.check_kernel.proofs.functions.called_refusal.Goals as goal
 
 pub function_refusal-requires : goal.function_refusal-requires
 function_refusal-requires c =
-    (c.requires.0, c.requires.1, blank-zeros _ 40980 c.requires.0.few, blank-zeros _ 40980 c.requires.0.few, c.requires.2)
+    (c.requires.0, c.requires.1, blank-zeros _ 40980 c.requires.0.few, blank-zeros _ 40980 c.requires.0.few)

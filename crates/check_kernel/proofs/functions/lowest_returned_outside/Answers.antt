@@ -5,4 +5,4 @@ use Rattle.check_kernel.proofs.functions.lowest_returned_outside.Goals as goal
 
 pub lowest_outside_function-requires : goal.lowest_outside_function-requires
 lowest_outside_function-requires c =
-    (c.requires.0, c.requires.1, blank-zeros _ 40980 c.requires.0.few, blank-zeros _ 40980 c.requires.0.few, c.requires.2)
+    (c.requires.0, c.requires.1, blank-zeros _ 40980 c.requires.0.few, blank-zeros _ 40980 c.requires.0.few)

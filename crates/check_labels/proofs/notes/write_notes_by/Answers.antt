@@ -14,7 +14,7 @@ pub loop-word-init : goal.loop-word-init
 loop-word-init c = (omega arith, refl, refl, λ t. noted-start _ _ _ t _ c.requires.1 c.requires.2)
 
 pub write_note-requires : goal.write_note-requires
-write_note-requires c = (c.requires.0, omega arith, omega arith, search rules)
+write_note-requires c = (c.requires.0, omega arith, omega arith)
 
 pub loop-word-preserved : goal.loop-word-preserved
 loop-word-preserved c = (

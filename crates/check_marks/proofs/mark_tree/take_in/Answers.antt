@@ -32,7 +32,7 @@ free_place-place-requires c =
 pub offset_bounds-children-at : goal.offset_bounds-children-at
 offset_bounds-children-at c =
     let start = c.before.before.before.before.before.before.before.before.before.before.before.before in
-    let free = rw c.in-At.is at c.free_place-place.ensures in
+    let free = rw c.in-Some.is at c.free_place-place.ensures in
     let lower = before-later free.behind in
     let few = start.requires.0.few in let inside = start.requires.3 in
     omega arith
@@ -40,19 +40,19 @@ offset_bounds-children-at c =
 pub bounds-children-at : goal.bounds-children-at
 bounds-children-at c =
     let start = c.before.before.before.before.before.before.before.before.before.before.before.before in
-    let free = rw c.in-At.is at c.free_place-place.ensures in
+    let free = rw c.in-Some.is at c.free_place-place.ensures in
     let lower = before-later free.behind in
     let room = start.requires.2.nodes.room in let inside = start.requires.3 in
     omega arith
 
-pub returns-in-At : goal.returns-in-At
-returns-in-At c =
+pub returns-in-Some : goal.returns-in-Some
+returns-in-Some c =
     let start = c.before.before.before.before.before.before.before.before.before.before.before.before in
-    let free = rw c.in-At.is at c.free_place-place.ensures in
+    let free = rw c.in-Some.is at c.free_place-place.ensures in
     rw c.narrow.ensures
     (taken_free _ start.requires.0 _ start.requires.1 _ start.requires.3 _ start.requires.2 _ (rw (← c.number_at.ensures, ← c.between.ensures) c.if-not-between.false)
     (rw c.wide-root.ensures at free))
 
-pub returns-in-Nothing : goal.returns-in-Nothing
-returns-in-Nothing c =
-    rw c.in-Nothing.is at c.free_place-place.ensures
+pub returns-in-None : goal.returns-in-None
+returns-in-None c =
+    rw c.in-None.is at c.free_place-place.ensures

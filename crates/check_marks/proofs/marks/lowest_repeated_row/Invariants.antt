@@ -14,8 +14,4 @@ use Rattle.check_marks.proofs.marks.lowest_repeated_row.Given as goal
 
 abbrev pub invariant-loop-row : goal.invariant-loop-row
 invariant-loop-row l =
-    (l.row ≤ l.count) × (l.count ≡ row_count l.rows) × (length l.children ≡ length l.initial.children) × HoldsMarks l.rows l.roots l.row l.children × Looked (repeated l.rows) l.count l.row
-
-abbrev pub decreases-loop-row : goal.decreases-loop-row
-decreases-loop-row l =
-    l.count - l.row
+    (length l.children ≡ length l.initial.children) × HoldsMarks l.rows l.roots l.row l.children × Looked (repeated l.rows) (row_count l.rows) l.row

@@ -15,7 +15,7 @@ loop-word-init c =
 
 pub link-linked-requires : goal.link-linked-requires
 link-linked-requires c =
-    let whole = c.requires.0.whole in (omega arith, omega arith, c.requires.5)
+    let whole = c.requires.0.whole in (omega arith, omega arith)
 
 pub write_linked-requires : goal.write_linked-requires
 unfolding target

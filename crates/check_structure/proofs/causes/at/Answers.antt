@@ -3,12 +3,12 @@ use Rattle.check_structure.specs.Refusal.{at}
 use borrow.Author.Rules.{rules}
 use Rattle.check_structure.proofs.causes.at.Goals as goal
 
-pub returns-in-At : goal.returns-in-At
+pub returns-in-Some : goal.returns-in-Some
 unfolding at
-returns-in-At c =
-    rw c.in-At.is
+returns-in-Some c =
+    rw c.in-Some.is
 
-pub returns-in-Nothing : goal.returns-in-Nothing
+pub returns-in-None : goal.returns-in-None
 unfolding at
-returns-in-Nothing c =
-    rw c.in-Nothing.is
+returns-in-None c =
+    rw c.in-None.is

@@ -21,11 +21,11 @@ lowest_deep-loop-limit-init t c =
 
 pub lowest_deep-lowest_deep_parts-requires : goal.lowest_deep-lowest_deep_parts-requires
 lowest_deep-lowest_deep_parts-requires t c =
-    (omega arith, (c.requires.0, c.requires.1, c.loop-limit.invariant.1, omega arith, c.loop-limit.invariant.2, c.requires.5))
+    (omega arith, (c.requires.0, c.requires.1, c.loop-limit.invariant.1, omega arith, c.loop-limit.invariant.2))
 
 pub lowest_deep-link-next-requires : goal.lowest_deep-link-next-requires
 lowest_deep-link-next-requires t c =
-    let whole = c.requires.0.whole in (omega arith, omega arith, c.requires.5)
+    let whole = c.requires.0.whole in (omega arith, omega arith)
 
 pub lowest_deep-returns-then-next-eq0 : goal.lowest_deep-returns-then-next-eq0
 lowest_deep-returns-then-next-eq0 t c =
@@ -47,28 +47,26 @@ lowest_deep-loop-limit-preserved t c =
 
 pub lowest_deep_parts-loop-field-init : goal.lowest_deep_parts-loop-field-init
 lowest_deep_parts-loop-field-init t c =
-    (omega arith, through-start _ _ _)
+    through-start _ _ _
 
 pub lowest_deep_parts-link-part-requires : goal.lowest_deep_parts-link-part-requires
 lowest_deep_parts-link-part-requires t c =
-    let whole = c.requires.0.whole in (omega arith, omega arith, c.requires.5)
+    let whole = c.requires.0.whole in (omega arith, omega arith)
 
 pub lowest_deep_parts-lowest_deep-requires : goal.lowest_deep_parts-lowest_deep-requires
 lowest_deep_parts-lowest_deep-requires t c =
     let tree = c.requires.0 in
     let part = follows _ tree _ _ _ c.requires.2 (let f : c.loop-field.field < 6 = omega arith in f) c.link-part.ensures c.if-part-ne0.true in
     let depth : depth_at _ c.link-part.result ≡ c.args.depth + 1 = ap (depth_at _) part.is ∙ depth-owned _ tree _ _ (omega arith) part.leads ∙ ap (λ (x : ℕ). x + 1) c.requires.4 in
-    (omega arith, (tree, c.requires.1, part.inside, omega arith, depth, c.requires.5))
+    (omega arith, (tree, c.requires.1, part.inside, omega arith, depth))
 
 pub lowest_deep_parts-loop-field-preserved : goal.lowest_deep_parts-loop-field-preserved
-lowest_deep_parts-loop-field-preserved t c = (
-  omega arith,
-  elim c.if-part-ne0.branch [
-    | lowest_deep_parts-then-part-ne0 w ↦ through-more _ _ _ _ _ _ _ _ c.loop-field.invariant.1 c.link-part.ensures w.lowest_deep.ensures (w.found-is ∙ w.lower-found.ensures)
-    | lowest_deep_parts-else-part-ne0 w ↦ rw w.found-is (through-none _ _ _ _ _ c.loop-field.invariant.1 (sym c.link-part.ensures ∙ w.if-part-ne0.false))
-  ],
-)
+lowest_deep_parts-loop-field-preserved t c =
+    elim c.if-part-ne0.branch [
+      | lowest_deep_parts-then-part-ne0 w ↦ through-more _ _ _ _ _ _ _ _ c.loop-field.invariant c.link-part.ensures w.lowest_deep.ensures (w.found-is ∙ w.lower-found.ensures)
+      | lowest_deep_parts-else-part-ne0 w ↦ rw w.found-is (through-none _ _ _ _ _ c.loop-field.invariant (sym c.link-part.ensures ∙ w.if-part-ne0.false))
+    ]
 
 pub lowest_deep_parts-returns : goal.lowest_deep_parts-returns
 lowest_deep_parts-returns t c =
-    let end : c.loop-field.field ≡ 5 = omega arith in rw end at c.loop-field.invariant.1
+    let end : c.loop-field.field ≡ 5 = omega arith in rw end at c.loop-field.invariant

@@ -29,8 +29,4 @@ decreases-lowest_deep-loop-limit l =
 
 abbrev pub invariant-lowest_deep_parts-loop-field : goal.invariant-lowest_deep_parts-loop-field
 invariant-lowest_deep_parts-loop-field l =
-    (l.field ≤ 5) × LowestDeep l.limit l.rows (Through l.rows l.row l.field) l.found
-
-abbrev pub decreases-lowest_deep_parts-loop-field : goal.decreases-lowest_deep_parts-loop-field
-decreases-lowest_deep_parts-loop-field l =
-    5 - l.field
+    LowestDeep l.limit l.rows (Through l.rows l.row l.field) l.found

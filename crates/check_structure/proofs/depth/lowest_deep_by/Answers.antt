@@ -7,12 +7,12 @@ use Rattle.check_structure.proofs.depth.lowest_deep_by.Goals as goal
 
 pub lowest_deep-found-requires : goal.lowest_deep-found-requires
 lowest_deep-found-requires c =
-    (c.requires.0, limit-most c.args.form _ c.depth_limit.ensures, c.requires.0.some_rows, omega arith, depth-root _, c.requires.1)
+    (c.requires, limit-most c.args.form _ c.depth_limit.ensures, c.requires.some_rows, omega arith, depth-root _)
 
 pub returns-then-found-rows : goal.returns-then-found-rows
 returns-then-found-rows c =
-    deep-found _ c.requires.0 _ _ (rw c.depth_limit.ensures at c.lowest_deep-found.ensures) c.if-found-rows.true
+    deep-found _ c.requires _ _ (rw c.depth_limit.ensures at c.lowest_deep-found.ensures) c.if-found-rows.true
 
 pub returns : goal.returns
 returns c =
-    deep_none _ c.requires.0 _ _ (rw c.depth_limit.ensures at c.lowest_deep-found.ensures) c.if-found-rows.false
+    deep_none _ c.requires _ _ (rw c.depth_limit.ensures at c.lowest_deep-found.ensures) c.if-found-rows.false

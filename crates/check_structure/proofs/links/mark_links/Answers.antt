@@ -15,7 +15,7 @@ loop-row-init c =
 
 pub mark_row-requires : goal.mark_row-requires
 mark_row-requires c =
-    (omega arith, search rules, search rules)
+    (omega arith, search rules)
 
 pub loop-row-preserved : goal.loop-row-preserved
 loop-row-preserved c =

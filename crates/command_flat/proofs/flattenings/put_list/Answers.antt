@@ -5,13 +5,13 @@ use borrow.Author.Rules.{rules}
 use Rattle.command_flat.proofs.flattenings.put_list.Goals as goal
 
 pub slice_bounds-put_table-end : goal.slice_bounds-put_table-end
-slice_bounds-put_table-end c = (list-made c.args.header.now c.args.rows.now c.args.list.now c.requires.list_len (rw c.in-Flattened.is at c.flatten-answer.ensures.list_after)).inside
+slice_bounds-put_table-end c = (list-made c.args.header.now c.args.rows.now c.args.list.now c.requires.list_len (rw c.in-Ok.is at c.flatten-answer.ensures.list_after)).inside
 
 pub put_table-requires : goal.put_table-requires
-put_table-requires c = record { tabled = (list-made c.args.header.now c.args.rows.now c.args.list.now c.requires.list_len (rw c.in-Flattened.is at c.flatten-answer.ensures.list_after)).printable; output_room_in_bounds = c.requires.output_room_in_bounds }
+put_table-requires c = record { tabled = (list-made c.args.header.now c.args.rows.now c.args.list.now c.requires.list_len (rw c.in-Ok.is at c.flatten-answer.ensures.list_after)).printable; output_room_in_bounds = c.requires.output_room_in_bounds }
 
-pub returns-in-Refused : goal.returns-in-Refused
-returns-in-Refused c = put_as (list-refused c.args.header.now c.args.rows.now c.args.list.now c.requires.list_len _ _ (rw c.in-Refused.is at c.flatten-answer.ensures.list_after)) c.refused_line.ensures
+pub returns-in-Err : goal.returns-in-Err
+returns-in-Err c = put_as (list-refused c.args.header.now c.args.rows.now c.args.list.now c.requires.list_len _ _ (rw c.in-Err.is at c.flatten-answer.ensures.list_after)) c.refused_line.ensures
 
-pub returns-in-Flattened : goal.returns-in-Flattened
-returns-in-Flattened c = put_as (list-made c.args.header.now c.args.rows.now c.args.list.now c.requires.list_len (rw c.in-Flattened.is at c.flatten-answer.ensures.list_after)).is c.put_table.ensures
+pub returns-in-Ok : goal.returns-in-Ok
+returns-in-Ok c = put_as (list-made c.args.header.now c.args.rows.now c.args.list.now c.requires.list_len (rw c.in-Ok.is at c.flatten-answer.ensures.list_after)).is c.put_table.ensures

@@ -9,18 +9,18 @@ use Rattle.command_questions.proofs.joins.join_answer.Goals as goal
 
 pub slice_bounds-join_second-end : goal.slice_bounds-join_second-end
 slice_bounds-join_second-end c =
-    (read-text Source c.args.text.now source-roomy (rw c.in-Read.is at c.read-answer.ensures)).header_inside
+    (read-text Source c.args.text.now source-roomy (rw c.in-Ok.is at c.read-answer.ensures)).header_inside
 
-pub slice_bounds-join_second-end-in-Read : goal.slice_bounds-join_second-end-in-Read
-slice_bounds-join_second-end-in-Read c =
-    (read-text Source c.args.text.now source-roomy (rw c.in-Read.is at c.read-answer.ensures)).rows_inside
+pub slice_bounds-join_second-end-in-Ok : goal.slice_bounds-join_second-end-in-Ok
+slice_bounds-join_second-end-in-Ok c =
+    (read-text Source c.args.text.now source-roomy (rw c.in-Ok.is at c.read-answer.ensures)).rows_inside
 
-pub returns-in-Refused : goal.returns-in-Refused
+pub returns-in-Err : goal.returns-in-Err
 unfolding join_output
-returns-in-Refused c =
-    put_as (refused-text Source c.args.text.now source-roomy _ _ _ (rw c.in-Refused.is at c.read-answer.ensures) (second_output c.args.second.now)) c.refused_line.ensures
+returns-in-Err c =
+    put_as (refused-text Source c.args.text.now source-roomy _ _ _ (rw c.in-Err.is at c.read-answer.ensures) (second_output c.args.second.now)) c.refused_line.ensures
 
-pub returns-in-Read : goal.returns-in-Read
+pub returns-in-Ok : goal.returns-in-Ok
 unfolding join_output
-returns-in-Read c =
-    put_as ((read-text Source c.args.text.now source-roomy (rw c.in-Read.is at c.read-answer.ensures)).is (second_output c.args.second.now)) c.join_second.ensures
+returns-in-Ok c =
+    put_as ((read-text Source c.args.text.now source-roomy (rw c.in-Ok.is at c.read-answer.ensures)).is (second_output c.args.second.now)) c.join_second.ensures

@@ -12,18 +12,18 @@ use Rattle.command_questions.proofs.joins.join_second.Goals as goal
 
 pub slice_bounds-put_join_text-end : goal.slice_bounds-put_join_text-end
 slice_bounds-put_join_text-end c =
-    (read-text Source c.args.text.now source-roomy (rw c.in-Read.is at c.read-answer.ensures)).header_inside
+    (read-text Source c.args.text.now source-roomy (rw c.in-Ok.is at c.read-answer.ensures)).header_inside
 
-pub slice_bounds-put_join_text-end-in-Read : goal.slice_bounds-put_join_text-end-in-Read
-slice_bounds-put_join_text-end-in-Read c =
-    (read-text Source c.args.text.now source-roomy (rw c.in-Read.is at c.read-answer.ensures)).rows_inside
+pub slice_bounds-put_join_text-end-in-Ok : goal.slice_bounds-put_join_text-end-in-Ok
+slice_bounds-put_join_text-end-in-Ok c =
+    (read-text Source c.args.text.now source-roomy (rw c.in-Ok.is at c.read-answer.ensures)).rows_inside
 
-pub returns-in-Refused : goal.returns-in-Refused
+pub returns-in-Err : goal.returns-in-Err
 unfolding second_output
-returns-in-Refused c =
-    put_as (ap (after_check (refusal_of Source c.args.header.now c.args.rows.now)) (refused-text Source c.args.text.now source-roomy _ _ _ (rw c.in-Refused.is at c.read-answer.ensures) (join_text c.args.header.now c.args.rows.now))) c.put_refused.ensures
+returns-in-Err c =
+    put_as (ap (after_check (refusal_of Source c.args.header.now c.args.rows.now)) (refused-text Source c.args.text.now source-roomy _ _ _ (rw c.in-Err.is at c.read-answer.ensures) (join_text c.args.header.now c.args.rows.now))) c.put_refused.ensures
 
-pub returns-in-Read : goal.returns-in-Read
+pub returns-in-Ok : goal.returns-in-Ok
 unfolding second_output
-returns-in-Read c =
-    put_as (after-check c.args.header.now c.args.rows.now _ _ ∙ ap (after_check (refusal_of Source c.args.header.now c.args.rows.now)) ((read-text Source c.args.text.now source-roomy (rw c.in-Read.is at c.read-answer.ensures)).is (join_text c.args.header.now c.args.rows.now))) c.put_join_text.ensures
+returns-in-Ok c =
+    put_as (after-check c.args.header.now c.args.rows.now _ _ ∙ ap (after_check (refusal_of Source c.args.header.now c.args.rows.now)) ((read-text Source c.args.text.now source-roomy (rw c.in-Ok.is at c.read-answer.ensures)).is (join_text c.args.header.now c.args.rows.now))) c.put_join_text.ensures

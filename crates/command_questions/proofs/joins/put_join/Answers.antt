@@ -6,16 +6,16 @@ use Rattle.command_questions.proofs.joins.put_join.Goals as goal
 
 pub slice_bounds-put_program-end : goal.slice_bounds-put_program-end
 slice_bounds-put_program-end c =
-    (joined_made c.args.header.now c.args.rows.now c.args.second_header.now c.args.second_rows.now c.args.table.now c.requires.table_len _ _ (rw c.in-Joined.is at c.join-answer.ensures.out_rows_after) (rw c.in-Joined.is at c.join-answer.ensures.writes_join)).rows_inside
+    (joined_made c.args.header.now c.args.rows.now c.args.second_header.now c.args.second_rows.now c.args.table.now c.requires.table_len _ _ (rw c.in-Ok.is at c.join-answer.ensures.out_rows_after) (rw c.in-Ok.is at c.join-answer.ensures.writes_join)).rows_inside
 
 pub put_program-requires : goal.put_program-requires
 put_program-requires c =
-    record { printable = (joined_made c.args.header.now c.args.rows.now c.args.second_header.now c.args.second_rows.now c.args.table.now c.requires.table_len _ _ (rw c.in-Joined.is at c.join-answer.ensures.out_rows_after) (rw c.in-Joined.is at c.join-answer.ensures.writes_join)).printable; output_room_in_bounds = c.requires.output_room_in_bounds }
+    record { printable = (joined_made c.args.header.now c.args.rows.now c.args.second_header.now c.args.second_rows.now c.args.table.now c.requires.table_len _ _ (rw c.in-Ok.is at c.join-answer.ensures.out_rows_after) (rw c.in-Ok.is at c.join-answer.ensures.writes_join)).printable; output_room_in_bounds = c.requires.output_room_in_bounds }
 
-pub returns-in-Refused : goal.returns-in-Refused
-returns-in-Refused c =
-    put_as (refused-join c.args.header.now c.args.rows.now c.args.second_header.now c.args.second_rows.now c.args.table.now c.requires.table_len _ _ (rw c.in-Refused.is at c.join-answer.ensures.out_rows_after)) c.refused_line.ensures
+pub returns-in-Err : goal.returns-in-Err
+returns-in-Err c =
+    put_as (refused-join c.args.header.now c.args.rows.now c.args.second_header.now c.args.second_rows.now c.args.table.now c.requires.table_len _ _ (rw c.in-Err.is at c.join-answer.ensures.out_rows_after)) c.refused_line.ensures
 
-pub returns-in-Joined : goal.returns-in-Joined
-returns-in-Joined c =
-    put_as (joined_made c.args.header.now c.args.rows.now c.args.second_header.now c.args.second_rows.now c.args.table.now c.requires.table_len _ _ (rw c.in-Joined.is at c.join-answer.ensures.out_rows_after) (rw c.in-Joined.is at c.join-answer.ensures.writes_join)).is c.put_program.ensures
+pub returns-in-Ok : goal.returns-in-Ok
+returns-in-Ok c =
+    put_as (joined_made c.args.header.now c.args.rows.now c.args.second_header.now c.args.second_rows.now c.args.table.now c.requires.table_len _ _ (rw c.in-Ok.is at c.join-answer.ensures.out_rows_after) (rw c.in-Ok.is at c.join-answer.ensures.writes_join)).is c.put_program.ensures

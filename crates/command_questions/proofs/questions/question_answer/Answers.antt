@@ -5,15 +5,15 @@ use borrow.Author.Rules.{rules}
 use Rattle.command_questions.proofs.questions.question_answer.Goals as goal
 
 pub slice_bounds-put_question-end : goal.slice_bounds-put_question-end
-slice_bounds-put_question-end c = (rw c.in-Read.is at c.read_question-answer.ensures).header_inside
+slice_bounds-put_question-end c = (rw c.in-Ok.is at c.read_question-answer.ensures).header_inside
 
-pub slice_bounds-put_question-end-in-Read : goal.slice_bounds-put_question-end-in-Read
-slice_bounds-put_question-end-in-Read c = (rw c.in-Read.is at c.read_question-answer.ensures).rows_inside
+pub slice_bounds-put_question-end-in-Ok : goal.slice_bounds-put_question-end-in-Ok
+slice_bounds-put_question-end-in-Ok c = (rw c.in-Ok.is at c.read_question-answer.ensures).rows_inside
 
-pub returns-in-Refused : goal.returns-in-Refused
+pub returns-in-Err : goal.returns-in-Err
 unfolding question_output
-returns-in-Refused c = put_as ((rw c.in-Refused.is at c.read_question-answer.ensures) (question_lines c.args.question)) c.refused_line.ensures
+returns-in-Err c = put_as ((rw c.in-Err.is at c.read_question-answer.ensures) (question_lines c.args.question)) c.refused_line.ensures
 
-pub returns-in-Read : goal.returns-in-Read
+pub returns-in-Ok : goal.returns-in-Ok
 unfolding question_output
-returns-in-Read c = put_as ((rw c.in-Read.is at c.read_question-answer.ensures).is (question_lines c.args.question)) c.put_question.ensures
+returns-in-Ok c = put_as ((rw c.in-Ok.is at c.read_question-answer.ensures).is (question_lines c.args.question)) c.put_question.ensures

@@ -9,15 +9,15 @@ pub read_program-answer-requires : goal.read_program-answer-requires
 read_program-answer-requires c = source-roomy
 
 pub slice_bounds-put_translation-end : goal.slice_bounds-put_translation-end
-slice_bounds-put_translation-end c = (rw c.in-Read.is at c.read_program-answer.ensures).header_inside
+slice_bounds-put_translation-end c = (rw c.in-Ok.is at c.read_program-answer.ensures).header_inside
 
-pub slice_bounds-put_translation-end-in-Read : goal.slice_bounds-put_translation-end-in-Read
-slice_bounds-put_translation-end-in-Read c = (rw c.in-Read.is at c.read_program-answer.ensures).rows_inside
+pub slice_bounds-put_translation-end-in-Ok : goal.slice_bounds-put_translation-end-in-Ok
+slice_bounds-put_translation-end-in-Ok c = (rw c.in-Ok.is at c.read_program-answer.ensures).rows_inside
 
-pub returns-in-Refused : goal.returns-in-Refused
+pub returns-in-Err : goal.returns-in-Err
 unfolding translation_output
-returns-in-Refused c = put_as ((rw c.in-Refused.is at c.read_program-answer.ensures) (translation_sheet c.args.sheet)) c.refused_line.ensures
+returns-in-Err c = put_as ((rw c.in-Err.is at c.read_program-answer.ensures) (translation_sheet c.args.sheet)) c.refused_line.ensures
 
-pub returns-in-Read : goal.returns-in-Read
+pub returns-in-Ok : goal.returns-in-Ok
 unfolding translation_output
-returns-in-Read c = put_as ((rw c.in-Read.is at c.read_program-answer.ensures).is (translation_sheet c.args.sheet)) c.put_translation.ensures
+returns-in-Ok c = put_as ((rw c.in-Ok.is at c.read_program-answer.ensures).is (translation_sheet c.args.sheet)) c.put_translation.ensures

@@ -1,8 +1,7 @@
 -- `request_of`: the verb first.
-use borrow.Author.Rules.{rules}
 use Rattle.command_request.specs.Requests.{request_of}
 use Rattle.command_request.proofs.request.request_of.Goals as goal
 
 pub returns : goal.returns
 unfolding request_of
-returns c = rw (← c.verb_of.ensures) c.request_by.ensures
+returns c = rw (← c.verb_named.ensures) c.request_by.ensures

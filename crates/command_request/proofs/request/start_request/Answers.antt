@@ -1,12 +1,11 @@
 -- `start_request`: a budget, or none.
-use borrow.Author.Rules.{rules}
 use Rattle.command_request.specs.Requests.{start_request}
 use Rattle.command_request.proofs.request.start_request.Goals as goal
 
-pub returns-in-Value : goal.returns-in-Value
+pub returns-in-Some : goal.returns-in-Some
 unfolding start_request
-returns-in-Value c = rw c.in-Value.is
+returns-in-Some c = rw c.in-Some.is
 
-pub returns-in-Malformed : goal.returns-in-Malformed
+pub returns-in-None : goal.returns-in-None
 unfolding start_request
-returns-in-Malformed c = rw c.in-Malformed.is
+returns-in-None c = rw c.in-None.is

@@ -7,6 +7,6 @@ pub returns-then-byte-eq32 : goal.returns-then-byte-eq32
 unfolding is_parting
 returns-then-byte-eq32 c = rw (eq-eqb _ _ c.if-byte-eq32.true)
 
-pub returns : goal.returns
+pub returns-else-byte-eq32 : goal.returns-else-byte-eq32
 unfolding is_parting
-returns c = rw (ne_eqb _ _ c.if-byte-eq32.false)
+returns-else-byte-eq32 c = rw (ne_eqb _ _ c.if-byte-eq32.false)

@@ -1,87 +1,49 @@
--- `read_words` passes the words one by one; the invariant is `Walked`.
-use mathlib.Core.Path.{sym, ◌∙◌}
-use mathlib.Core.Bool.{true, false}
-use Prim.Native.Nat.{◌-◌}
+-- `read_words` passes the pieces one by one; the invariant is `Walked`.
+use mathlib.Core.Path.{◌≡◌, sym, ◌∙◌}
+use Prim.Native.Nat.{◌<◌}
 use native.Mathlib.Omega.{arith}
-use lib.ListN.{length}
+use lib.ListN.{length, get_or}
 use borrow.Author.Rules.{rules}
-use borrow.Author.Tests.{not-true, not-false}
-use Rattle.command_request.proofs.Pieces.{Ends, ends-from, number-found, number-absent}
-use Rattle.command_request.proofs.Walk.{Walked, walked_start, walked-count, walked-length, walked_end, word-from, word-inside, walked-bad, word_holds, walked_next}
+use borrow.Author.Tests.{eqb-true, eqb-false}
+use Rattle.std.specs.List.{slice_split}
+use Rattle.std.proofs.lemmas.Iterator.Splits.{YieldsList-from_slice_split}
+use Rattle.std.proofs.lemmas.Iterator.Consumers.{YieldsList-turn, YieldsList-end}
+use Rattle.std.proofs.lemmas.List.{length_push}
+use Rattle.command_request.specs.StoreFile.{is_parting}
+use Rattle.command_request.proofs.Words.{walked_start, walked_end, walked-empty, count-inside, walked-bad, walked_next}
 use Rattle.command_request.proofs.store_file.read_words.Goals as goal
-use Rattle.command_request.proofs.store_file.read_words.Goals.{After-passed-at-in-loop-at, After-passed-end}
+use Rattle.command_request.proofs.store_file.read_words.Goals.{In-Some, Else-is_empty}
 
-pub loop-at-init : goal.loop-at-init
-loop-at-init c = walked_start _ _ _ c.requires (record { start = omega arith; is = c.passed-at.ensures })
+pub loop-piece-init : goal.loop-piece-init
+loop-piece-init c = walked_start _ _ c.requires
 
-pub passed-end-requires : goal.passed-end-requires
-passed-end-requires c = c.loop-at.invariant.inside
+-- the piece that this turn has
+turn : (c : In-Some) → (length c.loop-piece.yielded < length (slice_split is_parting c.args.text.now)) × (c.in-Some.piece.now ≡ get_or (slice_split is_parting c.args.text.now) (length c.loop-piece.yielded) c.in-Some.piece.now)
+turn c =
+    let parts = YieldsList-from_slice_split _ is_parting c.args.text.now (cc) (cc) (cc) (λ x b q k. search rules) in
+    YieldsList-turn parts c.loop-piece.yielded _ c.loop-piece.yielded_by _ _ c.in-Some.piece c.in-Some.is c.next.ensures.steps
 
--- where a word ends
-ends : (c : After-passed-end) → Ends false c.args.text.now c.loop-at.at c.passed-end.result
-ends c = record { start = c.loop-at.invariant.inside; is = c.passed-end.ensures }
+pub loop-piece-preserved-then-is_empty : goal.loop-piece-preserved-then-is_empty
+loop-piece-preserved-then-is_empty c =
+    rw (length_push c.loop-piece.yielded c.in-Some.piece) (walked-empty c.loop-piece.invariant _ (turn (goal.at.loop-piece-preserved-then-is_empty c).In-Some) (eqb-true _ _ (sym c.is_empty.ensures ∙ c.if-is_empty.true)))
 
-pub slice_bounds-is_number-count : goal.slice_bounds-is_number-count
-slice_bounds-is_number-count c = omega (arith, word-from c.loop-at.invariant c.loop-at-test.true (ends c))
+-- a piece that has a byte
+filled : (c : Else-is_empty) → 0 < length c.in-Some.piece.now
+filled c = omega (arith, eqb-false _ _ (sym c.is_empty.ensures ∙ c.if-is_empty.false))
 
-pub slice_bounds-is_number-start : goal.slice_bounds-is_number-start
-slice_bounds-is_number-start c = omega (arith, word-from c.loop-at.invariant c.loop-at-test.true (ends c), word-inside c.loop-at.invariant c.loop-at-test.true (ends c))
+pub returns-in_default : goal.returns-in_default
+returns-in_default c = walked-bad c.loop-piece.invariant _ (turn (goal.at.returns-in_default c).In-Some) (filled (goal.at.returns-in_default c).Else-is_empty) (sym c.number.ensures ∙ c.in_default.is)
 
-pub slice_bounds-is_number-end : goal.slice_bounds-is_number-end
-slice_bounds-is_number-end c = omega (arith, word-inside c.loop-at.invariant c.loop-at-test.true (ends c))
+pub bounds-table-count : goal.bounds-table-count
+bounds-table-count c = count-inside c.loop-piece.invariant _ (turn (goal.at.bounds-table-count c).In-Some) (filled (goal.at.bounds-table-count c).Else-is_empty)
 
-pub overflow_add-result : goal.overflow_add-result
-overflow_add-result c = omega (arith, c.loop-at.invariant.most, c.well_formed)
-
-pub shape_of-table-then-not-is_number : goal.shape_of-table-then-not-is_number
-shape_of-table-then-not-is_number c = walked-length c.loop-at.invariant
-
-pub returns-then-not-is_number : goal.returns-then-not-is_number
-returns-then-not-is_number c = walked-bad c.loop-at.invariant c.loop-at-test.true (ends (goal.at.returns-then-not-is_number c).After-passed-end) (number-absent _ (sym c.is_number.ensures ∙ c.if-not-is_number.true))
-
-pub slice_bounds-store_numbers-count : goal.slice_bounds-store_numbers-count
-slice_bounds-store_numbers-count c = omega (arith, word-from c.loop-at.invariant c.loop-at-test.true (ends (goal.at.slice_bounds-store_numbers-count c).After-passed-end))
-
-pub slice_bounds-store_numbers-start : goal.slice_bounds-store_numbers-start
-slice_bounds-store_numbers-start c = omega (arith, word-from c.loop-at.invariant c.loop-at-test.true (ends (goal.at.slice_bounds-store_numbers-start c).After-passed-end), word-inside c.loop-at.invariant c.loop-at-test.true (ends (goal.at.slice_bounds-store_numbers-start c).After-passed-end))
-
-pub slice_bounds-store_numbers-end : goal.slice_bounds-store_numbers-end
-slice_bounds-store_numbers-end c = omega (arith, word-inside c.loop-at.invariant c.loop-at-test.true (ends (goal.at.slice_bounds-store_numbers-end c).After-passed-end))
-
-pub offset_bounds-table-count : goal.offset_bounds-table-count
-offset_bounds-table-count c = omega (arith, walked-count c.loop-at.invariant, c.well_formed)
-
-pub slice_bounds-store_numbers-count-in-loop-at : goal.slice_bounds-store_numbers-count-in-loop-at
-slice_bounds-store_numbers-count-in-loop-at c = omega (arith, walked-count c.loop-at.invariant, walked-length c.loop-at.invariant)
-
-pub slice_bounds-store_numbers-start-in-loop-at : goal.slice_bounds-store_numbers-start-in-loop-at
-slice_bounds-store_numbers-start-in-loop-at c = omega (arith, walked-count c.loop-at.invariant, walked-length c.loop-at.invariant)
-
-pub store_numbers-requires : goal.store_numbers-requires
-store_numbers-requires c =
-    let n = number-found _ (sym c.is_number.ensures ∙ c.if-not-is_number.false) in
-    word_holds c.loop-at.invariant c.loop-at-test.true (ends (goal.at.store_numbers-requires c).After-passed-end) n.word n.is
-
-pub overflow_add-count : goal.overflow_add-count
-overflow_add-count c = omega (arith, c.loop-at.invariant.most, c.well_formed)
-
-pub passed-at-requires-in-loop-at : goal.passed-at-requires-in-loop-at
-passed-at-requires-in-loop-at c = word-inside c.loop-at.invariant c.loop-at-test.true (ends (goal.at.passed-at-requires-in-loop-at c).After-passed-end)
-
--- where the next word begins
-begins : (c : After-passed-at-in-loop-at) → Ends true c.args.text.now c.passed-end.result c.passed-at-in-loop-at.result
-begins c = record { start = word-inside c.loop-at.invariant c.loop-at-test.true (ends (goal.at.After-passed-at-in-loop-at c).After-passed-end); is = c.passed-at-in-loop-at.ensures }
-
-pub loop-at-smaller : goal.loop-at-smaller
-loop-at-smaller c = omega (arith, c.loop-at-test.true, word-from c.loop-at.invariant c.loop-at-test.true (ends (goal.at.loop-at-smaller c).After-passed-end), ends-from (begins c))
-
-pub loop-at-preserved : goal.loop-at-preserved
-loop-at-preserved c =
-    let n = number-found _ (sym c.is_number.ensures ∙ c.if-not-is_number.false) in
-    walked_next c.loop-at.invariant c.loop-at-test.true (ends (goal.at.loop-at-preserved c).After-passed-end) n.word n.is _ c.store_numbers.ensures _ (begins c)
-
-pub shape_of-table : goal.shape_of-table
-shape_of-table c = walked-length c.loop-at.invariant
+pub loop-piece-preserved : goal.loop-piece-preserved
+loop-piece-preserved c =
+    rw (length_push c.loop-piece.yielded c.in-Some.piece)
+    (walked_next c.loop-piece.invariant _ (turn (goal.at.loop-piece-preserved c).In-Some) (filled (goal.at.loop-piece-preserved c).Else-is_empty) _ (sym c.number.ensures ∙ c.in-Some-number.is))
 
 pub returns : goal.returns
-returns c = walked_end c.loop-at.invariant c.loop-at-test.false
+returns c =
+    let parts = YieldsList-from_slice_split _ is_parting c.args.text.now (cc) (cc) (cc) (λ x b q k. search rules) in
+    let all = YieldsList-end parts c.loop-piece.yielded _ c.loop-piece.yielded_by _ _ c.in-None.is c.next.ensures.steps in
+    walked_end c.loop-piece.invariant all.1

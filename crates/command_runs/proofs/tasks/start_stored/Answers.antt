@@ -16,15 +16,15 @@ pub malformed_line-requires : goal.malformed_line-requires
 malformed_line-requires c = omega (arith, c.requires.output_room_in_bounds)
 
 pub slice_bounds-store-end : goal.slice_bounds-store-end
-slice_bounds-store-end c = stored-inside (rw c.in-Words.is at c.read_words-read.ensures) c.read_words-read.auto.table
+slice_bounds-store-end c = stored-inside (rw c.in-Ok.is at c.read_words-read.ensures) c.read_words-read.auto.table
 
 pub start_text-requires : goal.start_text-requires
-start_text-requires c = record { roomy = c.requires.roomy; store_in_bounds = part_room _ _ (stored-inside (rw c.in-Words.is at c.read_words-read.ensures) c.read_words-read.auto.table) (omega (arith, c.read_words-read.auto.table, length-replicate 98688 (pos 0))) c.requires.output_room_in_bounds; output_room_in_bounds = c.requires.output_room_in_bounds }
+start_text-requires c = record { roomy = c.requires.roomy; store_in_bounds = part_room _ _ (stored-inside (rw c.in-Ok.is at c.read_words-read.ensures) c.read_words-read.auto.table) (omega (arith, c.read_words-read.auto.table, length-replicate 98688 (pos 0))) c.requires.output_room_in_bounds; output_room_in_bounds = c.requires.output_room_in_bounds }
 
-pub returns-in-Malformed : goal.returns-in-Malformed
+pub returns-in-Err : goal.returns-in-Err
 unfolding stored_output
-returns-in-Malformed c = put_as (sym (ap (stored_output c.args.task c.args.budget c.args.text.now) (rw c.in-Malformed.is at c.read_words-read.ensures))) c.malformed_line.ensures
+returns-in-Err c = put_as (sym (ap (stored_output c.args.task c.args.budget c.args.text.now) (rw c.in-Err.is at c.read_words-read.ensures))) c.malformed_line.ensures
 
-pub returns-in-Words : goal.returns-in-Words
+pub returns-in-Ok : goal.returns-in-Ok
 unfolding stored_output
-returns-in-Words c = let s = rw c.in-Words.is at c.read_words-read.ensures in put_as (ap (task_output c.args.task c.args.budget c.args.text.now) (stored-words s) ∙ sym (ap (stored_output c.args.task c.args.budget c.args.text.now) s.is)) c.start_text.ensures
+returns-in-Ok c = let s = rw c.in-Ok.is at c.read_words-read.ensures in put_as (ap (task_output c.args.task c.args.budget c.args.text.now) (stored-words s) ∙ sym (ap (stored_output c.args.task c.args.budget c.args.text.now) s.is)) c.start_text.ensures

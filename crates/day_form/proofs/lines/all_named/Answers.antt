@@ -2,7 +2,7 @@
 use mathlib.Core.Path.{◌≡◌}
 use native.Mathlib.Omega.{arith}
 use borrow.Author.Rules.{rules}
-use Prim.Native.Nat.{◌-◌}
+use Prim.Native.Nat.{ℕ, ◌+◌, ◌*◌}
 use lib.IntN.{pos}
 use lib.ListN.{length, get_or}
 use Rattle.words.specs.Word.{natural}
@@ -14,36 +14,17 @@ pub loop-i-init : goal.loop-i-init
 loop-i-init c =
     named_start _ _
 
-pub overflow_add-i : goal.overflow_add-i
-overflow_add-i c =
-    omega (arith, c.loop-i.invariant.inside, c.well_formed)
-
-pub offset_bounds-numbers-i : goal.offset_bounds-numbers-i
-offset_bounds-numbers-i c =
-    omega (arith, c.loop-i-test.true, c.well_formed)
-
-pub bounds-numbers-i : goal.bounds-numbers-i
-bounds-numbers-i c =
-    omega (arith, c.loop-i-test.true)
-
 pub returns-then-natural-variables : goal.returns-then-natural-variables
 returns-then-natural-variables c =
-    let n : c.natural.result ≡ natural (get_or c.args.numbers.now c.loop-i.i (pos 0)) = natural-again _ _ c.natural-arg-1.given c.natural.ensures in
-    named-not c.loop-i.invariant c.loop-i-test.true (omega (arith, c.if-natural-variables.true))
-
-pub overflow_add-i-in-loop-i : goal.overflow_add-i-in-loop-i
-overflow_add-i-in-loop-i c =
-    omega (arith, c.loop-i-test.true)
-
-pub loop-i-smaller : goal.loop-i-smaller
-loop-i-smaller c =
-    omega (arith, c.loop-i-test.true)
+    let n : c.natural.result ≡ natural (get_or c.args.numbers.now (2 * c.loop-i.i) (pos 0)) = natural-again _ _ c.natural-arg-1.given c.natural.ensures in
+    named-not c.loop-i.invariant (omega arith) (omega (arith, c.if-natural-variables.true))
 
 pub loop-i-preserved : goal.loop-i-preserved
 loop-i-preserved c =
-    let n : c.natural.result ≡ natural (get_or c.args.numbers.now c.loop-i.i (pos 0)) = natural-again _ _ c.natural-arg-1.given c.natural.ensures in
-    named-next c.loop-i.invariant c.loop-i-test.true (omega (arith, c.if-natural-variables.false))
+    let n : c.natural.result ≡ natural (get_or c.args.numbers.now (2 * c.loop-i.i) (pos 0)) = natural-again _ _ c.natural-arg-1.given c.natural.ensures in
+    let next : 2 * (c.loop-i.i + 1) ≡ 2 * c.loop-i.i + 2 = omega arith in
+    rw next (named-next c.loop-i.invariant (omega arith) (omega (arith, c.if-natural-variables.false)))
 
 pub returns : goal.returns
 returns c =
-    named_end c.loop-i.invariant c.loop-i-test.false
+    named_end c.loop-i.invariant (omega arith)

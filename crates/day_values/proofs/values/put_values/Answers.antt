@@ -39,14 +39,6 @@ pub overflow_add-end : goal.overflow_add-end
 overflow_add-end c =
     omega (arith, c.loop-done.invariant.short, c.loop-done-test.true, c.requires.sets.few, c.put_day-end.ensures.upper_bound)
 
-pub overflow_add-done : goal.overflow_add-done
-overflow_add-done c =
-    omega (arith, c.loop-done-test.true, c.requires.sets.few)
-
-pub loop-done-smaller : goal.loop-done-smaller
-loop-done-smaller c =
-    omega (arith, c.loop-done-test.true)
-
 pub loop-done-preserved : goal.loop-done-preserved
 loop-done-preserved c =
     made-next _ c.loop-done.invariant c.loop-done-test.true _ (value_is c.requires.sets c.loop-done-test.true) _ _ c.put_day-end.ensures.put c.put_day-end.ensures.upper_bound

@@ -14,7 +14,3 @@ use Rattle.day_values.proofs.values.put_values.Given as goal
 abbrev pub invariant-loop-done : goal.invariant-loop-done
 invariant-loop-done l =
     Made (day_line l.header l.rows l.variable (pairs_of (lines_of l.text))) l.lowest l.values l.initial.output l.done l.end l.output
-
-abbrev pub decreases-loop-done : goal.decreases-loop-done
-decreases-loop-done l =
-    l.values - l.done

@@ -8,4 +8,4 @@ use Rattle.exports.proofs.flat_lists.clight_flat_run.Goals as goal
 pub returns : goal.returns
 returns c =
     let result = c.flat_run.ensures in
-    record { value = c.of_run.ensures ∙ ap (λ (r : FlatResult). answer_of r.numbers) result; store_after = ap (λ (r : FlatResult). r.store) result }
+    record { value = c.into.ensures ∙ ap (λ (r : FlatResult). answer_of r.numbers) result; store_after = ap (λ (r : FlatResult). r.store) result }

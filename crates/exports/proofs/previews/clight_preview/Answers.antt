@@ -9,7 +9,7 @@ pub returns : goal.returns
 returns c =
     let result = c.preview.ensures in
     record {
-      value = c.of_preview.ensures ∙ ap (λ (r : PreviewResult). preview_answer r.numbers r.tally) result;
+      value = c.into.ensures ∙ ap (λ (r : PreviewResult). preview_answer r.numbers r.tally) result;
       store_value = ap (λ (r : PreviewResult). r.store) result;
       scratch_after = ap (λ (r : PreviewResult). r.scratch) result;
     }

@@ -8,4 +8,4 @@ use Rattle.exports.proofs.programs.clight_dispatcher_run.Goals as goal
 pub returns : goal.returns
 returns c =
     let result = c.dispatcher_run.ensures in
-    record { value = c.of_dispatcher.ensures ∙ ap (λ (r : DispatcherResult). answer_of r.numbers) result; words_after = ap (λ (r : DispatcherResult). r.words) result }
+    record { value = c.into.ensures ∙ ap (λ (r : DispatcherResult). answer_of r.numbers) result; words_after = ap (λ (r : DispatcherResult). r.words) result }

@@ -8,5 +8,5 @@ use Rattle.exports.proofs.programs.clight_kernel_check.Goals as goal
 
 pub returns : goal.returns
 returns c =
-    let told = c.of_verdict.ensures ∙ ap verdict_answer c.kernel_check.ensures.value in
+    let told = c.into.ensures ∙ ap verdict_answer c.kernel_check.ensures.value in
     record { value = told; no_cause_if_legal = rw told (check-no-cause-if-legal Kernel c.args.header.now c.args.rows.now) }

@@ -8,4 +8,4 @@ use Rattle.exports.proofs.programs.clight_kernel_run.Goals as goal
 pub returns : goal.returns
 returns c =
     let result = c.kernel_run.ensures in
-    record { value = c.of_run.ensures ∙ ap (λ (r : RunResult). answer_of r.numbers) result; store_after = ap (λ (r : RunResult). r.store) result }
+    record { value = c.into.ensures ∙ ap (λ (r : RunResult). answer_of r.numbers) result; store_after = ap (λ (r : RunResult). r.store) result }

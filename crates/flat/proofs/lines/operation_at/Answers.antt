@@ -3,7 +3,6 @@ use mathlib.Core.Path.{ap, ◌∙◌}
 use Rattle.words.specs.Word.{natural}
 use Rattle.words.specs.Laws.{back}
 use Rattle.flat.specs.Words.{operation_at}
-use borrow.Author.Rules.{rules}
 use Rattle.flat.proofs.lines.operation_at.Goals as goal
 
 pub returns : goal.returns

@@ -2,7 +2,6 @@
 use mir.Facts.{to_z-of_z}
 use mir.Syntax.{w32}
 use Rattle.flat.specs.Words.{field_at}
-use borrow.Author.Rules.{rules}
 use Rattle.flat.proofs.lines.word_at.Goals as goal
 
 pub returns : goal.returns

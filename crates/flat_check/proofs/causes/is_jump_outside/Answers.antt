@@ -9,8 +9,8 @@ use Rattle.flat_check.proofs.causes.is_jump_outside.Goals as goal
 
 pub returns-then-shape : goal.returns-then-shape
 returns-then-shape c =
-    rw (jump-is _ _ _ _ c.shape_of-shape.result c.operation_at.ensures c.operation_kind.ensures c.shape_of-shape.ensures, c.if-shape.true) (ap not (handed (lands_inside _ _) c.word_at-distance.result _ c.word_at-distance.type_inv c.word_at-distance.ensures c.lands_inside.ensures))
+    rw (jump-is _ _ _ _ c.shape_or_unused-shape.result c.operation_at.ensures c.operation_kind.ensures c.shape_or_unused-shape.ensures, c.if-shape.true) (ap not (handed (lands_inside _ _) c.word_at-distance.result _ c.word_at-distance.type_inv c.word_at-distance.ensures c.lands_inside.ensures))
 
 pub returns : goal.returns
 returns c =
-    rw (jump-is _ _ _ _ c.shape_of-shape.result c.operation_at.ensures c.operation_kind.ensures c.shape_of-shape.ensures, c.if-shape.false, ← handed natural c.word_at-distance.result _ c.word_at-distance.type_inv c.word_at-distance.ensures c.natural.ensures)
+    rw (jump-is _ _ _ _ c.shape_or_unused-shape.result c.operation_at.ensures c.operation_kind.ensures c.shape_or_unused-shape.ensures, c.if-shape.false, ← handed natural c.word_at-distance.result _ c.word_at-distance.type_inv c.word_at-distance.ensures c.natural.ensures)

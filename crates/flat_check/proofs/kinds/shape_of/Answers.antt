@@ -1,49 +1,42 @@
--- `shape_of` makes the tests of the table in order.
-use borrow.Author.Rules.{rules}
-use borrow.Author.Tests.{eq-eqb, ne_eqb}
+-- `shape_of` goes by the kinds of the table.
+use mathlib.Core.Path.{sym, ap, ◌∙◌, refl}
+use native.Mathlib.Omega.{arith}
+use Rattle.std.specs.Prelude.{Some}
 use Rattle.flat.specs.Refusal.{shape_of}
+use Rattle.flat.proofs.Accepts.{operator-shape}
+use Rattle.flat_check.proofs.Table.{copied, tested, no-kind}
 use Rattle.flat_check.proofs.kinds.shape_of.Goals as goal
 
-pub returns-then-kind-eq1 : goal.returns-then-kind-eq1
-unfolding shape_of
-returns-then-kind-eq1 c = rw (eq-eqb _ _ c.if-kind-eq1.true) c.known_shape.ensures
+pub returns-in-1 : goal.returns-in-1
+returns-in-1 c = ap Some c.shape.ensures ∙ sym (copied _ c.in-1.is)
 
-pub returns-then-kind-eq3 : goal.returns-then-kind-eq3
+pub returns-in-3 : goal.returns-in-3
 unfolding shape_of
-returns-then-kind-eq3 c = rw (ne_eqb _ _ c.if-kind-eq1.false, eq-eqb _ _ c.if-kind-eq3.true) c.known_shape-then-kind-eq3.ensures
+returns-in-3 c = rw c.in-3.is (ap Some c.shape-in-3.ensures)
 
-pub returns-then-kind-eq4 : goal.returns-then-kind-eq4
-unfolding shape_of
-returns-then-kind-eq4 c = rw (ne_eqb _ _ c.if-kind-eq1.false, ne_eqb _ _ c.if-kind-eq3.false, eq-eqb _ _ c.if-kind-eq4.true) c.known_shape-then-kind-eq4.ensures
+pub returns-in-6-to-16 : goal.returns-in-6-to-16
+returns-in-6-to-16 c = ap Some c.shape-in-6-to-16.ensures ∙ sym (operator-shape c.args.kind (omega arith) (omega arith))
 
-pub returns-then-is_between : goal.returns-then-is_between
+pub returns-in-21 : goal.returns-in-21
 unfolding shape_of
-returns-then-is_between c = rw (ne_eqb _ _ c.if-kind-eq1.false, ne_eqb _ _ c.if-kind-eq3.false, ne_eqb _ _ c.if-kind-eq4.false, ← c.is_between.ensures, c.if-is_between.true) c.known_shape-then-is_between.ensures
+returns-in-21 c = rw c.in-21.is (ap Some c.shape-in-21.ensures)
 
-pub returns-then-kind-eq21 : goal.returns-then-kind-eq21
-unfolding shape_of
-returns-then-kind-eq21 c =
-    rw (ne_eqb _ _ c.if-kind-eq1.false, ne_eqb _ _ c.if-kind-eq3.false, ne_eqb _ _ c.if-kind-eq4.false, ← c.is_between.ensures, c.if-is_between.false, eq-eqb _ _ c.if-kind-eq21.true) c.known_shape-then-kind-eq21.ensures
+pub returns-in-43 : goal.returns-in-43
+returns-in-43 c = ap Some c.shape-in-43.ensures ∙ sym (tested c.args.kind (omega arith) (omega arith))
 
-pub returns-then-is_between-2 : goal.returns-then-is_between-2
+pub returns-in-52 : goal.returns-in-52
 unfolding shape_of
-returns-then-is_between-2 c =
-    rw (ne_eqb _ _ c.if-kind-eq1.false, ne_eqb _ _ c.if-kind-eq3.false, ne_eqb _ _ c.if-kind-eq4.false, ← c.is_between.ensures, c.if-is_between.false, ne_eqb _ _ c.if-kind-eq21.false, ← c.is_between-2.ensures, c.if-is_between-2.true)
-    c.known_shape-then-is_between-2.ensures
+returns-in-52 c = rw c.in-52.is (ap Some c.shape-in-52.ensures)
 
-pub returns-then-kind-eq52 : goal.returns-then-kind-eq52
+pub returns-in-57 : goal.returns-in-57
 unfolding shape_of
-returns-then-kind-eq52 c =
-    rw (ne_eqb _ _ c.if-kind-eq1.false, ne_eqb _ _ c.if-kind-eq3.false, ne_eqb _ _ c.if-kind-eq4.false, ← c.is_between.ensures, c.if-is_between.false, ne_eqb _ _ c.if-kind-eq21.false, ← c.is_between-2.ensures, c.if-is_between-2.false, eq-eqb _ _ c.if-kind-eq52.true)
-    c.known_shape-then-kind-eq52.ensures
+returns-in-57 c = rw c.in-57.is (ap Some c.shape-in-57.ensures)
 
-pub returns-then-kind-eq57 : goal.returns-then-kind-eq57
-unfolding shape_of
-returns-then-kind-eq57 c =
-    rw (ne_eqb _ _ c.if-kind-eq1.false, ne_eqb _ _ c.if-kind-eq3.false, ne_eqb _ _ c.if-kind-eq4.false, ← c.is_between.ensures, c.if-is_between.false, ne_eqb _ _ c.if-kind-eq21.false, ← c.is_between-2.ensures, c.if-is_between-2.false, ne_eqb _ _ c.if-kind-eq52.false, eq-eqb _ _ c.if-kind-eq57.true)
-    c.known_shape-then-kind-eq57.ensures
+pub returns-in_default : goal.returns-in_default
+returns-in_default c = no-kind c.args.kind c.in_default.in_default-own.rest (λ a b. omega arith) (λ a b. omega arith)
 
-pub returns : goal.returns
-unfolding shape_of
-returns c =
-    rw (ne_eqb _ _ c.if-kind-eq1.false, ne_eqb _ _ c.if-kind-eq3.false, ne_eqb _ _ c.if-kind-eq4.false, ← c.is_between.ensures, c.if-is_between.false, ne_eqb _ _ c.if-kind-eq21.false, ← c.is_between-2.ensures, c.if-is_between-2.false, ne_eqb _ _ c.if-kind-eq52.false, ne_eqb _ _ c.if-kind-eq57.false)
+pub returns-in_default-2 : goal.returns-in_default-2
+returns-in_default-2 c = no-kind c.args.kind c.in_default.in_default-own.rest (λ a b. omega arith) (λ a b. omega arith)
+
+pub returns-in_default-3 : goal.returns-in_default-3
+returns-in_default-3 c = no-kind c.args.kind c.in_default.in_default-own.rest (λ a b. omega arith) (λ a b. omega arith)

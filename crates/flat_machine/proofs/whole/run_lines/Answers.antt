@@ -29,16 +29,16 @@ pub loop-line-smaller : goal.loop-line-smaller
 loop-line-smaller c = omega (arith, c.if-left-eq0.false)
 
 pub loop-line-preserved : goal.loop-line-preserved
-loop-line-preserved c = (c.store-1.given ∙ c.loop-line.invariant.0, c.loop-line.invariant.1, runs_on _ _ c.loop-line.invariant.2 (omega (arith, c.loop-line-test.true, c.loop-line.invariant.1)) (omega (arith, c.if-left-eq0.false)) c.make-step.result _ c.make-step.ensures c.in-At.next c.in-At.is)
+loop-line-preserved c = (c.store-1.given ∙ c.loop-line.invariant.0, c.loop-line.invariant.1, runs_on _ _ c.loop-line.invariant.2 (omega (arith, c.loop-line-test.true, c.loop-line.invariant.1)) (omega (arith, c.if-left-eq0.false)) c.make-step.result _ c.make-step.ensures c.in-Ok.next c.in-Ok.is)
 
 pub overflow_sub-result : goal.overflow_sub-result
 overflow_sub-result c = omega (arith, c.loop-line.invariant.2.most)
 
-pub shape_of-store-in-Fails : goal.shape_of-store-in-Fails
-shape_of-store-in-Fails c = c.store-1.given ∙ c.loop-line.invariant.0
+pub shape_of-store-in-Err : goal.shape_of-store-in-Err
+shape_of-store-in-Err c = c.store-1.given ∙ c.loop-line.invariant.0
 
-pub returns-in-Fails : goal.returns-in-Fails
-returns-in-Fails c = runs-fault _ _ c.loop-line.invariant.2 (omega (arith, c.loop-line-test.true, c.loop-line.invariant.1)) (omega (arith, c.if-left-eq0.false)) c.make-step.result _ c.make-step.ensures c.in-Fails.sort c.in-Fails.is
+pub returns-in-Err : goal.returns-in-Err
+returns-in-Err c = runs-fault _ _ c.loop-line.invariant.2 (omega (arith, c.loop-line-test.true, c.loop-line.invariant.1)) (omega (arith, c.if-left-eq0.false)) c.make-step.result _ c.make-step.ensures c.in-Err.sort c.in-Err.is
 
 pub overflow_sub-result-2 : goal.overflow_sub-result-2
 overflow_sub-result-2 c = omega (arith, c.loop-line.invariant.2.most)

@@ -1,6 +1,6 @@
 -- `copy` reads the operand and stores it.
 use Rattle.flat.specs.Words.{left_constant}
-use Rattle.flat_steps.proofs.Handed.{made_so}
+use Rattle.flat_steps.proofs.Handed.{again, assigned, made_so}
 use Rattle.flat_steps.proofs.Made.{within-is, field-inside, variable-inside, operand-ready, copy-next}
 use borrow.Author.Rules.{rules}
 use native.Mathlib.Omega.{arith}
@@ -16,4 +16,6 @@ pub assign-requires : goal.assign-requires
 assign-requires c = (omega (arith, variable-inside c.requires _ (within-is c.requires).0, c.number_at.ensures), omega (arith, c.requires.ready.inside))
 
 pub returns : goal.returns
-returns c = made_so _ _ _ _ _ c.assign.ensures (copy-next c.args.store.now c.requires c.left_constant.result c.left_constant.ensures c.number_at.result c.number_at.ensures c.operand-value.result c.operand-value.type_inv c.operand-value.ensures)
+returns c =
+    made_so _ _ _ _ _ (assigned c.args.store.now c.args.line c.number_at.result (again c.operand-value.result) c.assign.result c.assign.new.store c.assign.ensures)
+    (copy-next c.args.store.now c.requires c.left_constant.result c.left_constant.ensures c.number_at.result c.number_at.ensures c.operand-value.result c.operand-value.type_inv c.operand-value.ensures)

@@ -1,4 +1,5 @@
 -- `outcome` hands the operands on to the function of the kind's operator, or tests them.
+use Rattle.std.specs.Prelude.{Ok}
 use mathlib.Core.Path.{◌≡◌, refl, ap, ◌∙◌}
 use mathlib.Core.Bool.{not}
 use Prim.Native.Nat.{ℕ, ◌-◌, ◌≤◌}
@@ -6,7 +7,7 @@ use native.Mathlib.Omega.{arith}
 use lib.Dec.{leb}
 use borrow.Author.Rules.{rules}
 use borrow.Author.Tests.{leb-true}
-use Rattle.arithmetic.specs.Arithmetic.{value, bit, apply}
+use Rattle.arithmetic.specs.Arithmetic.{bit, apply}
 use Rattle.words.specs.Kinds.{operators, operator_of}
 use Rattle.words.specs.Laws.{both}
 use Rattle.words.specs.declared.Operator.{Operator}
@@ -63,7 +64,7 @@ returns-in-14 c = let s = c.before.before in compared s.ranges.left s.ranges.rig
 
 pub returns-in-15 : goal.returns-in-15
 unfolding apply operator_of operators
-returns-in-15 c = let s = c.before.before in compared s.ranges.left s.ranges.right _ (operator-is s.args.kind 15 Equal c.in-15.is refl) c.bit-in-15.ensures (ap (λ b. value (bit b)) (equal-bits s.ranges.left s.ranges.right))
+returns-in-15 c = let s = c.before.before in compared s.ranges.left s.ranges.right _ (operator-is s.args.kind 15 Equal c.in-15.is refl) c.bit-in-15.ensures (ap (λ b. Ok (bit b)) (equal-bits s.ranges.left s.ranges.right))
 
 pub returns-in_default : goal.returns-in_default
 unfolding apply operator_of operators
@@ -74,4 +75,4 @@ returns-in_default c =
     let most = leb-true kind 16 (both (leb 6 kind) (leb kind 16) s.requires).1 in
     let past = past-remainder kind least c.in_default.in_default-own.rest.0.0.0.0.0.0.0.0.0.1 c.in_default.in_default-own.rest.0.0.0.0.0.0.0.0.1 c.in_default.in_default-own.rest.0.0.0.0.0.0.0.1 c.in_default.in_default-own.rest.0.0.0.0.0.0.1 c.in_default.in_default-own.rest.0.0.0.0.0.1 in
     let last = last-operator kind past most c.in_default.in_default-own.rest.0.0.0.0.1 c.in_default.in_default-own.rest.0.0.0.1 c.in_default.in_default-own.rest.0.0.1 c.in_default.in_default-own.rest.0.1 c.in_default.in_default-own.rest.1 in
-    compared s.ranges.left s.ranges.right _ (operator-is kind 16 NotEqual last refl) c.bit-in_default.ensures (ap (λ b. value (bit (not b))) (equal-bits s.ranges.left s.ranges.right))
+    compared s.ranges.left s.ranges.right _ (operator-is kind 16 NotEqual last refl) c.bit-in_default.ensures (ap (λ b. Ok (bit (not b))) (equal-bits s.ranges.left s.ranges.right))

@@ -6,4 +6,4 @@ use mir.Facts.{to_z-of_z}
 use Rattle.flat_steps.proofs.operands.locate.Goals as goal
 
 pub returns : goal.returns
-returns c = c.element.ensures ∙ ap (element _ _) (to_z-of_z c.ranges.index)
+returns c = c.ok_or.ensures.value ∙ c.element.ensures ∙ ap (element _ _) (to_z-of_z c.ranges.index)

@@ -1,7 +1,6 @@
 -- `is_of_definition`: the row's kind, or what is noted around it.
 use mathlib.Core.Path.{sym, ◌∙◌}
 use Rattle.join.specs.Join.{is_of_definition}
-use borrow.Author.Rules.{rules}
 use Rattle.join_rows.proofs.parts.is_of_definition.Goals as goal
 
 pub returns-then-is_definition : goal.returns-then-is_definition

@@ -1,5 +1,4 @@
 -- `rank`: both numbers fit.
-use borrow.Author.Rules.{rules}
 use Rattle.join_rows.proofs.parts.rank.Goals as goal
 
 pub returns : goal.returns

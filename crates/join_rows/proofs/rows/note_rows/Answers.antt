@@ -1,11 +1,10 @@
 -- `note_rows` writes both notes, one pass each.
 use Rattle.check_functions.specs.KnownLaws.{around-notes}
-use borrow.Author.Rules.{rules}
 use Rattle.join_rows.proofs.rows.note_rows.Goals as goal
 
 pub write_notes-requires : goal.write_notes-requires
 write_notes-requires c =
-    (c.requires.0, c.requires.1.room, c.requires.1.is 0 c.requires.0.some_rows, c.requires.3)
+    (c.requires.0, c.requires.1.room, c.requires.1.is 0 c.requires.0.some_rows)
 
 pub write_ranks-requires : goal.write_ranks-requires
 write_ranks-requires c =

@@ -7,7 +7,6 @@ use mir.Syntax.{w32}
 use mir.Facts.{to_z_pos}
 use Rattle.words.specs.Over.{over}
 use Rattle.join.specs.Join.{outer_block}
-use borrow.Author.Rules.{rules}
 use Rattle.join_rows.proofs.rows.put_outer.Goals as goal
 
 pub returns : goal.returns

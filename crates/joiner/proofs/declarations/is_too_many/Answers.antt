@@ -1,11 +1,9 @@
 -- `is_too_many` tests the number before the row, and then the row.
-use mathlib.Core.Path.{sym, ap, ◌∙◌}
-use mathlib.Core.Bool.{◌&&◌}
+use mathlib.Core.Path.{sym, ◌∙◌}
 use borrow.Author.Tests.{eq-eqb, ne_eqb}
 use Rattle.words.specs.Laws.{by_cases}
 use Rattle.words.specs.Declarations.{is_declaration}
 use Rattle.check_declaration_causes.specs.Causes.{one_too_many}
-use borrow.Author.Rules.{rules}
 use Rattle.joiner.proofs.declarations.is_too_many.Goals as goal
 
 pub returns-then-before-eq-LIMIT : goal.returns-then-before-eq-LIMIT

@@ -1,7 +1,6 @@
 -- `run_in` lends room for the bounds and the rows of the functions, and reads the ending and the count off what `start` answers and leaves.
 use mathlib.Core.Path.{sym, ap, ◌∙◌}
 use native.Mathlib.Omega.{arith}
-use borrow.Author.Rules.{rules}
 use Prim.Native.Nat.{ℕ, ◌+◌, ◌-◌}
 use lib.ListN.{length}
 use lib.Seq.{length-take-le}
@@ -19,13 +18,11 @@ use Rattle.machine.proofs.whole.run_in.Goals.{After-natural}
 
 pub overflow_sub-n : goal.overflow_sub-n
 overflow_sub-n c =
-    let begin = c.before.before in
-    omega (arith, c.leading-first.ensures, (header_fits-facts begin.args.form begin.args.header.now begin.requires.runs.fits).least)
+    omega (arith, c.leading-first.ensures, (header_fits-facts c.args.form c.args.header.now c.requires.runs.fits).least)
 
 pub offset_bounds-header-first : goal.offset_bounds-header-first
 offset_bounds-header-first c =
-    let begin = c.before.before in
-    omega (arith, c.leading-first.ensures, leading-limits begin.args.form)
+    omega (arith, c.leading-first.ensures, leading-limits c.args.form)
 
 pub slice_bounds-start-count : goal.slice_bounds-start-count
 slice_bounds-start-count c = overflow_sub-n c
@@ -35,42 +32,29 @@ slice_bounds-start-start c = overflow_sub-n c
 
 pub bounds-header-0 : goal.bounds-header-0
 bounds-header-0 c =
-    let begin = c.before.before.before in
-    omega (arith, (header_fits-facts begin.args.form begin.args.header.now begin.requires.runs.fits).least, leading-limits begin.args.form)
+    omega (arith, (header_fits-facts c.args.form c.args.header.now c.requires.runs.fits).least, leading-limits c.args.form)
 
 pub slice_bounds-start-end-2 : goal.slice_bounds-start-end-2
 slice_bounds-start-end-2 c =
-    let begin = c.before.before.before.before.before in
-    omega (arith, c.leading-first.ensures, (header_fits-facts begin.args.form begin.args.header.now begin.requires.runs.fits).most, begin.requires.enough)
+    omega (arith, c.leading-first.ensures, (header_fits-facts c.args.form c.args.header.now c.requires.runs.fits).most, c.requires.enough)
 
 pub slice_bounds-start-end-3 : goal.slice_bounds-start-end-3
 slice_bounds-start-end-3 c = sym (length-take-le _ _ (slice_bounds-start-end-2 (goal.at.slice_bounds-start-end-3 c).After-natural))
 
 pub start-answer-requires : goal.start-answer-requires
 start-answer-requires c =
-    let begin = c.before.before.before.before.before.before.before.before in
-    let past-leading = c.leading-first in
-    let past-natural-arg = c.natural-arg-1 in
-    let past-natural = c.natural in
-    startable begin.requires.runs past-leading.result past-leading.ensures past-natural.result (natural-again _ _ past-natural-arg.given past-natural.ensures) _
-    (length-take-le _ _ (slice_bounds-start-end-2 (goal.at.start-answer-requires c).After-natural) ∙ ap (λ (k : ℕ). length begin.args.header.now - past-leading.result + 1 + k) begin.requires.counted)
+    startable c.requires.runs c.leading-first.result c.leading-first.ensures c.natural.result (natural-again _ _ c.natural-arg-1.given c.natural.ensures) _
+    (length-take-le _ _ (slice_bounds-start-end-2 (goal.at.start-answer-requires c).After-natural) ∙ ap (λ (k : ℕ). length c.args.header.now - c.leading-first.result + 1 + k) c.requires.counted)
 
 pub overflow_sub-count : goal.overflow_sub-count
 overflow_sub-count c =
-    let begin = c.before.before.before.before.before.before.before.before.before.before.before.before in
-    let past-start = c.start-answer in
-    omega (arith, ran-least past-start.result past-start.new.left past-start.new.store begin.args.budget begin.args.store.now _ past-start.ensures)
+    omega (arith, ran-least c.start-answer.result c.start-answer.new.left c.start-answer.new.store c.args.budget c.args.store.now _ c.start-answer.ensures)
 
 pub returns : goal.returns
 unfolding run_table run_table_under
 returns c =
-    let begin = c.before.before.before.before.before.before.before.before.before.before.before.before.before in
-    let past-leading = c.leading-first in
-    let past-natural-arg = c.natural-arg-1 in
-    let past-natural = c.natural in
-    let past-start = c.start-answer in
-    let given = past-start.ensures ∙ whole-program begin.requires.runs past-leading.result past-leading.ensures past-natural.result (natural-again _ _ past-natural-arg.given past-natural.ensures) begin.args.budget begin.args.store.now in
-    let left = past-start.new.left in
-    let store = past-start.new.store in
-    ap (λ (e : Ending). record { ending = e; count = begin.args.budget - left; store = store }) (c.ending_of.ensures ∙ ap ending_of_answer (handed-is past-start.result past-start.type_inv))
-    ∙ run-finished begin.args.budget (table_program begin.args.form begin.args.header.now begin.args.rows.now) begin.args.store.now past-start.result left store given
+    let given = c.start-answer.ensures ∙ whole-program c.requires.runs c.leading-first.result c.leading-first.ensures c.natural.result (natural-again _ _ c.natural-arg-1.given c.natural.ensures) c.args.budget c.args.store.now in
+    let left = c.start-answer.new.left in
+    let store = c.start-answer.new.store in
+    ap (λ (e : Ending). record { ending = e; count = c.args.budget - left; store = store }) (c.ending_of.ensures ∙ ap ending_of_answer (handed-is c.start-answer.result c.start-answer.type_inv))
+    ∙ run-finished c.args.budget (table_program c.args.form c.args.header.now c.args.rows.now) c.args.store.now c.start-answer.result left store given

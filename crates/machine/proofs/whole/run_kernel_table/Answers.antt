@@ -1,5 +1,4 @@
 -- `run_kernel_table` counts the functions, and takes a room for so many.
-use borrow.Author.Rules.{rules}
 use Rattle.machine.proofs.Bounds.{in_order}
 use Rattle.machine.proofs.whole.run_kernel_table.Goals as goal
 

@@ -1,5 +1,4 @@
 -- `run_source_table` counts the functions: no more than the rows.
-use borrow.Author.Rules.{rules}
 use Rattle.machine.proofs.Bounds.{in_order}
 use Rattle.machine.proofs.whole.run_source_table.Goals as goal
 

@@ -1,5 +1,4 @@
 -- `start` writes the bounds and the rows of the functions, and runs the statement at row 0 with them.
-use borrow.Author.Rules.{rules}
 use native.Mathlib.Omega.{arith}
 use mathlib.Core.Path.{◌≡◌, sym, ap, subst, ◌∙◌}
 use mathlib.Core.List.{List, ◌++◌}
@@ -24,34 +23,26 @@ slice_bounds-fill_bounds-end-2 c = sym (length-take-le _ _ (let start = c.before
 
 pub fill_bounds-requires : goal.fill_bounds-requires
 fill_bounds-requires c =
-    let start = c.before.before in
-    (length-take-le _ _ (omega (arith, start.requires.room_is)), start.requires.small)
+    (length-take-le _ _ (omega (arith, c.requires.room_is)), c.requires.small)
 
 pub exec-requires : goal.exec-requires
 exec-requires c =
-    let start = c in
-    let past-fill-bounds = c.fill_bounds in
-    let past-fill-functions = c.fill_functions in
-    let bounds = past-fill-bounds.new.bounds in
-    let functions = past-fill-functions.new.room in
-    let n = length start.args.lengths.now + 1 in
-    let words : n ≡ length bounds = sym (ap length past-fill-bounds.ensures ∙ bounds-words start.args.variables start.args.lengths.now) in
-    let all : length functions ≡ function_count (contents start.args.rows.now) = past-fill-functions.auto.room ∙ functions-room bounds start.args.bounds.now n _ words start.requires.room_is in
-    let written = list_written bounds functions (drop n start.args.bounds.now) n words ∙ ap (λ (b : List ℕ). b ++ functions) past-fill-bounds.ensures in
-    record { setting = subst (λ (b : List ℕ). Setting start.args.rows.now b (length start.args.store.now)) (sym written) (start.requires.setting functions all past-fill-functions.ensures); below = start.requires.order.table.below }
+    let bounds = c.fill_bounds.new.bounds in
+    let functions = c.fill_functions.new.room in
+    let n = length c.args.lengths.now + 1 in
+    let words : n ≡ length bounds = sym (ap length c.fill_bounds.ensures ∙ bounds-words c.args.variables c.args.lengths.now) in
+    let all : length functions ≡ function_count (contents c.args.rows.now) = c.fill_functions.auto.room ∙ functions-room bounds c.args.bounds.now n _ words c.requires.room_is in
+    let written = list_written bounds functions (drop n c.args.bounds.now) n words ∙ ap (λ (b : List ℕ). b ++ functions) c.fill_bounds.ensures in
+    record { setting = subst (λ (b : List ℕ). Setting c.args.rows.now b (length c.args.store.now)) (sym written) (c.requires.setting functions all c.fill_functions.ensures); below = c.requires.order.table.below }
 
 pub returns : goal.returns
 returns c =
-    let start = c in
-    let past-fill-bounds = c.fill_bounds in
-    let past-fill-functions = c.fill_functions in
-    let past-exec = c.exec in
-    let bounds = past-fill-bounds.new.bounds in
-    let functions = past-fill-functions.new.room in
-    let n = length start.args.lengths.now + 1 in
-    let words : n ≡ length bounds = sym (ap length past-fill-bounds.ensures ∙ bounds-words start.args.variables start.args.lengths.now) in
-    let all : length functions ≡ function_count (contents start.args.rows.now) = past-fill-functions.auto.room ∙ functions-room bounds start.args.bounds.now n _ words start.requires.room_is in
-    let written = list_written bounds functions (drop n start.args.bounds.now) n words ∙ ap (λ (b : List ℕ). b ++ functions) past-fill-bounds.ensures in
-    ran-handed past-exec.result _ _ past-exec.type_inv ∙ past-exec.ensures
-    ∙ ap (λ (b : List ℕ). spend (exec_at start.args.rows.now b 0) start.args.left.now start.args.store.now) written
-    ∙ ap (λ (L : Layout). spend (exec (context_in L start.args.rows.now) (statement_at start.args.rows.now 0)) start.args.left.now start.args.store.now) (start.requires.layout_is functions all)
+    let bounds = c.fill_bounds.new.bounds in
+    let functions = c.fill_functions.new.room in
+    let n = length c.args.lengths.now + 1 in
+    let words : n ≡ length bounds = sym (ap length c.fill_bounds.ensures ∙ bounds-words c.args.variables c.args.lengths.now) in
+    let all : length functions ≡ function_count (contents c.args.rows.now) = c.fill_functions.auto.room ∙ functions-room bounds c.args.bounds.now n _ words c.requires.room_is in
+    let written = list_written bounds functions (drop n c.args.bounds.now) n words ∙ ap (λ (b : List ℕ). b ++ functions) c.fill_bounds.ensures in
+    ran-handed c.exec.result _ _ c.exec.type_inv ∙ c.exec.ensures
+    ∙ ap (λ (b : List ℕ). spend (exec_at c.args.rows.now b 0) c.args.left.now c.args.store.now) written
+    ∙ ap (λ (L : Layout). spend (exec (context_in L c.args.rows.now) (statement_at c.args.rows.now 0)) c.args.left.now c.args.store.now) (c.requires.layout_is functions all)

@@ -1,8 +1,7 @@
 -- `argument_count` walks the arguments. The invariant: those behind the row are still to count. The measure is the rows ahead.
 use native.Mathlib.Omega.{arith}
-use Rattle.words.specs.Table.{row_count}
-use Rattle.machine_flows.proofs.Items.{ahead, next-asks}
-use Rattle.machine_flows.proofs.Walks.{Counted, counted-first, count-falls, counted_next, count_small, counted-all}
+use Rattle.machine_flows.proofs.Items.{next-asks}
+use Rattle.machine_flows.proofs.Walks.{counted-first, count-falls, counted_next, count_small, counted-all}
 use Rattle.machine_flows.proofs.calls.argument_count.Goals as goal
 
 pub loop-at-init : goal.loop-at-init

@@ -1,8 +1,7 @@
 -- `argument_count` walks the arguments. The invariant: those behind the row are still to count. The measure is the rows ahead.
-use native.Mathlib.Omega.{arith}
 use Rattle.words.specs.Table.{row_count}
-use Rattle.machine_flows.proofs.Items.{ahead, next-asks}
-use Rattle.machine_flows.proofs.Walks.{Counted, counted-first, count-falls, counted_next, count_small, counted-all}
+use Rattle.machine_flows.proofs.Items.{ahead}
+use Rattle.machine_flows.proofs.Walks.{Counted}
 use Rattle.machine_flows.proofs.calls.argument_count.Given as goal
 
 abbrev pub invariant-loop-at : goal.invariant-loop-at

@@ -1,13 +1,6 @@
--- `row_behind` walks along the links. The invariant: the row is so many links behind. The measure is the links ahead.
-use Prim.Native.Nat.{◌-◌}
-use native.Mathlib.Omega.{arith}
-use Rattle.machine_flows.proofs.Items.{next-asks}
-use Rattle.machine_flows.proofs.Walks.{Walked, walked-first, walked_next, walked_all}
-use borrow.Author.Rules.{rules}
+-- `row_behind` walks along the links. The invariant: the row is so many links behind.
+use Rattle.machine_flows.proofs.Walks.{Walked}
 use Rattle.machine_flows.proofs.calls.row_behind.Given as goal
 
-abbrev pub invariant-loop-k : goal.invariant-loop-k
-invariant-loop-k l = Walked l.rows l.first l.links l.at l.k
-
-abbrev pub decreases-loop-k : goal.decreases-loop-k
-decreases-loop-k l = l.links - l.k
+abbrev pub invariant-loop-link : goal.invariant-loop-link
+invariant-loop-link l = Walked l.rows l.first l.links l.at l._link

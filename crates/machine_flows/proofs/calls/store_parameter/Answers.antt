@@ -4,7 +4,6 @@ use Prim.Native.Nat.{ℕ}
 use native.Mathlib.Omega.{arith}
 use lib.IntN.{ℤ}
 use lib.ListN.{set}
-use borrow.Author.Rules.{rules}
 use Rattle.words.specs.Laws.{back}
 use Rattle.machine_flows.proofs.calls.store_parameter.Goals as goal
 
@@ -21,6 +20,5 @@ bounds-store-word c = omega (arith, c.link_at-word.ensures, c.requires.inside)
 
 pub returns : goal.returns
 returns c =
-    let start = c.before in
-    ap (λ (v : ℤ). set start.args.store.now c.link_at-word.result v) (back start.args.value start.ranges.value.sfits)
-    ∙ ap (λ (i : ℕ). set start.args.store.now i start.args.value) c.link_at-word.ensures
+    ap (λ (v : ℤ). set c.args.store.now c.link_at-word.result v) (back c.args.value c.ranges.value.sfits)
+    ∙ ap (λ (i : ℕ). set c.args.store.now i c.args.value) c.link_at-word.ensures

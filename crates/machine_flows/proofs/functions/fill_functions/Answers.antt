@@ -1,9 +1,8 @@
 -- `fill_functions` walks the definitions. The invariant: the rows of those before the row are in the room. The measure is the room left.
-use borrow.Author.Rules.{rules}
 use mathlib.Core.Path.{refl, sym, ◌∙◌}
 use native.Mathlib.Omega.{arith}
 use Rattle.machine_flows.proofs.Items.{next-asks}
-use Rattle.machine_flows.proofs.Definitions.{first-asks, Placing, placing-first, placing-here, placing-inside, placing-next, placing-last}
+use Rattle.machine_flows.proofs.Definitions.{first-asks, placing-first, placing-here, placing-inside, placing-next, placing-last}
 use Rattle.machine_flows.proofs.functions.fill_functions.Goals as goal
 
 pub link_at-at-requires : goal.link_at-at-requires

@@ -1,10 +1,8 @@
 -- `function_count` walks the definitions. The invariant: those from the row on are still to count. The measure is the rows ahead.
-use borrow.Author.Rules.{rules}
 use mathlib.Core.Path.{sym, ◌∙◌}
 use native.Mathlib.Omega.{arith}
-use Rattle.words.specs.Table.{row_count}
-use Rattle.machine_flows.proofs.Items.{ahead, next-asks}
-use Rattle.machine_flows.proofs.Definitions.{first-asks, defined-later, Counting, counting-first, here, counting-next, counting-small, counting-last}
+use Rattle.machine_flows.proofs.Items.{next-asks}
+use Rattle.machine_flows.proofs.Definitions.{first-asks, defined-later, counting-first, here, counting-next, counting-small, counting-last}
 use Rattle.machine_flows.proofs.functions.function_count.Goals as goal
 
 pub link_at-at-requires : goal.link_at-at-requires

@@ -1,6 +1,5 @@
 -- `function_row` reads the place from the end.
-use borrow.Author.Rules.{rules}
-use mathlib.Core.Path.{refl, sym}
+use mathlib.Core.Path.{refl}
 use Rattle.machine_operations.specs.Bounds.{function_row_in}
 use Rattle.machine_flows.proofs.functions.function_row.Goals as goal
 

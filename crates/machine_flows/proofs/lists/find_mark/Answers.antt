@@ -2,8 +2,7 @@
 -- is the rows ahead.
 use mathlib.Core.Path.{sym, ◌∙◌}
 use Rattle.words.specs.Table.{row_count}
-use Rattle.machine_flows.specs.Lists.{mark_of}
-use Rattle.machine_flows.proofs.Items.{ahead, ahead-falls, at_row, next-asks, next_is, Sought, sought-first, sought-next, finds-here, finds-none}
+use Rattle.machine_flows.proofs.Items.{ahead-falls, at_row, next-asks, next_is, sought-first, sought-next, finds-here, finds-none}
 use Rattle.machine_flows.proofs.lists.find_mark.Goals as goal
 
 pub loop-at-init : goal.loop-at-init
@@ -18,21 +17,18 @@ link_at-at-requires c =
 
 pub loop-at-smaller : goal.loop-at-smaller
 loop-at-smaller c =
-    let start = c.before.before.before.before.before in
     let past-loop = c.loop-at in
-    ahead-falls (row_count start.args.rows.now) past-loop.at c.link_at-at.result c.if-at-eq0.false past-loop.invariant.below (next_is (at_row start.requires past-loop.invariant.below) c.link_at-at.ensures).1
+    ahead-falls (row_count c.args.rows.now) past-loop.at c.link_at-at.result c.loop-at-test.true past-loop.invariant.below (next_is (at_row c.requires past-loop.invariant.below) c.link_at-at.ensures).1
 
 pub loop-at-preserved : goal.loop-at-preserved
 loop-at-preserved c =
-    let start = c.before.before.before.before.before in
     let past-loop = c.loop-at in
-    sought-next past-loop.invariant (at_row start.requires past-loop.invariant.below) c.if-at-eq0.false (sym c.is_mark.ensures ∙ c.if-is_mark.false) c.link_at-at.ensures
+    sought-next past-loop.invariant (at_row c.requires past-loop.invariant.below) c.loop-at-test.true (sym c.is_mark.ensures ∙ c.if-not-is_mark.true) c.link_at-at.ensures
 
-pub returns-then-at-eq0 : goal.returns-then-at-eq0
-returns-then-at-eq0 c = finds-none c.loop-at.invariant c.if-at-eq0.true
+pub returns-after-loop-at : goal.returns-after-loop-at
+returns-after-loop-at c = finds-none c.loop-at.invariant c.loop-at-test.false
 
-pub returns-then-is_mark : goal.returns-then-is_mark
-returns-then-is_mark c =
-    let start = c.before.before.before.before in
+pub returns-else-not-is_mark : goal.returns-else-not-is_mark
+returns-else-not-is_mark c =
     let past-loop = c.loop-at in
-    finds-here past-loop.invariant (at_row start.requires past-loop.invariant.below) c.if-at-eq0.false (sym c.is_mark.ensures ∙ c.if-is_mark.true)
+    finds-here past-loop.invariant (at_row c.requires past-loop.invariant.below) c.loop-at-test.true (sym c.is_mark.ensures ∙ c.if-not-is_mark.false)

@@ -1,9 +1,8 @@
 -- `find_mark` walks the items. The invariant: the row is in the table, and the search from it on is the whole search. The measure
 -- is the rows ahead.
-use mathlib.Core.Path.{sym, ◌∙◌}
 use Rattle.words.specs.Table.{row_count}
 use Rattle.machine_flows.specs.Lists.{mark_of}
-use Rattle.machine_flows.proofs.Items.{ahead, ahead-falls, at_row, next-asks, next_is, Sought, sought-first, sought-next, finds-here, finds-none}
+use Rattle.machine_flows.proofs.Items.{ahead, Sought}
 use Rattle.machine_flows.proofs.lists.find_mark.Given as goal
 
 abbrev pub invariant-loop-at : goal.invariant-loop-at

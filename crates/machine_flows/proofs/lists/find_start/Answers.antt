@@ -1,15 +1,12 @@
 -- `find_start` looks for the case, and where there is none for the default.
 use Rattle.words.specs.Laws.{back}
 use Rattle.machine_flows.proofs.Items.{starts-case, starts-default}
-use borrow.Author.Rules.{rules}
 use Rattle.machine_flows.proofs.lists.find_start.Goals as goal
 
 pub returns-then-at-ne0 : goal.returns-then-at-ne0
 returns-then-at-ne0 c =
-    let start = c.before.before in
-    starts-case (rw (back start.args.value start.ranges.value.sfits) at c.find_mark-at.ensures) c.if-at-ne0.true
+    starts-case (rw (back c.args.value c.ranges.value.sfits) at c.find_mark-at.ensures) c.if-at-ne0.true
 
 pub returns : goal.returns
 returns c =
-    let start = c.before.before.before in
-    starts-default (rw (back start.args.value start.ranges.value.sfits) at c.find_mark-at.ensures) c.if-at-ne0.false c.find_mark.ensures
+    starts-default (rw (back c.args.value c.ranges.value.sfits) at c.find_mark-at.ensures) c.if-at-ne0.false c.find_mark.ensures

@@ -1,6 +1,5 @@
 -- `is_default` tests the kind by its number.
 use Rattle.machine_flows.proofs.Items.{default-test}
-use borrow.Author.Rules.{rules}
 use Rattle.machine_flows.proofs.lists.is_default.Goals as goal
 
 pub returns : goal.returns

@@ -6,20 +6,16 @@ use Rattle.language.specs.Trees.{case}
 use Rattle.language.specs.Decode.{items_at}
 use Rattle.machine_flows.specs.Lists.{mark_of, marks}
 use Rattle.machine_flows.specs.declared.SoughtMark.{SoughtMark}
-use borrow.Author.Rules.{rules}
 use Rattle.machine_flows.proofs.lists.is_mark.Goals as goal
 
 pub returns-in-Case : goal.returns-in-Case
 returns-in-Case c =
-    let start = c.before.before in
-    c.is_case.ensures ∙ ap (λ (z : ℤ). marks (case z) (items_at start.args.rows.now start.args.row)) (back c.in-Case.value c.in-Case.known_told-1-own.given.0.1) ∙ ap (λ (m : SoughtMark). marks (mark_of m) (items_at start.args.rows.now start.args.row)) (sym c.in-Case.is)
+    c.is_case.ensures ∙ ap (λ (z : ℤ). marks (case z) (items_at c.args.rows.now c.args.row)) (back c.in-Case.value c.in-Case.known_told-1-own.given.0.1) ∙ ap (λ (m : SoughtMark). marks (mark_of m) (items_at c.args.rows.now c.args.row)) (sym c.in-Case.is)
 
 pub returns-in-Default : goal.returns-in-Default
 returns-in-Default c =
-    let start = c.before.before in
-    c.is_default.ensures ∙ ap (λ (m : SoughtMark). marks (mark_of m) (items_at start.args.rows.now start.args.row)) (sym c.in-Default.is)
+    c.is_default.ensures ∙ ap (λ (m : SoughtMark). marks (mark_of m) (items_at c.args.rows.now c.args.row)) (sym c.in-Default.is)
 
 pub returns-in-Label : goal.returns-in-Label
 returns-in-Label c =
-    let start = c.before.before in
-    c.is_label.ensures ∙ ap (λ (m : SoughtMark). marks (mark_of m) (items_at start.args.rows.now start.args.row)) (sym c.in-Label.is)
+    c.is_label.ensures ∙ ap (λ (m : SoughtMark). marks (mark_of m) (items_at c.args.rows.now c.args.row)) (sym c.in-Label.is)

@@ -5,7 +5,6 @@ use Prim.Native.Nat.{◌<◌, ◌^◌}
 use lib.Signed.{mag}
 use Rattle.machine_operations.specs.Answers.{beyond}
 use Rattle.machine_operations.proofs.Decoding.{handed, handed-is, before-words-end, behind-casts, behind-least, behind_is}
-use borrow.Author.Rules.{rules}
 use Rattle.machine_operations.proofs.answers.beyond.Goals as goal
 
 same : (z : ℤ) → mag z < 2 ^ 63 → beyond (handed z) ≡ beyond z

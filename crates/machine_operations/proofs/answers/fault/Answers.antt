@@ -1,6 +1,5 @@
 -- `fault` gives each sort its number, counted from the greatest word.
 use Rattle.machine_operations.proofs.Decoding.{counted-fits, counted_is}
-use borrow.Author.Rules.{rules}
 use Rattle.machine_operations.proofs.answers.fault.Goals as goal
 
 pub overflow_add-result : goal.overflow_add-result

@@ -1,6 +1,5 @@
 -- `operand` tests whether the answer is a word.
 use Rattle.machine_operations.proofs.Decoding.{operand_above, operand-returns, operand_below, operand-fits, operand-is}
-use borrow.Author.Rules.{rules}
 use Rattle.machine_operations.proofs.answers.operand.Goals as goal
 
 pub returns-then-is_return : goal.returns-then-is_return

@@ -3,7 +3,6 @@ use mathlib.Core.Path.{ap, ◌∙◌}
 use lib.IntN.{ℤ}
 use Rattle.computation.specs.Remaining.{gives}
 use Rattle.machine_operations.proofs.Decoding.{wide_fits, answered-wide}
-use borrow.Author.Rules.{rules}
 use Rattle.machine_operations.proofs.operations.constant.Goals as goal
 
 pub overflow_cast-result : goal.overflow_cast-result

@@ -1,5 +1,4 @@
 -- `decides` tests the operand's truth one way or the other.
-use borrow.Author.Rules.{rules}
 use mathlib.Core.Path.{sym, ap, ◌∙◌}
 use mathlib.Core.Bool.{Bool, not}
 use Rattle.words.specs.Word.{pick}

@@ -1,7 +1,6 @@
 -- `link_at` casts a word that is not negative.
 use Rattle.words.specs.Table.{word_at, number_at}
 use Rattle.machine_operations.proofs.Decoding.{link-cast, link-is}
-use borrow.Author.Rules.{rules}
 use Rattle.machine_operations.proofs.operations.link_at.Goals as goal
 
 pub overflow_cast-result : goal.overflow_cast-result

@@ -1,8 +1,8 @@
 -- `operate` settles what the function of the operator gives, or tests the operands.
+use Rattle.std.specs.Prelude.{Ok}
 use mathlib.Core.Path.{refl, ap, ◌∙◌}
 use mathlib.Core.Bool.{not}
-use borrow.Author.Rules.{rules}
-use Rattle.arithmetic.specs.Arithmetic.{value, bit, apply}
+use Rattle.arithmetic.specs.Arithmetic.{bit, apply}
 use Rattle.arithmetic.proofs.Results.{handed-on, compared, equal-bits}
 use Rattle.machine_operations.proofs.Decoding.{wide_fits, settles-word}
 use Rattle.machine_operations.proofs.Operands.{settled_is}
@@ -79,10 +79,10 @@ pub returns-in-Equal : goal.returns-in-Equal
 unfolding apply
 returns-in-Equal c =
     let s = c.before.before in
-    settles-word c.bit-in-Equal.result _ c.bit-in-Equal.type_inv (compared s.ranges.left s.ranges.right _ c.in-Equal.is c.bit-in-Equal.ensures (ap (λ b. value (bit b)) (equal-bits s.ranges.left s.ranges.right)))
+    settles-word c.bit-in-Equal.result _ c.bit-in-Equal.type_inv (compared s.ranges.left s.ranges.right _ c.in-Equal.is c.bit-in-Equal.ensures (ap (λ b. Ok (bit b)) (equal-bits s.ranges.left s.ranges.right)))
 
 pub returns-in-NotEqual : goal.returns-in-NotEqual
 unfolding apply
 returns-in-NotEqual c =
     let s = c.before.before in
-    settles-word c.bit-in-NotEqual.result _ c.bit-in-NotEqual.type_inv (compared s.ranges.left s.ranges.right _ c.in-NotEqual.is c.bit-in-NotEqual.ensures (ap (λ b. value (bit (not b))) (equal-bits s.ranges.left s.ranges.right)))
+    settles-word c.bit-in-NotEqual.result _ c.bit-in-NotEqual.type_inv (compared s.ranges.left s.ranges.right _ c.in-NotEqual.is c.bit-in-NotEqual.ensures (ap (λ b. Ok (bit (not b))) (equal-bits s.ranges.left s.ranges.right)))

@@ -31,4 +31,4 @@ pub past_labels-requires : goal.past_labels-requires
 past_labels-requires c = (c.requires.2, c.measure_at-5.ensures.small)
 
 pub returns : goal.returns
-returns c = same-measures (c.limited.ensures ∙ ap (λ (n : ℕ). limited (c.args.s.rows + n)) c.measure_at.ensures.is) (c.larger.ensures ∙ ap (max c.args.s.levels) c.measure_at-2.ensures.is) (c.limited-2.ensures ∙ ap (λ (n : ℕ). limited (c.args.s.labels + n)) c.measure_at-3.ensures.is) c.measure_at-4.ensures.is (c.past_labels.ensures ∙ ap (λ (n : ℕ). limited (past_labels c.args.s.labels n)) c.measure_at-5.ensures.is)
+returns c = same-measures (c.limited.ensures ∙ ap (λ (n : ℕ). limited (c.args.s.rows + n)) c.measure_at.ensures.is) (c.max.ensures ∙ ap (max c.args.s.levels) c.measure_at-2.ensures.is) (c.limited-2.ensures ∙ ap (λ (n : ℕ). limited (c.args.s.labels + n)) c.measure_at-3.ensures.is) c.measure_at-4.ensures.is (c.past_labels.ensures ∙ ap (λ (n : ℕ). limited (past_labels c.args.s.labels n)) c.measure_at-5.ensures.is)

@@ -1,5 +1,5 @@
 -- The measures of an expression statement.
-use mathlib.Core.Path.{refl, ap, ◌∙◌}
+use mathlib.Core.Path.{◌≡◌, refl, ap, ◌∙◌}
 use Prim.Native.Nat.{max}
 use native.Mathlib.Omega.{arith}
 use Rattle.measures_table.specs.Measures.{dropped_rows_slot, dropped_levels_slot}
@@ -13,4 +13,4 @@ pub measure_at-requires-2 : goal.measure_at-requires-2
 measure_at-requires-2 c = c.requires dropped_levels_slot (omega arith)
 
 pub returns : goal.returns
-returns c = same-three (c.larger.ensures ∙ ap (max 1) c.measure_at.ensures.is) c.measure_at-2.ensures.is refl
+returns c = same-three (c.max.ensures ∙ (let turned : max c.measure_at.result 1 ≡ max 1 c.measure_at.result = omega arith in turned) ∙ ap (max 1) c.measure_at.ensures.is) c.measure_at-2.ensures.is refl

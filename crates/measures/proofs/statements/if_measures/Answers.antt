@@ -42,4 +42,4 @@ pub overflow_add-labels : goal.overflow_add-labels
 overflow_add-labels c = omega (arith, c.measure_at-labels.ensures.small, c.measure_at-4.ensures.small)
 
 pub returns : goal.returns
-returns c = same-three c.limited.ensures (c.larger.ensures ∙ ap (max c.measure_at-3.result) c.larger-levels.ensures) c.limited-2.ensures ∙ if-words c.args.table.now c.args.e c.args.yes c.args.no c.measure_at-test.ensures.is c.measure_at-onward.ensures.is c.measure_at-other.ensures.is c.measure_at-3.ensures.is c.measure_at.ensures.is c.measure_at-2.ensures.is c.measure_at-labels.ensures.is c.measure_at-4.ensures.is
+returns c = same-three c.limited.ensures (c.max.ensures ∙ ap (max c.measure_at-3.result) c.max-levels.ensures) c.limited-2.ensures ∙ if-words c.args.table.now c.args.e c.args.yes c.args.no c.measure_at-test.ensures.is c.measure_at-onward.ensures.is c.measure_at-other.ensures.is c.measure_at-3.ensures.is c.measure_at.ensures.is c.measure_at-2.ensures.is c.measure_at-labels.ensures.is c.measure_at-4.ensures.is

@@ -49,4 +49,4 @@ pub overflow_add-measure_at : goal.overflow_add-measure_at
 overflow_add-measure_at c = omega (arith, c.measure_at-8.ensures.small)
 
 pub returns : goal.returns
-returns c = same-three c.limited.ensures (c.larger.ensures ∙ ap₂ max c.larger-outer.ensures c.larger-inner.ensures) c.limited-2.ensures ∙ loop-words c.args.table.now c.args.first c.args.test c.args.step c.args.body c.measure_at.ensures.is c.test_rows.ensures.is c.measure_at-2.ensures.is c.measure_at-3.ensures.is c.measure_at-4.ensures.is c.measure_at-5.ensures.is c.measure_at-6.ensures.is c.measure_at-7.ensures.is c.measure_at-8.ensures.is
+returns c = same-three c.limited.ensures (c.max.ensures ∙ ap₂ max c.max-outer.ensures c.max-inner.ensures) c.limited-2.ensures ∙ loop-words c.args.table.now c.args.first c.args.test c.args.step c.args.body c.measure_at.ensures.is c.test_rows.ensures.is c.measure_at-2.ensures.is c.measure_at-3.ensures.is c.measure_at-4.ensures.is c.measure_at-5.ensures.is c.measure_at-6.ensures.is c.measure_at-7.ensures.is c.measure_at-8.ensures.is

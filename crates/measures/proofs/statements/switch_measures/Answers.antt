@@ -42,4 +42,4 @@ pub overflow_add-measure_at : goal.overflow_add-measure_at
 overflow_add-measure_at c = omega (arith, c.measure_at-3.ensures.small)
 
 pub returns : goal.returns
-returns c = same-three c.limited.ensures (c.larger.ensures ∙ ap (max (c.args.taken + 1)) c.larger-levels.ensures) c.limited-2.ensures ∙ switch-words c.args.table.now c.args.taken c.args.e c.args.list c.measure_at-selector.ensures.is c.measure_at-tests.ensures.is c.measure_at-items.ensures.is c.measure_at.ensures.is c.measure_at-2.ensures.is c.measure_at-3.ensures.is
+returns c = same-three c.limited.ensures (c.max.ensures ∙ ap (max (c.args.taken + 1)) c.max-levels.ensures) c.limited-2.ensures ∙ switch-words c.args.table.now c.args.taken c.args.e c.args.list c.measure_at-selector.ensures.is c.measure_at-tests.ensures.is c.measure_at-items.ensures.is c.measure_at.ensures.is c.measure_at-2.ensures.is c.measure_at-3.ensures.is

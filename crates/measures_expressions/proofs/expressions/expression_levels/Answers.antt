@@ -31,4 +31,4 @@ measure_at-fourth-requires c =
 
 pub returns : goal.returns
 returns c =
-    c.limited.ensures ∙ ap limited (c.larger-4.ensures ∙ ap (max _) (c.larger-3.ensures ∙ ap₂ max c.larger.ensures c.larger-2.ensures)) ∙ levels-of _ _ _ c.requires.0 _ c.requires.2 c.args.usage _ _ _ _ _ _ _ _ c.second_use-second_use.ensures c.levels_for.ensures c.levels_for-2.ensures c.measure_at-first.ensures.is c.measure_at.ensures.is c.measure_at-third.ensures.is c.measure_at-fourth.ensures.is c.levels_by.ensures c.requires.2.above-is
+    c.limited.ensures ∙ ap limited (c.max-4.ensures ∙ ap (max _) (c.max-3.ensures ∙ ap₂ max c.max.ensures c.max-2.ensures)) ∙ levels-of _ _ _ c.requires.0 _ c.requires.2 c.args.usage _ _ _ _ _ _ _ _ c.second_use-second_use.ensures c.levels_for.ensures c.levels_for-2.ensures c.measure_at-first.ensures.is c.measure_at.ensures.is c.measure_at-third.ensures.is c.measure_at-fourth.ensures.is c.levels_by.ensures c.requires.2.above-is

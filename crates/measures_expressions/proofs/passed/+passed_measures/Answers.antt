@@ -25,7 +25,7 @@ pub copied_against-copied-requires : goal.copied_against-copied-requires
 copied_against-copied-requires t c =
     let p = c.requires in
     let there : 0 < c.args.link = omega (arith, c.if-link-eq0.false) in
-    let f = read_next c.number_at-next.ensures (argued c.argument_at-shape.ensures c.in-Argument.is) in
+    let f = read_next c.number_at-next.ensures (argued c.argument_at-shape.ensures c.in-Some.is) in
     let m = (p.1 there).0 in
     let q = link-asks m f.onward in
     (q.0, p.0.names, q.1, q.2, q.3)
@@ -34,7 +34,7 @@ pub taken_at-taken-requires : goal.taken_at-taken-requires
 taken_at-taken-requires t c =
     let p = c.requires in
     let there : 0 < c.args.link = omega (arith, c.if-link-eq0.false) in
-    let f = read_next c.number_at-next.ensures (argued c.argument_at-shape.ensures c.in-Argument.is) in
+    let f = read_next c.number_at-next.ensures (argued c.argument_at-shape.ensures c.in-Some.is) in
     let m = (p.1 there).0 in
     link-asks m f.onward
 
@@ -42,7 +42,7 @@ pub set_at-requires : goal.set_at-requires
 set_at-requires t c =
     let p = c.requires in
     let there : 0 < c.args.link = omega (arith, c.if-link-eq0.false) in
-    let f = read_next c.number_at-next.ensures (argued c.argument_at-shape.ensures c.in-Argument.is) in
+    let f = read_next c.number_at-next.ensures (argued c.argument_at-shape.ensures c.in-Some.is) in
     let m = (p.1 there).0 in
     λ h. omega (arith, p.0.room, f.onward.inside)
 
@@ -50,7 +50,7 @@ pub passed_measures-behind-requires : goal.passed_measures-behind-requires
 passed_measures-behind-requires t c =
     let p = c.requires in
     let there : 0 < c.args.link = omega (arith, c.if-link-eq0.false) in
-    let f = read_next c.number_at-next.ensures (argued c.argument_at-shape.ensures c.in-Argument.is) in
+    let f = read_next c.number_at-next.ensures (argued c.argument_at-shape.ensures c.in-Some.is) in
     let m = (p.1 there).0 in
     let less = left_less _ _ (p.1 there).1 f.behind there in
     (omega (arith, less, c.decreases), (p.0, λ h. (measured-less _ m (omega (arith, (f.behind h).later)), (f.behind h).inside), omega (arith, p.2, count-behind f there)))
@@ -59,18 +59,18 @@ pub with_argument-requires : goal.with_argument-requires
 with_argument-requires t c =
     let p = c.requires in
     let there : 0 < c.args.link = omega (arith, c.if-link-eq0.false) in
-    let f = read_next c.number_at-next.ensures (argued c.argument_at-shape.ensures c.in-Argument.is) in
+    let f = read_next c.number_at-next.ensures (argued c.argument_at-shape.ensures c.in-Some.is) in
     let m = (p.1 there).0 in
     (slot-asks m (λ h. f.onward), taken-small f c.taken_at-taken.ensures, c.copied_against-copied.ensures.most, behind-fits f there p.2 c.passed_measures-behind.ensures)
 
-pub returns-in-Argument : goal.returns-in-Argument
-returns-in-Argument t c =
+pub returns-in-Some : goal.returns-in-Some
+returns-in-Some t c =
     let p = c.requires in
     let there : 0 < c.args.link = omega (arith, c.if-link-eq0.false) in
-    let f = read_next c.number_at-next.ensures (argued c.argument_at-shape.ensures c.in-Argument.is) in
+    let f = read_next c.number_at-next.ensures (argued c.argument_at-shape.ensures c.in-Some.is) in
     let m = (p.1 there).0 in
     argument-passed f there (link-asks m f.onward).3 c.taken_at-taken.ensures (taken-small f c.taken_at-taken.ensures) c.copied_against-copied.ensures (link_set (sets-less _ p.0 (omega arith)) f.onward c.set_at.ensures) c.join-written.ensures c.passed_measures-behind.ensures c.with_argument.ensures
 
-pub returns-in-NoArgument : goal.returns-in-NoArgument
-returns-in-NoArgument t c =
-    let there : 0 < c.args.link = omega (arith, c.if-link-eq0.false) in ended-passed _ there (argued c.argument_at-shape.ensures c.in-NoArgument.is) c.no_passed-in-NoArgument.ensures
+pub returns-in-None : goal.returns-in-None
+returns-in-None t c =
+    let there : 0 < c.args.link = omega (arith, c.if-link-eq0.false) in ended-passed _ there (argued c.argument_at-shape.ensures c.in-None.is) c.no_passed-in-None.ensures

@@ -16,4 +16,4 @@ pub overflow_add-result-3 : goal.overflow_add-result-3
 overflow_add-result-3 c = omega (arith, digits-fit _ _ c.requires.3.few c.requires.3.copies_small, c.requires.2)
 
 pub returns : goal.returns
-returns c = passed_words c.args.table.now c.args.e c.args.taken c.args.copied c.args.behind c.measure_at-2.ensures.is c.measure_at.ensures.is c.larger-own.ensures c.larger.ensures c.limited.ensures c.limited-2.ensures
+returns c = passed_words c.args.table.now c.args.e c.args.taken c.args.copied c.args.behind c.measure_at-2.ensures.is c.measure_at.ensures.is c.max-own.ensures c.max.ensures c.limited.ensures c.limited-2.ensures

@@ -1,5 +1,4 @@
 -- `write_around` says what the pass has written in check_function_causes' words.
-use borrow.Author.Rules.{rules}
 use Rattle.check_functions.specs.KnownLaws.{around-notes}
 use Rattle.names_resolver.proofs.scopes.write_around.Goals as goal
 

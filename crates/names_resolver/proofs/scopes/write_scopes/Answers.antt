@@ -1,5 +1,4 @@
 -- `write_scopes` says what the pass has written in names' words.
-use borrow.Author.Rules.{rules}
 use Rattle.names_resolver.specs.ScanLaws.{scope-notes}
 use Rattle.names_resolver.proofs.scopes.write_scopes.Goals as goal
 

@@ -1,12 +1,9 @@
 -- `element`: what stands between the letter and the last bracket is read, where both are there.
-use mathlib.Core.Path.{sym, ap, ◌∙◌}
-use mathlib.Core.List.{List, [], ◌∷◌}
-use Prim.Native.Nat.{ℕ}
+use mathlib.Core.Path.{sym, ◌∙◌}
+use mathlib.Core.List.{[], ◌∷◌}
 use native.Mathlib.Omega.{arith}
-use borrow.Author.Tests.{not-true, not-false}
 use Rattle.page_words.specs.Reads.{element_read}
 use Rattle.page_words.specs.CompareLaws.{framed-long}
-use borrow.Author.Rules.{rules}
 use Rattle.page_atoms.proofs.atoms.element.Goals as goal
 
 pub returns-then-not-is_framed : goal.returns-then-not-is_framed

@@ -1,22 +1,20 @@
 -- `number_below`: a number up to the bound, and then below it.
-use mathlib.Core.Path.{sym, ap, ◌∙◌}
-use Rattle.text_numbers.specs.Reader.{digits_value}
+use mathlib.Core.Path.{sym, ◌∙◌}
 use Rattle.page_words.specs.Reads.{number_read}
 use Rattle.page_words.proofs.FirstBytes.{below_none, below-inside, below-outside}
-use borrow.Author.Rules.{rules}
 use Rattle.page_atoms.proofs.atoms.number_below.Goals as goal
 
-pub returns-in_default : goal.returns-in_default
+pub returns-in_err-value : goal.returns-in_err-value
 unfolding number_read
-returns-in_default c =
-    below_none _ _ (sym (ap digits_value c.in_default.is) ∙ c.natural_of-digits.ensures)
+returns-in_err-value c =
+    c.from_residual.ensures ∙ below_none _ _ (sym c.in_err-value.was ∙ c.natural_of.ensures)
 
 pub returns-then-value-bound : goal.returns-then-value-bound
 unfolding number_read
 returns-then-value-bound c =
-    below-inside _ _ _ (sym (ap digits_value c.in-Value.is) ∙ c.natural_of-digits.ensures) c.if-value-bound.true
+    below-inside _ _ _ (sym c.in_ok-value.was ∙ c.natural_of.ensures) c.if-value-bound.true
 
 pub returns : goal.returns
 unfolding number_read
 returns c =
-    below-outside _ _ _ (sym (ap digits_value c.in-Value.is) ∙ c.natural_of-digits.ensures) c.if-value-bound.false
+    below-outside _ _ _ (sym c.in_ok-value.was ∙ c.natural_of.ensures) c.if-value-bound.false

@@ -1,18 +1,20 @@
 -- `is_framed`: the lengths first, so that the two do not meet; then the start, then the end.
 use mathlib.Core.Path.{sym, ◌∙◌}
-use borrow.Author.Tests.{not-true, not-false}
+use native.Mathlib.Omega.{arith}
+use lib.ListN.{length-drop}
 use Rattle.page_words.proofs.Parts.{framed-short, framed-begins, framed-ends}
-use borrow.Author.Rules.{rules}
+use Rattle.page_atoms.proofs.Comparing.{prefix-is, suffix-is}
 use Rattle.page_atoms.proofs.compare.is_framed.Goals as goal
 
-pub returns-then-length-before : goal.returns-then-length-before
-returns-then-length-before c =
-    framed-short c.args.before.now c.args.behind.now c.args.text.now c.if-length-before.true
+pub returns-then-text-before : goal.returns-then-text-before
+returns-then-text-before c =
+    framed-short c.args.before.now c.args.behind.now c.args.text.now c.if-text-before.true
 
-pub returns-then-not-stands : goal.returns-then-not-stands
-returns-then-not-stands c =
-    framed-begins c.args.before.now c.args.behind.now c.args.text.now c.if-length-before.false (sym c.stands.ensures ∙ c.if-not-stands.true)
+pub returns-then-starts_with : goal.returns-then-starts_with
+returns-then-starts_with c =
+    c.ends_with.ensures.value ∙ suffix-is c.args.behind.now _ (simp length-drop (omega (arith, c.if-text-before.false)))
+    ∙ framed-ends c.args.before.now c.args.behind.now c.args.text.now c.if-text-before.false (sym (c.starts_with.ensures.value ∙ prefix-is c.args.before.now c.args.text.now) ∙ c.if-starts_with.true)
 
-pub returns : goal.returns
-returns c =
-    c.stands-2.ensures ∙ framed-ends c.args.before.now c.args.behind.now c.args.text.now c.if-length-before.false (sym c.stands.ensures ∙ c.if-not-stands.false)
+pub returns-else-starts_with : goal.returns-else-starts_with
+returns-else-starts_with c =
+    c.if-starts_with.false ∙ framed-begins c.args.before.now c.args.behind.now c.args.text.now c.if-text-before.false (sym (c.starts_with.ensures.value ∙ prefix-is c.args.before.now c.args.text.now) ∙ c.if-starts_with.false)

@@ -1,13 +1,7 @@
--- `is_word`: as long as the word, and beginning with it.
+-- `is_word`: the bytes are equal one by one.
 use mathlib.Core.Path.{◌∙◌}
-use Rattle.page_words.proofs.Parts.{other_word, as-long-word}
-use borrow.Author.Rules.{rules}
+use Rattle.page_atoms.proofs.Comparing.{word-is}
 use Rattle.page_atoms.proofs.compare.is_word.Goals as goal
 
-pub returns-then-text-word : goal.returns-then-text-word
-returns-then-text-word c =
-    other_word c.args.word.now c.args.text.now c.if-text-word.true
-
 pub returns : goal.returns
-returns c =
-    c.stands.ensures ∙ as-long-word c.args.word.now c.args.text.now c.if-text-word.false
+returns c = c.eq.ensures ∙ word-is c.args.text.now c.args.word.now

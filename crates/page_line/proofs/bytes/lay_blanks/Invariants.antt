@@ -1,11 +1,7 @@
 -- `lay_blanks`: one blank after the other; the invariant is that as many are laid.
 use Prim.Native.Nat.{◌+◌, ◌-◌, ◌≤◌}
-use native.Mathlib.Omega.{arith}
-use mathlib.Core.Path.{◌≡◌, ap}
 use Rattle.page.specs.Page.{blanks}
 use Rattle.page_line.specs.Laid.{Laid}
-use Rattle.page_line.specs.LaidLaws.{laid_none, laid-to, laid_as, laid-byte, laid-length}
-use Rattle.page_line.specs.PrintedLaws.{blanks-more}
 use Rattle.page_line.proofs.bytes.lay_blanks.Given as goal
 
 abbrev pub invariant-loop-i : goal.invariant-loop-i

@@ -1,7 +1,6 @@
 -- `lay_byte`: a byte behind none.
 use native.Mathlib.Omega.{arith}
 use Rattle.page_line.specs.LaidLaws.{laid_none, laid-byte}
-use borrow.Author.Rules.{rules}
 use Rattle.page_line.proofs.bytes.lay_byte.Goals as goal
 
 pub returns : goal.returns

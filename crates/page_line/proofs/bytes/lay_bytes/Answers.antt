@@ -1,6 +1,5 @@
 -- `lay_bytes`: what `put_bytes` puts into the part from the place on.
 use Rattle.page_line.specs.LaidLaws.{laid-put}
-use borrow.Author.Rules.{rules}
 use Rattle.page_line.proofs.bytes.lay_bytes.Goals as goal
 
 pub returns : goal.returns

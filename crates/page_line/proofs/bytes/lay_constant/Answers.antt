@@ -8,7 +8,6 @@ use mir.Val.{to_z, of_z}
 use Rattle.words.specs.Laws.{back}
 use Rattle.text_numbers.specs.Number.{number_bytes}
 use Rattle.page_line.specs.LaidLaws.{laid-put, laid_of, part_room}
-use borrow.Author.Rules.{rules}
 use Rattle.page_line.proofs.bytes.lay_constant.Goals as goal
 use Rattle.page_line.proofs.bytes.lay_constant.Goals.{Start}
 

@@ -1,6 +1,5 @@
 -- `lay_digits`: what `put_digits` puts into the part from the place on.
 use Rattle.page_line.specs.LaidLaws.{laid-put}
-use borrow.Author.Rules.{rules}
 use Rattle.page_line.proofs.bytes.lay_digits.Goals as goal
 
 pub returns : goal.returns

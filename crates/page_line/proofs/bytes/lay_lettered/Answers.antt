@@ -1,6 +1,5 @@
 -- `lay_lettered`: a letter, and digits behind it.
 use Rattle.page_line.specs.LaidLaws.{laid_next}
-use borrow.Author.Rules.{rules}
 use Rattle.page_line.proofs.bytes.lay_lettered.Goals as goal
 
 pub returns : goal.returns

@@ -2,7 +2,6 @@
 use mathlib.Core.Path.{sym}
 use Prim.Native.Nat.{ℕ, ◌-◌}
 use native.Mathlib.Omega.{arith}
-use borrow.Author.Rules.{rules}
 use Rattle.text_numbers.specs.PutLaws.{digits-within}
 use Rattle.page.specs.Page.{blanks, right_set}
 use Rattle.page.proofs.Widths.{length-blanks}

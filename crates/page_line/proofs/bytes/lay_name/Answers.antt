@@ -2,7 +2,6 @@
 use mathlib.Core.Path.{sym}
 use Rattle.page_line.specs.LaidLaws.{laid_as}
 use Rattle.page_line.specs.ContentLaws.{name_variable, name-declared, name_temporary}
-use borrow.Author.Rules.{rules}
 use Rattle.page_line.proofs.bytes.lay_name.Goals as goal
 
 pub lay_lettered-requires : goal.lay_lettered-requires

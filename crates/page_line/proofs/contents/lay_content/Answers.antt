@@ -10,7 +10,6 @@ use Rattle.page_line.specs.declared.LineAt.{LineAt}
 use Rattle.page_line.specs.Contents.{line_tree, LineInside}
 use Rattle.page_line.specs.LaidLaws.{laid_as, laid_of}
 use Rattle.page_line.specs.ContentLaws.{goto-bytes, while-bytes, if-bytes, call-bytes, argument-bytes, last-argument-bytes, function-bytes, parameters-bytes, parameter-bytes, last-parameter-bytes}
-use borrow.Author.Rules.{rules}
 use Rattle.page_line.proofs.contents.lay_content.Goals as goal
 use Rattle.page_line.proofs.contents.lay_content.Goals.{Start}
 

@@ -7,7 +7,6 @@ use Rattle.language.specs.Decode.{part_at}
 use Rattle.page.specs.Page.{single_words, parted}
 use Rattle.page_line.specs.LaidLaws.{laid_as, laid-nothing}
 use Rattle.page_line.specs.ContentLaws.{given-bytes}
-use borrow.Author.Rules.{rules}
 use Rattle.page_line.proofs.contents.lay_given.Goals as goal
 use Rattle.page_line.proofs.contents.lay_given.Goals.{Start}
 

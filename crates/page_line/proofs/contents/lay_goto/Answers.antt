@@ -4,7 +4,6 @@ use mathlib.Core.List.{◌∷◌, []}
 use lib.ListN.{length-append}
 use Rattle.text_numbers.specs.Number.{digits}
 use Rattle.page_line.specs.LaidLaws.{laid_next}
-use borrow.Author.Rules.{rules}
 use Rattle.page_line.proofs.contents.lay_goto.Goals as goal
 
 pub lay_lettered-end-requires : goal.lay_lettered-end-requires

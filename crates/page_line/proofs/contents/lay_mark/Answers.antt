@@ -7,7 +7,6 @@ use Rattle.language_shapes.specs.Shapes.{mark_tree}
 use Rattle.language_shapes.specs.declared.MarkShape.{MarkShape}
 use Rattle.page_line.specs.LaidLaws.{laid_as, laid_of, laid-nothing}
 use Rattle.page_line.specs.ContentLaws.{label-bytes}
-use borrow.Author.Rules.{rules}
 use Rattle.page_line.proofs.contents.lay_mark.Goals as goal
 use Rattle.page_line.proofs.contents.lay_mark.Goals.{Start}
 

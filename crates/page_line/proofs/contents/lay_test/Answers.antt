@@ -6,7 +6,6 @@ use Rattle.language.specs.Decode.{expression_at}
 use Rattle.page.specs.Page.{atom_word}
 use Rattle.page_line.specs.Contents.{test_bytes}
 use Rattle.page_line.specs.LaidLaws.{laid_next}
-use borrow.Author.Rules.{rules}
 use Rattle.page_line.proofs.contents.lay_test.Goals as goal
 
 pub lay_bytes-start-requires : goal.lay_bytes-start-requires

@@ -4,7 +4,6 @@ use mathlib.Core.List.{◌∷◌, []}
 use lib.ListN.{length-append}
 use Rattle.page.specs.Page.{function_word}
 use Rattle.page_line.specs.LaidLaws.{laid_next}
-use borrow.Author.Rules.{rules}
 use Rattle.page_line.proofs.expressions.lay_alone.Goals as goal
 
 pub lay_byte-start-requires : goal.lay_byte-start-requires

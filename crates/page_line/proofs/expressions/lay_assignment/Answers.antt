@@ -7,7 +7,6 @@ use Rattle.page.specs.Page.{assignment_words, parted}
 use Rattle.page_line.specs.LaidLaws.{laid_of, laid-nothing}
 use Rattle.page_line.specs.ReadsLaws.{read_as}
 use Rattle.page_line.specs.ContentLaws.{no-assignment-chosen}
-use borrow.Author.Rules.{rules}
 use Rattle.page_line.proofs.expressions.lay_assignment.Goals as goal
 use Rattle.page_line.proofs.expressions.lay_assignment.Goals.{Start}
 

@@ -1,8 +1,5 @@
 -- `lay_atom`: by what stands at the row; what is no atom has no bytes.
-use mathlib.Core.Path.{◌≡◌, sym, ap}
-use lib.IntN.{ℤ}
-use mir.Syntax.{w32}
-use mir.Val.{to_z, of_z}
+use mathlib.Core.Path.{sym, ap}
 use Rattle.words.specs.Laws.{back}
 use mathlib.Core.Path.{◌∙◌}
 use Rattle.text_numbers.specs.Number.{number_bytes}
@@ -11,7 +8,6 @@ use Rattle.language_shapes.specs.declared.ExpressionShape.TheVariants.{Read}
 use Rattle.page_line.specs.LaidLaws.{laid_of, laid-nothing}
 use Rattle.page_line.specs.ReadsLaws.{read_as}
 use Rattle.page_line.specs.ContentLaws.{no-atom, no-atom-chosen}
-use borrow.Author.Rules.{rules}
 use Rattle.page_line.proofs.expressions.lay_atom.Goals as goal
 
 pub lay_constant-requires : goal.lay_constant-requires

@@ -10,7 +10,6 @@ use Rattle.page.specs.Page.{atom_word, operator_word, ended, value_words, parted
 use Rattle.page_line.specs.Contents.{led}
 use Rattle.page_line.specs.LaidLaws.{laid_as, laid_next}
 use Rattle.page_line.specs.ContentLaws.{binary-bytes}
-use borrow.Author.Rules.{rules}
 use Rattle.page_line.proofs.expressions.lay_binary.Goals as goal
 use Rattle.page_line.proofs.expressions.lay_binary.Goals.{Start}
 

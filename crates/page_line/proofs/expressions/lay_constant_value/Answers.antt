@@ -9,7 +9,6 @@ use mathlib.Core.List.{◌∷◌, []}
 use lib.ListN.{length, length-append}
 use Rattle.text_numbers.specs.Number.{number_bytes}
 use Rattle.page_line.specs.LaidLaws.{laid_of, laid_next}
-use borrow.Author.Rules.{rules}
 use Rattle.page_line.proofs.expressions.lay_constant_value.Goals as goal
 use Rattle.page_line.proofs.expressions.lay_constant_value.Goals.{Start}
 

@@ -9,7 +9,6 @@ use Rattle.language.specs.Trees.{element}
 use Rattle.language.specs.Decode.{expression_at}
 use Rattle.page.specs.Page.{atom_word, place_word}
 use Rattle.page_line.specs.LaidLaws.{laid_next}
-use borrow.Author.Rules.{rules}
 use Rattle.page_line.proofs.expressions.lay_element.Goals as goal
 use Rattle.page_line.proofs.expressions.lay_element.Goals.{Start}
 

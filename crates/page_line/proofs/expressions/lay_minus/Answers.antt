@@ -1,7 +1,7 @@
 -- `lay_minus`: piece by piece.
 use native.Mathlib.Omega.{arith}
 use mathlib.Core.Path.{◌≡◌}
-use mathlib.Core.List.{◌∷◌, [], ◌++◌}
+use mathlib.Core.List.{◌∷◌, []}
 use Prim.Native.Nat.{◌+◌}
 use lib.ListN.{length, length-append}
 use Rattle.language.specs.Decode.{expression_at}
@@ -10,7 +10,6 @@ use Rattle.page.specs.Page.{atom_word, ended, value_words, parted}
 use Rattle.page_line.specs.Contents.{led}
 use Rattle.page_line.specs.LaidLaws.{laid_as, laid_next}
 use Rattle.page_line.specs.ContentLaws.{minus-bytes}
-use borrow.Author.Rules.{rules}
 use Rattle.page_line.proofs.expressions.lay_minus.Goals as goal
 use Rattle.page_line.proofs.expressions.lay_minus.Goals.{Start}
 

@@ -8,7 +8,6 @@ use Rattle.language_shapes.specs.Shapes.{operation_tree}
 use Rattle.language_shapes.specs.declared.OperationShape.{OperationShape}
 use Rattle.page_line.specs.Reads.{OperationInside}
 use Rattle.page_line.specs.LaidLaws.{laid_of, laid-nothing}
-use borrow.Author.Rules.{rules}
 use Rattle.page_line.proofs.expressions.lay_operated.Goals as goal
 use Rattle.page_line.proofs.expressions.lay_operated.Goals.{Start}
 

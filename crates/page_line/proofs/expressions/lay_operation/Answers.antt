@@ -3,13 +3,12 @@ use mathlib.Core.Path.{subst, ap}
 use mathlib.Core.List.{List}
 use Prim.Native.Nat.{ℕ}
 use Rattle.words.specs.Table.{row_count}
-use Rattle.page.specs.Page.{ended, value_words, parted}
+use Rattle.page.specs.Page.{ended, value_words}
 use Rattle.language_shapes.specs.Shapes.{operation_tree}
 use Rattle.language_shapes.specs.declared.OperationShape.{OperationShape}
 use Rattle.page_line.specs.Contents.{led}
 use Rattle.page_line.specs.Reads.{OperationInside}
 use Rattle.page_line.specs.LaidLaws.{laid_of, laid-nothing}
-use borrow.Author.Rules.{rules}
 use Rattle.page_line.proofs.expressions.lay_operation.Goals as goal
 use Rattle.page_line.proofs.expressions.lay_operation.Goals.{Start}
 

@@ -1,12 +1,11 @@
 -- `lay_operator`: one byte or two.
 use native.Mathlib.Omega.{arith}
-use mathlib.Core.Path.{◌≡◌, sym, ap, ◌∙◌}
+use mathlib.Core.Path.{sym, ap, ◌∙◌}
 use mathlib.Core.List.{◌∷◌, []}
 use Prim.Native.Nat.{ℕ}
 use lib.ListN.{length}
 use Rattle.page_line.specs.LaidLaws.{laid_as, laid_next, laid-length}
 use Rattle.page_line.specs.ContentLaws.{two_bytes, one_byte, operator-some}
-use borrow.Author.Rules.{rules}
 use Rattle.page_line.proofs.expressions.lay_operator.Goals as goal
 
 pub lay_byte-first-requires : goal.lay_byte-first-requires

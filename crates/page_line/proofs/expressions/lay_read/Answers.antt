@@ -6,7 +6,6 @@ use Rattle.language_shapes.specs.Shapes.{place_tree}
 use Rattle.language_shapes.specs.declared.PlaceShape.{PlaceShape}
 use Rattle.page_line.specs.Reads.{PlaceInside}
 use Rattle.page_line.specs.LaidLaws.{laid_of}
-use borrow.Author.Rules.{rules}
 use Rattle.page_line.proofs.expressions.lay_read.Goals as goal
 
 pub lay_name-requires : goal.lay_name-requires

@@ -5,7 +5,6 @@ use lib.ListN.{length-append}
 use Rattle.page.specs.Page.{place_word}
 use Rattle.language_shapes.specs.Shapes.{place_tree}
 use Rattle.page_line.specs.LaidLaws.{laid_next}
-use borrow.Author.Rules.{rules}
 use Rattle.page_line.proofs.expressions.lay_read_value.Goals as goal
 
 pub lay_read-end-requires : goal.lay_read-end-requires

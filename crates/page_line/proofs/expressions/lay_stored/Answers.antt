@@ -1,7 +1,7 @@
 -- `lay_stored`: the place, the equals sign, the value.
 use native.Mathlib.Omega.{arith}
-use mathlib.Core.Path.{◌≡◌, sym, ap, ◌∙◌}
-use mathlib.Core.List.{◌∷◌, [], ◌++◌}
+use mathlib.Core.Path.{◌≡◌, ap}
+use mathlib.Core.List.{◌∷◌}
 use Prim.Native.Nat.{◌+◌, ◌≤◌}
 use lib.ListN.{length, length-append}
 use Rattle.language.specs.Trees.{assign}
@@ -10,7 +10,6 @@ use Rattle.page.specs.Page.{place_word, ended, value_words, assignment_words, pa
 use Rattle.page_line.specs.Contents.{led}
 use Rattle.page_line.specs.LaidLaws.{laid_as, laid_of, laid_next}
 use Rattle.page_line.specs.ContentLaws.{stored_bytes}
-use borrow.Author.Rules.{rules}
 use Rattle.page_line.proofs.expressions.lay_stored.Goals as goal
 use Rattle.page_line.proofs.expressions.lay_stored.Goals.{Start}
 

@@ -1,8 +1,6 @@
 -- `lay_value`: by what stands at the row.
-use mathlib.Core.Path.{◌≡◌, sym, ap}
+use mathlib.Core.Path.{sym, ap}
 use lib.IntN.{ℤ}
-use mir.Syntax.{w32}
-use mir.Val.{to_z, of_z}
 use Rattle.words.specs.Laws.{back}
 use mathlib.Core.Path.{◌∙◌}
 use mathlib.Core.List.{List, ◌∷◌}
@@ -15,7 +13,6 @@ use Rattle.page_line.specs.Contents.{led}
 use Rattle.page_line.specs.LaidLaws.{laid_as, laid_of, laid-nothing}
 use Rattle.page_line.specs.ReadsLaws.{read_as}
 use Rattle.page_line.specs.ContentLaws.{called-bytes, no-value-chosen}
-use borrow.Author.Rules.{rules}
 use Rattle.page_line.proofs.expressions.lay_value.Goals as goal
 use Rattle.page_line.proofs.expressions.lay_value.Goals.{Start}
 

@@ -4,7 +4,6 @@ use lib.ListN.{length-append}
 use Rattle.language.specs.Decode.{expression_at}
 use Rattle.page.specs.Page.{atom_word}
 use Rattle.page_line.specs.LaidLaws.{laid_next}
-use borrow.Author.Rules.{rules}
 use Rattle.page_line.proofs.functions.lay_argument.Goals as goal
 
 pub lay_atom-end-requires : goal.lay_atom-end-requires

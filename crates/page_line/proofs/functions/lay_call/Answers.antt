@@ -8,7 +8,6 @@ use Rattle.language.specs.Decode.{expression_at, place_of}
 use Rattle.page.specs.Page.{function_word, place_word}
 use Rattle.page_line.specs.Contents.{call_bytes}
 use Rattle.page_line.specs.LaidLaws.{laid_of, laid_next}
-use borrow.Author.Rules.{rules}
 use Rattle.page_line.proofs.functions.lay_call.Goals as goal
 use Rattle.page_line.proofs.functions.lay_call.Goals.{Start}
 

@@ -3,7 +3,6 @@ use native.Mathlib.Omega.{arith}
 use lib.ListN.{length-append}
 use Rattle.page.specs.Page.{name}
 use Rattle.page_line.specs.LaidLaws.{laid_next}
-use borrow.Author.Rules.{rules}
 use Rattle.page_line.proofs.functions.lay_parameter.Goals as goal
 
 pub lay_bytes-start-requires : goal.lay_bytes-start-requires

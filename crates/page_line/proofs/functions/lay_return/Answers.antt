@@ -8,7 +8,6 @@ use Rattle.language.specs.Decode.{expression_at}
 use Rattle.page.specs.Page.{atom_word}
 use Rattle.page_line.specs.Contents.{return_bytes}
 use Rattle.page_line.specs.LaidLaws.{laid_next}
-use borrow.Author.Rules.{rules}
 use Rattle.page_line.proofs.functions.lay_return.Goals as goal
 use Rattle.page_line.proofs.functions.lay_return.Goals.{Start}
 

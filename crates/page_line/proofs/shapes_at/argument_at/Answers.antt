@@ -1,7 +1,6 @@
 -- `argument_at`: the link 0 leads to no argument.
 use mathlib.Core.Path.{refl}
 use Rattle.page_line.specs.ReadsLaws.{argument-none, argument-read, no-argument-at, some-argument-at}
-use borrow.Author.Rules.{rules}
 use Rattle.page_line.proofs.shapes_at.argument_at.Goals as goal
 
 pub returns-then-link-eq0 : goal.returns-then-link-eq0

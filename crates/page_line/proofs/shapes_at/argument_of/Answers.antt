@@ -1,5 +1,4 @@
 -- What a shape is among arguments.
-use borrow.Author.Rules.{rules}
 use Rattle.page_line.proofs.shapes_at.argument_of.Goals as goal
 
 pub returns-in-OfArgument : goal.returns-in-OfArgument

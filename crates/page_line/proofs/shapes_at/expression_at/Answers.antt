@@ -3,7 +3,6 @@ use mathlib.Core.Path.{ap, ◌∙◌}
 use Rattle.language_shapes.specs.Shapes.{expression_in}
 use Rattle.page_line.specs.Reads.{expression_shape_at}
 use Rattle.page_line.specs.ReadsLaws.{expression-read}
-use borrow.Author.Rules.{rules}
 use Rattle.page_line.proofs.shapes_at.expression_at.Goals as goal
 
 pub returns : goal.returns

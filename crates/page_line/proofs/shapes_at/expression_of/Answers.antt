@@ -1,5 +1,4 @@
 -- What a shape is as an expression.
-use borrow.Author.Rules.{rules}
 use Rattle.page_line.proofs.shapes_at.expression_of.Goals as goal
 
 pub returns-in-OfStatement : goal.returns-in-OfStatement

@@ -1,6 +1,5 @@
 -- What a row is as a place.
 use Rattle.page_line.specs.ReadsLaws.{place_read}
-use borrow.Author.Rules.{rules}
 use Rattle.page_line.proofs.shapes_at.place_at.Goals as goal
 
 pub returns : goal.returns

@@ -7,7 +7,6 @@ use Rattle.page.proofs.Widths.{length-blanks}
 use Rattle.page_line.specs.Contents.{line_tree}
 use Rattle.page_line.specs.LaidLaws.{laid_of, laid_next}
 use Rattle.page_line.specs.PrintedLaws.{number-five, line-printed}
-use borrow.Author.Rules.{rules}
 use Rattle.page_line.proofs.whole.print_line.Goals as goal
 
 pub lay_blanks-start-requires : goal.lay_blanks-start-requires

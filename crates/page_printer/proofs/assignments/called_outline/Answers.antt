@@ -11,10 +11,10 @@ pub number_at-requires : goal.number_at-requires
 number_at-requires c =
     row-words c.requires.0 c.requires.1
 
-pub returns-in-Argument : goal.returns-in-Argument
-returns-in-Argument c =
-    ap (Called (OpensCall c.args.place c.args.number) c.in-Argument.row) c.number_at.ensures ∙ ap (called_outline c.args.rows.now c.args.expression c.args.place c.args.number c.args.link) (sym c.in-Argument.is ∙ c.argument_at-first.ensures.1)
+pub returns-in-Some : goal.returns-in-Some
+returns-in-Some c =
+    ap (Called (OpensCall c.args.place c.args.number) c.in-Some.row) c.number_at.ensures ∙ ap (called_outline c.args.rows.now c.args.expression c.args.place c.args.number c.args.link) (sym c.in-Some.is ∙ c.argument_at-first.ensures.1)
 
-pub returns-in-NoArgument : goal.returns-in-NoArgument
-returns-in-NoArgument c =
-    ap (called_outline c.args.rows.now c.args.expression c.args.place c.args.number c.args.link) (sym c.in-NoArgument.is ∙ c.argument_at-first.ensures.1)
+pub returns-in-None : goal.returns-in-None
+returns-in-None c =
+    ap (called_outline c.args.rows.now c.args.expression c.args.place c.args.number c.args.link) (sym c.in-None.is ∙ c.argument_at-first.ensures.1)

@@ -25,7 +25,7 @@ returns-in_default c =
 
 pub overflow_add-count : goal.overflow_add-count
 overflow_add-count c =
-    omega (arith, c.loop-count.invariant.0, argument-more _ (argument-as c.argument_at-found.ensures.0 c.in-Argument.is), c.requires.2)
+    omega (arith, c.loop-count.invariant.0, argument-more _ (argument-as c.argument_at-found.ensures.0 c.in-Some.is), c.requires.2)
 
 pub number_at-along-requires : goal.number_at-along-requires
 number_at-along-requires c =
@@ -33,8 +33,8 @@ number_at-along-requires c =
 
 pub loop-count-smaller : goal.loop-count-smaller
 loop-count-smaller c =
-    rw c.number_at-along.ensures (omega (arith, argument-more _ (argument-as c.argument_at-found.ensures.0 c.in-Argument.is)))
+    rw c.number_at-along.ensures (omega (arith, argument-more _ (argument-as c.argument_at-found.ensures.0 c.in-Some.is)))
 
 pub loop-count-preserved : goal.loop-count-preserved
 loop-count-preserved c =
-    let r = argument-as c.argument_at-found.ensures.0 c.in-Argument.is in rw c.number_at-along.ensures (omega (arith, c.loop-count.invariant.0, argument-more _ r), r.next_inside)
+    let r = argument-as c.argument_at-found.ensures.0 c.in-Some.is in rw c.number_at-along.ensures (omega (arith, c.loop-count.invariant.0, argument-more _ r), r.next_inside)

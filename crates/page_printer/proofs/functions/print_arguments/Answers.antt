@@ -38,7 +38,7 @@ returns-in_default c =
 
 pub print_line-lines-requires : goal.print_line-lines-requires
 print_line-lines-requires c =
-    let p = printing-as c.loop-following.invariant.0 (argument-line c.args.level c.loop-following.row c.in-Argument.following (argument-as c.argument_at-found.ensures.0 c.in-Argument.is)) in
+    let p = printing-as c.loop-following.invariant.0 (argument-line c.args.level c.loop-following.row c.in-Some.following (argument-as c.argument_at-found.ensures.0 c.in-Some.is)) in
     ready-line (Argument c.loop-following.row) (printing-first p c.requires.0) c.loop-following.invariant.1
 
 pub number_at-along-requires : goal.number_at-along-requires
@@ -47,9 +47,9 @@ number_at-along-requires c =
 
 pub loop-following-smaller : goal.loop-following-smaller
 loop-following-smaller c =
-    rw c.number_at-along.ensures (omega (arith, argument-more _ (argument-as c.argument_at-found.ensures.0 c.in-Argument.is)))
+    rw c.number_at-along.ensures (omega (arith, argument-more _ (argument-as c.argument_at-found.ensures.0 c.in-Some.is)))
 
 pub loop-following-preserved : goal.loop-following-preserved
 loop-following-preserved c =
-    let r = argument-as c.argument_at-found.ensures.0 c.in-Argument.is in
-    rw c.number_at-along.ensures (printing-next (printing-as c.loop-following.invariant.0 (argument-line c.args.level c.loop-following.row c.in-Argument.following r)) c.print_line-lines.ensures, r.inside, r.next_inside)
+    let r = argument-as c.argument_at-found.ensures.0 c.in-Some.is in
+    rw c.number_at-along.ensures (printing-next (printing-as c.loop-following.invariant.0 (argument-line c.args.level c.loop-following.row c.in-Some.following r)) c.print_line-lines.ensures, r.inside, r.next_inside)

@@ -41,7 +41,7 @@ loop-k-preserved-in_default c =
 
 pub overflow_sub-base : goal.overflow_sub-base
 overflow_sub-base c =
-    omega (arith, c.rows_of-base.ensures.value, rows-left c.loop-k.invariant.0 c.loop-k-test.true c.statement_in-read.result c.statement_in-read.ensures c.in-Read.line c.in-Read.is)
+    omega (arith, c.rows_of-base.ensures.value, rows-left c.loop-k.invariant.0 c.loop-k-test.true c.statement_in-read.result c.statement_in-read.ensures c.in-Some.line c.in-Some.is)
 
 pub waiting_row-first-requires : goal.waiting_row-first-requires
 waiting_row-first-requires c =
@@ -53,23 +53,23 @@ waiting_row-second-requires c =
 
 pub overflow_mul-at : goal.overflow_mul-at
 overflow_mul-at c =
-    omega (arith, row_low c.loop-k.invariant.0 c.loop-k-test.true c.statement_in-read.result c.statement_in-read.ensures c.in-Read.line c.in-Read.is c.rows_of-base.result c.rows_of-base.ensures.value)
+    omega (arith, row_low c.loop-k.invariant.0 c.loop-k-test.true c.statement_in-read.result c.statement_in-read.ensures c.in-Some.line c.in-Some.is c.rows_of-base.result c.rows_of-base.ensures.value)
 
 pub offset_bounds-rows-at : goal.offset_bounds-rows-at
 offset_bounds-rows-at c =
-    omega (arith, row_low c.loop-k.invariant.0 c.loop-k-test.true c.statement_in-read.result c.statement_in-read.ensures c.in-Read.line c.in-Read.is c.rows_of-base.result c.rows_of-base.ensures.value)
+    omega (arith, row_low c.loop-k.invariant.0 c.loop-k-test.true c.statement_in-read.result c.statement_in-read.ensures c.in-Some.line c.in-Some.is c.rows_of-base.result c.rows_of-base.ensures.value)
 
 pub slice_bounds-put_line-count : goal.slice_bounds-put_line-count
 slice_bounds-put_line-count c =
-    row_inside c.loop-k.invariant.0 c.loop-k-test.true c.statement_in-read.result c.statement_in-read.ensures c.in-Read.line c.in-Read.is c.rows_of-base.result c.rows_of-base.ensures.value
+    row_inside c.loop-k.invariant.0 c.loop-k-test.true c.statement_in-read.result c.statement_in-read.ensures c.in-Some.line c.in-Some.is c.rows_of-base.result c.rows_of-base.ensures.value
 
 pub put_line-requires : goal.put_line-requires
 put_line-requires c =
-    (line-room c.loop-k.invariant.0 c.loop-k-test.true c.statement_in-read.result c.statement_in-read.ensures c.in-Read.line c.in-Read.is c.rows_of-base.result c.rows_of-base.ensures.value, c.loop-k.invariant.0.counted.small_sizes, c.waiting_row-first.ensures.1, c.waiting_row-second.ensures.1, line-fits c.loop-k.invariant.0 c.loop-k-test.true c.statement_in-read.result c.statement_in-read.ensures c.in-Read.line c.in-Read.is)
+    (line-room c.loop-k.invariant.0 c.loop-k-test.true c.statement_in-read.result c.statement_in-read.ensures c.in-Some.line c.in-Some.is c.rows_of-base.result c.rows_of-base.ensures.value, c.loop-k.invariant.0.counted.small_sizes, c.waiting_row-first.ensures.1, c.waiting_row-second.ensures.1, line-fits c.loop-k.invariant.0 c.loop-k-test.true c.statement_in-read.result c.statement_in-read.ensures c.in-Some.line c.in-Some.is)
 
 pub left_before-left-requires : goal.left_before-left-requires
 left_before-left-requires c =
-    (row_low c.loop-k.invariant.0 c.loop-k-test.true c.statement_in-read.result c.statement_in-read.ensures c.in-Read.line c.in-Read.is c.rows_of-base.result c.rows_of-base.ensures.value, shallow c.loop-k.invariant.0 c.loop-k-test.true, c.loop-k.invariant.1)
+    (row_low c.loop-k.invariant.0 c.loop-k-test.true c.statement_in-read.result c.statement_in-read.ensures c.in-Some.line c.in-Some.is c.rows_of-base.result c.rows_of-base.ensures.value, shallow c.loop-k.invariant.0 c.loop-k-test.true, c.loop-k.invariant.1)
 
 pub loop-k-smaller : goal.loop-k-smaller
 loop-k-smaller c =
@@ -77,7 +77,7 @@ loop-k-smaller c =
 
 pub loop-k-preserved : goal.loop-k-preserved
 loop-k-preserved c = (
-  passing-next c.loop-k.invariant.0 c.loop-k-test.true c.statement_in-read.result c.statement_in-read.ensures c.in-Read.line c.in-Read.is c.rows_of-base.result c.rows_of-base.ensures.value
+  passing-next c.loop-k.invariant.0 c.loop-k-test.true c.statement_in-read.result c.statement_in-read.ensures c.in-Some.line c.in-Some.is c.rows_of-base.result c.rows_of-base.ensures.value
       _ c.waiting_row-first.result c.waiting_row-second.result _ _ _ c.put_line.ensures c.waiting_row-first.ensures.0 c.waiting_row-second.ensures.0 c.left_before-left.ensures.waiting_after c.left_before-left.ensures.depth_bound.0,
   c.left_before-left.ensures.depth_bound.1,
 )

@@ -1,9 +1,11 @@
 -- `argument`: arguments by what stands behind their atoms.
 use mathlib.Core.Path.{sym, ap, ◌∙◌}
-use mathlib.Core.List.{List, [], ◌∷◌}
+use mathlib.Core.List.{[], ◌∷◌}
 use native.Mathlib.Omega.{arith}
 use Rattle.page_words.specs.Reads.{argument_of, last_argument_of, argument_read}
 use Rattle.page_words.specs.CompareLaws.{framed-long}
+use Rattle.page_words.specs.declared.LineContent.TheVariants.{Argument, LastArgument}
+use Rattle.page_atoms.proofs.Mapped.{mapped}
 use borrow.Author.Rules.{rules}
 use Rattle.page_statements.proofs.lines.argument.Goals as goal
 
@@ -22,7 +24,7 @@ slice_bounds-atom-start c =
 pub returns-then-is_framed : goal.returns-then-is_framed
 unfolding argument_read
 returns-then-is_framed c =
-    rw (sym c.is_framed.ensures ∙ c.if-is_framed.true) (c.argument_of.ensures ∙ ap argument_of c.atom.ensures)
+    rw (sym c.is_framed.ensures ∙ c.if-is_framed.true) (mapped Argument c.atom.result c.map.result _ c.map.ensures.cases (λ x y k. search rules) ∙ ap argument_of c.atom.ensures)
 
 pub overflow_sub-last-then-is_framed-2 : goal.overflow_sub-last-then-is_framed-2
 overflow_sub-last-then-is_framed-2 c =
@@ -39,7 +41,7 @@ slice_bounds-atom-start-then-is_framed-2 c =
 pub returns-then-is_framed-2 : goal.returns-then-is_framed-2
 unfolding argument_read
 returns-then-is_framed-2 c =
-    rw (sym c.is_framed.ensures ∙ c.if-is_framed.false, sym c.is_framed-2.ensures ∙ c.if-is_framed-2.true) (c.last_argument_of.ensures ∙ ap last_argument_of c.atom-then-is_framed-2.ensures)
+    rw (sym c.is_framed.ensures ∙ c.if-is_framed.false, sym c.is_framed-2.ensures ∙ c.if-is_framed-2.true) (mapped LastArgument c.atom-then-is_framed-2.result c.map-then-is_framed-2.result _ c.map-then-is_framed-2.ensures.cases (λ x y k. search rules) ∙ ap last_argument_of c.atom-then-is_framed-2.ensures)
 
 pub returns : goal.returns
 unfolding argument_read

@@ -1,11 +1,9 @@
 -- `assignment_of`: a call by what stands around its number, or the rest without its equals sign and semicolon is the value.
 use mathlib.Core.Path.{sym, ap, ap₂, ◌∙◌}
-use mathlib.Core.List.{List, [], ◌∷◌}
+use mathlib.Core.List.{[], ◌∷◌}
 use native.Mathlib.Omega.{arith}
-use borrow.Author.Tests.{not-true, not-false}
 use Rattle.page_words.specs.Reads.{name_of, call_of, assignment_of}
 use Rattle.page_words.specs.CompareLaws.{framed-long}
-use borrow.Author.Rules.{rules}
 use Rattle.page_statements.proofs.lines.assignment_of.Goals as goal
 
 pub overflow_sub-last : goal.overflow_sub-last

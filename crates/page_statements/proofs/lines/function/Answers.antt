@@ -1,9 +1,11 @@
 -- `function`: a return and the first line of a definition, by what stands around their atom or number.
 use mathlib.Core.Path.{sym, ap, ◌∙◌}
-use mathlib.Core.List.{List, [], ◌∷◌}
+use mathlib.Core.List.{[], ◌∷◌}
 use native.Mathlib.Omega.{arith}
 use Rattle.page_words.specs.Reads.{return_of, function_of, parameters_of, function_read}
 use Rattle.page_words.specs.CompareLaws.{framed-long}
+use Rattle.page_words.specs.declared.LineContent.TheVariants.{Return, OpensFunction, OpensParameters}
+use Rattle.page_atoms.proofs.Mapped.{mapped}
 use borrow.Author.Rules.{rules}
 use Rattle.page_statements.proofs.lines.function.Goals as goal
 
@@ -22,7 +24,7 @@ slice_bounds-atom-start c =
 pub returns-then-is_framed : goal.returns-then-is_framed
 unfolding function_read
 returns-then-is_framed c =
-    rw (sym c.is_framed.ensures ∙ c.if-is_framed.true) (c.return_of.ensures ∙ ap return_of c.atom.ensures)
+    rw (sym c.is_framed.ensures ∙ c.if-is_framed.true) (mapped Return c.atom.result c.map.result _ c.map.ensures.cases (λ x y k. search rules) ∙ ap return_of c.atom.ensures)
 
 pub overflow_sub-last-then-is_framed-2 : goal.overflow_sub-last-then-is_framed-2
 overflow_sub-last-then-is_framed-2 c =
@@ -39,7 +41,7 @@ slice_bounds-number_below-start c =
 pub returns-then-is_framed-2 : goal.returns-then-is_framed-2
 unfolding function_read
 returns-then-is_framed-2 c =
-    rw (sym c.is_framed.ensures ∙ c.if-is_framed.false, sym c.is_framed-2.ensures ∙ c.if-is_framed-2.true) (c.function_of.ensures ∙ ap function_of c.number_below.ensures)
+    rw (sym c.is_framed.ensures ∙ c.if-is_framed.false, sym c.is_framed-2.ensures ∙ c.if-is_framed-2.true) (mapped OpensFunction c.number_below.result c.map-then-is_framed-2.result _ c.map-then-is_framed-2.ensures.cases (λ x y k. search rules) ∙ ap function_of c.number_below.ensures)
 
 pub overflow_sub-last-then-is_framed-3 : goal.overflow_sub-last-then-is_framed-3
 overflow_sub-last-then-is_framed-3 c =
@@ -56,7 +58,7 @@ slice_bounds-number_below-start-then-is_framed-3 c =
 pub returns-then-is_framed-3 : goal.returns-then-is_framed-3
 unfolding function_read
 returns-then-is_framed-3 c =
-    rw (sym c.is_framed.ensures ∙ c.if-is_framed.false, sym c.is_framed-2.ensures ∙ c.if-is_framed-2.false, sym c.is_framed-3.ensures ∙ c.if-is_framed-3.true) (c.parameters_of.ensures ∙ ap parameters_of c.number_below-then-is_framed-3.ensures)
+    rw (sym c.is_framed.ensures ∙ c.if-is_framed.false, sym c.is_framed-2.ensures ∙ c.if-is_framed-2.false, sym c.is_framed-3.ensures ∙ c.if-is_framed-3.true) (mapped OpensParameters c.number_below-then-is_framed-3.result c.map-then-is_framed-3.result _ c.map-then-is_framed-3.ensures.cases (λ x y k. search rules) ∙ ap parameters_of c.number_below-then-is_framed-3.ensures)
 
 pub returns : goal.returns
 unfolding function_read

@@ -1,7 +1,6 @@
 -- `line`: the fixed words one after the other.
 use mathlib.Core.Path.{sym, ◌∙◌}
 use Rattle.page_words.specs.Reads.{line_read}
-use borrow.Author.Rules.{rules}
 use Rattle.page_statements.proofs.lines.line.Goals as goal
 
 pub returns-then-is_word : goal.returns-then-is_word

@@ -1,9 +1,11 @@
 -- `parameter`: parameters by what stands around their numbers.
 use mathlib.Core.Path.{sym, ap, ◌∙◌}
-use mathlib.Core.List.{List, [], ◌∷◌}
+use mathlib.Core.List.{[], ◌∷◌}
 use native.Mathlib.Omega.{arith}
 use Rattle.page_words.specs.Reads.{last_parameter_of, parameter_of, parameter_read}
 use Rattle.page_words.specs.CompareLaws.{framed-long}
+use Rattle.page_words.specs.declared.LineContent.TheVariants.{Parameter, LastParameter}
+use Rattle.page_atoms.proofs.Mapped.{mapped}
 use borrow.Author.Rules.{rules}
 use Rattle.page_statements.proofs.lines.parameter.Goals as goal
 
@@ -22,7 +24,7 @@ slice_bounds-number_below-start c =
 pub returns-then-is_framed : goal.returns-then-is_framed
 unfolding parameter_read
 returns-then-is_framed c =
-    rw (sym c.is_framed.ensures ∙ c.if-is_framed.true) (c.last_parameter_of.ensures ∙ ap last_parameter_of c.number_below.ensures)
+    rw (sym c.is_framed.ensures ∙ c.if-is_framed.true) (mapped LastParameter c.number_below.result c.map.result _ c.map.ensures.cases (λ x y k. search rules) ∙ ap last_parameter_of c.number_below.ensures)
 
 pub overflow_sub-last-then-is_framed-2 : goal.overflow_sub-last-then-is_framed-2
 overflow_sub-last-then-is_framed-2 c =
@@ -39,7 +41,7 @@ slice_bounds-number_below-start-then-is_framed-2 c =
 pub returns-then-is_framed-2 : goal.returns-then-is_framed-2
 unfolding parameter_read
 returns-then-is_framed-2 c =
-    rw (sym c.is_framed.ensures ∙ c.if-is_framed.false, sym c.is_framed-2.ensures ∙ c.if-is_framed-2.true) (c.parameter_of.ensures ∙ ap parameter_of c.number_below-then-is_framed-2.ensures)
+    rw (sym c.is_framed.ensures ∙ c.if-is_framed.false, sym c.is_framed-2.ensures ∙ c.if-is_framed-2.true) (mapped Parameter c.number_below-then-is_framed-2.result c.map-then-is_framed-2.result _ c.map-then-is_framed-2.ensures.cases (λ x y k. search rules) ∙ ap parameter_of c.number_below-then-is_framed-2.ensures)
 
 pub returns : goal.returns
 unfolding parameter_read

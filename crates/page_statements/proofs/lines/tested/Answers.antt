@@ -1,10 +1,11 @@
 -- `tested`: if and while by what stands around their atoms.
 use mathlib.Core.Path.{sym, ap, ◌∙◌}
-use mathlib.Core.List.{List, [], ◌∷◌}
-use mathlib.Core.Bool.{true}
+use mathlib.Core.List.{[], ◌∷◌}
 use native.Mathlib.Omega.{arith}
 use Rattle.page_words.specs.Reads.{if_of, while_of, test_read}
 use Rattle.page_words.specs.CompareLaws.{framed-long}
+use Rattle.page_words.specs.declared.LineContent.TheVariants.{If, While}
+use Rattle.page_atoms.proofs.Mapped.{mapped}
 use borrow.Author.Rules.{rules}
 use Rattle.page_statements.proofs.lines.tested.Goals as goal
 
@@ -23,7 +24,7 @@ slice_bounds-atom-start c =
 pub returns-then-is_framed : goal.returns-then-is_framed
 unfolding test_read
 returns-then-is_framed c =
-    rw (sym c.is_framed.ensures ∙ c.if-is_framed.true) (c.if_of.ensures ∙ ap if_of c.atom.ensures)
+    rw (sym c.is_framed.ensures ∙ c.if-is_framed.true) (mapped If c.atom.result c.map.result _ c.map.ensures.cases (λ x y k. search rules) ∙ ap if_of c.atom.ensures)
 
 pub overflow_sub-last-then-is_framed-2 : goal.overflow_sub-last-then-is_framed-2
 overflow_sub-last-then-is_framed-2 c =
@@ -40,7 +41,7 @@ slice_bounds-atom-start-then-is_framed-2 c =
 pub returns-then-is_framed-2 : goal.returns-then-is_framed-2
 unfolding test_read
 returns-then-is_framed-2 c =
-    rw (sym c.is_framed.ensures ∙ c.if-is_framed.false, sym c.is_framed-2.ensures ∙ c.if-is_framed-2.true) (c.while_of.ensures ∙ ap while_of c.atom-then-is_framed-2.ensures)
+    rw (sym c.is_framed.ensures ∙ c.if-is_framed.false, sym c.is_framed-2.ensures ∙ c.if-is_framed-2.true) (mapped While c.atom-then-is_framed-2.result c.map-then-is_framed-2.result _ c.map-then-is_framed-2.ensures.cases (λ x y k. search rules) ∙ ap while_of c.atom-then-is_framed-2.ensures)
 
 pub returns : goal.returns
 unfolding test_read

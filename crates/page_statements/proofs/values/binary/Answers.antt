@@ -1,12 +1,8 @@
 -- `binary`: the first blank parts the operator from the second operand.
-use mathlib.Core.Path.{ap₂, ap, ◌∙◌}
-use Rattle.page_words.specs.Reads.{binary_of, operator_read, atom_read}
-use mathlib.Core.Path.{sym, ap, ap₂, ◌∙◌}
+use mathlib.Core.Path.{◌∙◌}
+use mathlib.Core.Path.{◌∙◌}
 use native.Mathlib.Omega.{arith}
-use Rattle.words.specs.OverLaws.{rest_of}
-use Rattle.page_words.specs.Reads.{operator_read, atom_read, binary_of}
 use Rattle.page_words.proofs.Parts.{piece-within, binary-unparted, binary-parted}
-use borrow.Author.Rules.{rules}
 use Rattle.page_statements.proofs.values.binary.Goals as goal
 
 pub returns-then-end-rest : goal.returns-then-end-rest

@@ -1,7 +1,6 @@
 -- `operator`: by the length of the word.
-use mathlib.Core.Path.{sym, ap, ◌∙◌}
+use mathlib.Core.Path.{◌∙◌}
 use Rattle.page_words.proofs.FirstBytes.{operator-one, operator-other, operator-unended, operator-two}
-use borrow.Author.Rules.{rules}
 use Rattle.page_statements.proofs.values.operator.Goals as goal
 
 pub returns-then-word-eq1 : goal.returns-then-word-eq1

@@ -1,9 +1,11 @@
 -- `single`: a call by what stands around its number, or else an element or an atom.
 use mathlib.Core.Path.{sym, ap, ap₂, ◌∙◌}
-use mathlib.Core.List.{List, [], ◌∷◌}
+use mathlib.Core.List.{[], ◌∷◌}
 use native.Mathlib.Omega.{arith}
 use Rattle.page_words.specs.Reads.{single_of, called_of, single_read}
 use Rattle.page_words.specs.CompareLaws.{framed-long}
+use Rattle.page_words.specs.declared.Value.TheVariants.{Call}
+use Rattle.page_atoms.proofs.Mapped.{mapped}
 use borrow.Author.Rules.{rules}
 use Rattle.page_statements.proofs.values.single.Goals as goal
 
@@ -22,7 +24,7 @@ slice_bounds-number_below-start c =
 pub returns-then-is_framed : goal.returns-then-is_framed
 unfolding single_read
 returns-then-is_framed c =
-    rw (sym c.is_framed.ensures ∙ c.if-is_framed.true) (c.called_of.ensures ∙ ap called_of c.number_below.ensures)
+    rw (sym c.is_framed.ensures ∙ c.if-is_framed.true) (mapped Call c.number_below.result c.map.result _ c.map.ensures.cases (λ x y k. search rules) ∙ ap called_of c.number_below.ensures)
 
 pub returns : goal.returns
 unfolding single_read

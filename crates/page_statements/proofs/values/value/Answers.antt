@@ -2,7 +2,6 @@
 use mathlib.Core.Path.{◌∙◌}
 use native.Mathlib.Omega.{arith}
 use Rattle.page_words.proofs.Parts.{piece-within, value-unparted, value-parted}
-use borrow.Author.Rules.{rules}
 use Rattle.page_statements.proofs.values.value.Goals as goal
 
 pub returns-then-end-text : goal.returns-then-end-text

@@ -4,4 +4,4 @@ use borrow.Author.Rules.{rules}
 use Rattle.programs.proofs.kernel.answer_kernel.Goals as goal
 
 pub answer_legal-requires : goal.answer_legal-requires
-answer_legal-requires g c = sym c.kernel_check-verdict.ensures.value ∙ c.in-Accepted.is
+answer_legal-requires g c = sym c.kernel_check-verdict.ensures.value ∙ c.in-Ok.is

@@ -8,8 +8,8 @@ use Rattle.programs.proofs.kernel.run_from.Goals as goal
 pub slice_bounds-print_kernel_run-end : goal.slice_bounds-print_kernel_run-end
 slice_bounds-print_kernel_run-end g c = omega (arith, c.requires.1, c.put.auto.out, c.kernel_run-verdict.auto.store)
 
-pub slice_bounds-print_kernel_run-end-in-Ran : goal.slice_bounds-print_kernel_run-end-in-Ran
-slice_bounds-print_kernel_run-end-in-Ran g c = sym (length-take-le _ _ (slice_bounds-print_kernel_run-end g c))
+pub slice_bounds-print_kernel_run-end-in-Ok : goal.slice_bounds-print_kernel_run-end-in-Ok
+slice_bounds-print_kernel_run-end-in-Ok g c = sym (length-take-le _ _ (slice_bounds-print_kernel_run-end g c))
 
 pub print_kernel_run-requires : goal.print_kernel_run-requires
-print_kernel_run-requires g c = omega (arith, slice_bounds-print_kernel_run-end-in-Ran g c, c.requires.0)
+print_kernel_run-requires g c = omega (arith, slice_bounds-print_kernel_run-end-in-Ok g c, c.requires.0)

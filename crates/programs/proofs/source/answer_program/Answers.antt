@@ -4,4 +4,4 @@ use borrow.Author.Rules.{rules}
 use Rattle.programs.proofs.source.answer_program.Goals as goal
 
 pub answer_accepted-requires : goal.answer_accepted-requires
-answer_accepted-requires g c = sym c.check-verdict.ensures.value ∙ c.in-Accepted.is
+answer_accepted-requires g c = sym c.check-verdict.ensures.value ∙ c.in-Ok.is

@@ -8,8 +8,8 @@ use Rattle.programs.proofs.source.answer_run.Goals as goal
 pub slice_bounds-print_source_run-end : goal.slice_bounds-print_source_run-end
 slice_bounds-print_source_run-end g c = omega (arith, c.requires.1, c.run-verdict.auto.store)
 
-pub slice_bounds-print_source_run-end-in-Ran : goal.slice_bounds-print_source_run-end-in-Ran
-slice_bounds-print_source_run-end-in-Ran g c = sym (length-take-le _ _ (slice_bounds-print_source_run-end g c))
+pub slice_bounds-print_source_run-end-in-Ok : goal.slice_bounds-print_source_run-end-in-Ok
+slice_bounds-print_source_run-end-in-Ok g c = sym (length-take-le _ _ (slice_bounds-print_source_run-end g c))
 
 pub print_source_run-requires : goal.print_source_run-requires
-print_source_run-requires g c = omega (arith, slice_bounds-print_source_run-end-in-Ran g c, c.requires.0)
+print_source_run-requires g c = omega (arith, slice_bounds-print_source_run-end-in-Ok g c, c.requires.0)

@@ -9,8 +9,8 @@ use Rattle.side_by_side.proofs.forms.show_source_run.Goals.{After-count_of-writt
 pub slice_bounds-print_source_run-end : goal.slice_bounds-print_source_run-end
 slice_bounds-print_source_run-end g c = search rules
 
-pub slice_bounds-print_source_run-end-in-Ran : goal.slice_bounds-print_source_run-end-in-Ran
-slice_bounds-print_source_run-end-in-Ran g c = sym (length-take-le _ _ (slice_bounds-print_source_run-end g (goal.at.slice_bounds-print_source_run-end-in-Ran g c).After-count_of-written))
+pub slice_bounds-print_source_run-end-in-Ok : goal.slice_bounds-print_source_run-end-in-Ok
+slice_bounds-print_source_run-end-in-Ok g c = sym (length-take-le _ _ (slice_bounds-print_source_run-end g (goal.at.slice_bounds-print_source_run-end-in-Ok g c).After-count_of-written))
 
 pub print_source_run-requires : goal.print_source_run-requires
-print_source_run-requires g c = omega (arith, slice_bounds-print_source_run-end-in-Ran g c, c.requires.0)
+print_source_run-requires g c = omega (arith, slice_bounds-print_source_run-end-in-Ok g c, c.requires.0)

@@ -1,8 +1,6 @@
 -- `first_cause` tests the header, then the number of rows.
 use mathlib.Core.Path.{sym, ◌∙◌}
-use borrow.Author.Tests.{not-true, not-false}
 use Rattle.text_form.specs.Answers.{cause_unless, cause_of}
-use borrow.Author.Rules.{rules}
 use Rattle.text_form.proofs.limits.first_cause.Goals as goal
 
 pub returns-then-not-header_fits : goal.returns-then-not-header_fits

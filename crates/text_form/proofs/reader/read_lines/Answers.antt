@@ -2,7 +2,6 @@
 use native.Mathlib.Omega.{arith}
 use Rattle.text_form.proofs.ReaderLaws.{line-exactly, line-cause}
 use Rattle.text_form.proofs.Shapes.{reads-by}
-use borrow.Author.Rules.{rules}
 use Rattle.text_form.proofs.reader.read_lines.Goals as goal
 
 pub slice_bounds-text_cause-end : goal.slice_bounds-text_cause-end

@@ -1,10 +1,7 @@
 -- `store_rows` passes the lines one by one; the invariant is `Filled`.
-use Prim.Native.Nat.{◌-◌}
 use native.Mathlib.Omega.{arith}
-use borrow.Author.Rules.{rules}
-use lib.ListN.{length}
 use Rattle.text_lines.proofs.Pieces.{Piece, piece_of}
-use Rattle.text_form.proofs.Filling.{Filled, filled-start, filled-length, filled-end, NextRow, filled_row, row-holds, filled_next}
+use Rattle.text_form.proofs.Filling.{filled-start, filled-length, filled-end, NextRow, filled_row, row-holds, filled_next}
 use Rattle.text_form.proofs.reader.store_rows.Goals as goal
 use Rattle.text_form.proofs.reader.store_rows.Goals.{After-piece_end-end}
 

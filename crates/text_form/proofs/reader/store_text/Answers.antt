@@ -4,11 +4,10 @@ use native.Mathlib.Omega.{arith}
 use Rattle.text_form.specs.Reader.{cause_says}
 use Rattle.text_form.proofs.ReaderLaws.{line-holds, line-written, rows-hold, rows_written}
 use Rattle.text_form.proofs.Shapes.{reads-cause, reads-short-header, reads-short-rows, reads_all}
-use borrow.Author.Rules.{rules}
 use Rattle.text_form.proofs.reader.store_text.Goals as goal
 
-pub returns-in-Number : goal.returns-in-Number
-returns-in-Number c = reads-cause c.requires _ _ _ _ (ap cause_says c.in-Number.is)
+pub returns-in-Some : goal.returns-in-Some
+returns-in-Some c = reads-cause c.requires _ _ _ _ (ap cause_says c.in-Some.is)
 
 pub returns-then-header-numbers : goal.returns-then-header-numbers
 returns-then-header-numbers c = reads-short-header c.requires _ _ (ap cause_says c.in_default.is) c.if-header-numbers.true

@@ -1,12 +1,10 @@
 -- `text_cause` stores the header in a scratch array, and has it tested.
 use mathlib.Core.Path.{refl, ap, ◌∙◌}
-use native.Mathlib.Omega.{arith}
 use mathlib.Core.Bool.{true}
 use mathlib.Core.List.{List}
 use lib.IntN.{ℤ}
 use Rattle.text_form.specs.Answers.{cause_of}
 use Rattle.text_form.proofs.ReaderLaws.{scratch-holds, scratch-part}
-use borrow.Author.Rules.{rules}
 use Rattle.text_form.proofs.reader.text_cause.Goals as goal
 
 pub store_numbers-requires : goal.store_numbers-requires

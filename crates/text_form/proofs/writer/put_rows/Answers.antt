@@ -1,8 +1,6 @@
 -- `put_rows` puts one line after the other; the invariant is `Rowed`.
-use Prim.Native.Nat.{◌-◌}
 use native.Mathlib.Omega.{arith}
-use borrow.Author.Rules.{rules}
-use Rattle.text_form.proofs.Writing.{Rowed, rowed-start, rowed-length, rowed-inside, rowed-end, row_inside, row-filled, row_room, rowed-next}
+use Rattle.text_form.proofs.Writing.{rowed-start, rowed-length, rowed-inside, rowed-end, row_inside, row-filled, row_room, rowed-next}
 use Rattle.text_form.proofs.writer.put_rows.Goals as goal
 
 pub loop-row-init : goal.loop-row-init
@@ -31,12 +29,6 @@ put_line-at-requires c = record { words_nonzero = row-filled c.loop-row.invarian
 
 pub overflow_add-at : goal.overflow_add-at
 overflow_add-at c = let next = rowed-next c.loop-row.invariant c.loop-row-test.true _ _ c.put_line-at.ensures in omega (arith, rowed-inside next, rowed-length next, c.well_formed)
-
-pub overflow_add-row : goal.overflow_add-row
-overflow_add-row c = omega (arith, c.loop-row-test.true)
-
-pub loop-row-smaller : goal.loop-row-smaller
-loop-row-smaller c = omega (arith, c.loop-row-test.true)
 
 pub loop-row-preserved : goal.loop-row-preserved
 loop-row-preserved c = rowed-next c.loop-row.invariant c.loop-row-test.true _ _ c.put_line-at.ensures

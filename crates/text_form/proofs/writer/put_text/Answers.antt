@@ -1,7 +1,6 @@
 -- `put_text`: the header, and the rows behind it.
 use native.Mathlib.Omega.{arith}
 use Rattle.text_form.proofs.Writing.{text-size, Headed, headed-inside, headed-room, headed-back, headed-rows}
-use borrow.Author.Rules.{rules}
 use Rattle.text_form.proofs.writer.put_text.Goals as goal
 use Rattle.text_form.proofs.writer.put_text.Goals.{After-slice_known-2-1}
 

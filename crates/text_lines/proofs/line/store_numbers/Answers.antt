@@ -1,60 +1,51 @@
 -- `store_numbers` passes the fields one by one; the invariant is `Stored`.
-use mathlib.Core.Path.{sym, ap, ◌∙◌}
-use Prim.Native.Nat.{◌-◌, ◌+◌}
-use native.Mathlib.Omega.{arith}
+use mathlib.Core.Path.{◌≡◌, sym, ap, ◌∙◌}
+use mathlib.Core.List.{[], ◌∷◌, ◌++◌}
+use Prim.Native.Nat.{ℕ, ◌+◌, ◌<◌}
+use lib.Dec.{eqb}
+use lib.ListN.{length, get_or}
 use borrow.Author.Rules.{rules}
-use lib.ListN.{length}
-use Rattle.text_numbers.specs.Reader.{field_number}
-use Rattle.text_lines.proofs.Pieces.{Piece, piece_of}
-use Rattle.text_lines.proofs.Storing.{Stored, stored-start, stored-length, stored-end, stored-never, stored-room, stored_next}
+use Rattle.std.proofs.lemmas.Iterator.Splits.{YieldsList-from_slice_split}
+use Rattle.std.proofs.lemmas.Iterator.Consumers.{YieldsList-turn, YieldsList-end, YieldsList-from_enumerate}
+use Rattle.std.proofs.lemmas.List.{length_push}
+use Rattle.std.proofs.lemmas.List.FromFn.{length-enumerate_from}
+use Rattle.text_lines.specs.Line.{fields_of}
+use Rattle.text_lines.proofs.Storing.{Stored, stored-start, stored-end, stored-never, stored-room, stored_next}
+use Rattle.text_lines.proofs.Pieces.{numbered-field, fields_split}
 use Rattle.text_lines.proofs.line.store_numbers.Goals as goal
-use Rattle.text_lines.proofs.line.store_numbers.Goals.{After-piece_end-end}
+use Rattle.text_lines.proofs.line.store_numbers.Goals.{In-Some}
 
-pub loop-at-init : goal.loop-at-init
-loop-at-init c = stored-start _ _ c.requires
+pub loop-count-init : goal.loop-count-init
+loop-count-init c = stored-start _ _ c.requires
 
--- where a field was found to end
-field-ends : (c : After-piece_end-end) → Piece 9 c.args.line.now c.loop-at.at c.piece_end-end.result
-field-ends c = piece_of 9 _ _ _ c.loop-at-test.true c.piece_end-end.ensures
+-- the field that this turn has, and its number
+turn : (c : In-Some) → (c.in-Some.count ≡ length c.loop-count.yielded) × ((c.in-Some.count < length (fields_of c.args.line.now)) × (c.in-Some.field.now ≡ get_or (fields_of c.args.line.now) c.in-Some.count c.in-Some.field.now))
+turn c =
+    let parts = YieldsList-from_slice_split _ (λ byte. eqb byte 9) c.args.line.now (cc) (cc) (cc) (λ x b q k. search rules) in
+    let numbered = YieldsList-from_enumerate parts (cc) in
+    numbered-field c.args.line.now _ _ _ (YieldsList-turn numbered c.loop-count.yielded _ c.loop-count.yielded_by _ _ (c.in-Some.count, c.in-Some.field) c.in-Some.is c.next.ensures.steps)
 
-pub piece_end-end-requires : goal.piece_end-end-requires
-piece_end-end-requires c = c.loop-at-test.true
-
-pub slice_bounds-number-count : goal.slice_bounds-number-count
-slice_bounds-number-count c = (field-ends c).from
-
-pub slice_bounds-number-start : goal.slice_bounds-number-start
-slice_bounds-number-start c = omega (arith, (field-ends c).from, (field-ends c).inside)
-
-pub slice_bounds-number-end : goal.slice_bounds-number-end
-slice_bounds-number-end c = omega (arith, (field-ends c).inside)
+stored : (c : In-Some) → Stored (fields_of c.args.line.now) c.in-Some.count c.args.table.now c.loop-count.table
+stored c = rw (turn c).0 c.loop-count.invariant
 
 pub shape_of-table-in_default : goal.shape_of-table-in_default
-shape_of-table-in_default c = stored-never c.loop-at.invariant (field-ends (goal.at.shape_of-table-in_default c).After-piece_end-end) (sym c.number-field.ensures ∙ ap field_number c.in_default.is)
+shape_of-table-in_default c = stored-never (stored (goal.at.shape_of-table-in_default c).In-Some) _ (turn (goal.at.shape_of-table-in_default c).In-Some).1 (sym c.number.ensures ∙ c.in_default.is)
 
 pub returns-in_default : goal.returns-in_default
-returns-in_default c = stored-never c.loop-at.invariant (field-ends (goal.at.returns-in_default c).After-piece_end-end) (sym c.number-field.ensures ∙ ap field_number c.in_default.is)
-
-pub offset_bounds-table-count : goal.offset_bounds-table-count
-offset_bounds-table-count c = omega (arith, c.loop-at.invariant.few, c.well_formed)
+returns-in_default c = stored-never (stored (goal.at.returns-in_default c).In-Some) _ (turn (goal.at.returns-in_default c).In-Some).1 (sym c.number.ensures ∙ c.in_default.is)
 
 pub bounds-table-count : goal.bounds-table-count
-bounds-table-count c = stored-room c.loop-at.invariant (field-ends (goal.at.bounds-table-count c).After-piece_end-end) _ (sym c.number-field.ensures ∙ ap field_number c.in-Number.is)
+bounds-table-count c = stored-room (stored (goal.at.bounds-table-count c).In-Some) _ (turn (goal.at.bounds-table-count c).In-Some).1 _ (sym c.number.ensures ∙ c.in-Some-number.is)
 
-pub overflow_add-count : goal.overflow_add-count
-overflow_add-count c = omega (arith, stored-room c.loop-at.invariant (field-ends (goal.at.overflow_add-count c).After-piece_end-end) _ (sym c.number-field.ensures ∙ ap field_number c.in-Number.is), stored-length c.loop-at.invariant, c.well_formed)
-
-pub overflow_add-at : goal.overflow_add-at
-overflow_add-at c = omega (arith, (field-ends (goal.at.overflow_add-at c).After-piece_end-end).inside)
-
-pub loop-at-smaller : goal.loop-at-smaller
-loop-at-smaller c = omega (arith, c.loop-at-test.true, (field-ends (goal.at.loop-at-smaller c).After-piece_end-end).from)
-
-pub loop-at-preserved : goal.loop-at-preserved
-loop-at-preserved c = stored_next c.loop-at.invariant (field-ends (goal.at.loop-at-preserved c).After-piece_end-end) _ (sym c.number-field.ensures ∙ ap field_number c.in-Number.is)
-
-pub shape_of-table : goal.shape_of-table
-shape_of-table c = stored-length c.loop-at.invariant
+pub loop-count-preserved : goal.loop-count-preserved
+loop-count-preserved c =
+    let now = (goal.at.loop-count-preserved c).In-Some in
+    let e : length (c.loop-count.yielded ++ ((c.in-Some.count, c.in-Some.field) ∷ [])) ≡ c.in-Some.count + 1 = length_push c.loop-count.yielded (c.in-Some.count, c.in-Some.field) ∙ ap (λ (n : ℕ). n + 1) (sym (turn now).0) in
+    rw e (stored_next (stored now) _ (turn now).1 _ (sym c.number.ensures ∙ c.in-Some-number.is))
 
 pub returns : goal.returns
-returns c = stored-end c.loop-at.invariant c.loop-at-test.false
+returns c =
+    let parts = YieldsList-from_slice_split _ (λ byte. eqb byte 9) c.args.line.now (cc) (cc) (cc) (λ x b q k. search rules) in
+    let numbered = YieldsList-from_enumerate parts (cc) in
+    let all = YieldsList-end numbered c.loop-count.yielded _ c.loop-count.yielded_by _ _ c.in-None.is c.next.ensures.steps in
+    stored-end c.loop-count.invariant (all.1 ∙ length-enumerate_from 0 _ ∙ ap length (fields_split c.args.line.now))

@@ -1,7 +1,7 @@
 -- `digit_count` recurs on the tenth.
 use mathlib.Core.Path.{sym, ap, ◌∙◌}
 use native.Mathlib.Omega.{arith}
-use Prim.Native.Nat.{◌+◌, ◌/◌, ℕ, ◌<◌}
+use Prim.Native.Nat.{◌+◌, ◌/◌, ℕ}
 use Rattle.text_numbers.specs.NumberLaws.{length-one, length_more}
 use Rattle.text_numbers.specs.PutLaws.{digits-ten}
 use Rattle.text_numbers.proofs.digits.+digit_count.Goals as goal

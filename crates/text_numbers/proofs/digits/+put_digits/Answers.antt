@@ -4,7 +4,6 @@ use native.Mathlib.Omega.{arith}
 use lib.ListN.{length-set}
 use Rattle.text_numbers.specs.NumberLaws.{digits_more, length-one, length_more}
 use Rattle.text_numbers.specs.PutLaws.{put_one, put_as, put_byte}
-use Prim.Native.Nat.{ℕ, ◌<◌}
 use Rattle.text_numbers.proofs.digits.+put_digits.Goals as goal
 
 pub overflow_cast-text : goal.overflow_cast-text

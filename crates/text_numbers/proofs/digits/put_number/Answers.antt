@@ -1,24 +1,23 @@
 -- `put_number`: a minus sign where there is one, and the digits of the size behind it.
-use mathlib.Core.Path.{◌≡◌, sym}
+use mathlib.Core.Path.{◌≡◌, sym, ◌∙◌}
 use native.Mathlib.Omega.{arith}
 use mathlib.Core.List.{◌∷◌}
 use lib.ListN.{length-set}
 use Rattle.text_numbers.specs.Number.{digits, number_bytes}
 use Rattle.text_numbers.specs.PutLaws.{put_as, LedRoom, led-room, led-back, led-put}
 use Rattle.text_numbers.proofs.Signs.{bytes-negative, bytes-positive}
-use borrow.Author.Rules.{rules}
 use Rattle.text_numbers.proofs.digits.put_number.Goals as goal
 use Rattle.text_numbers.proofs.digits.put_number.Goals.{Else-number-lt0, Then-number-lt0}
 
 -- the bytes of a negative number, and their room
-signed : (c : Then-number-lt0) → number_bytes c.args.number ≡ 45 ∷ digits c.magnitude-n.result
-signed c = bytes-negative _ _ c.ranges.number c.magnitude-n.ensures c.if-number-lt0.true
+signed : (c : Then-number-lt0) → number_bytes c.args.number ≡ 45 ∷ digits c.from-n.result
+signed c = bytes-negative _ _ c.ranges.number (c.from-n.ensures ∙ c.unsigned_abs.ensures.value) c.if-number-lt0.true
 
-room : (c : Then-number-lt0) → LedRoom 45 (digits c.magnitude-n.result) c.args.text.now
+room : (c : Then-number-lt0) → LedRoom 45 (digits c.from-n.result) c.args.text.now
 room c = record { room = rw (signed c) at c.requires }
 
-unsigned : (c : Else-number-lt0) → number_bytes c.args.number ≡ digits c.magnitude-n.result
-unsigned c = bytes-positive _ _ c.ranges.number c.magnitude-n.ensures c.if-number-lt0.false
+unsigned : (c : Else-number-lt0) → number_bytes c.args.number ≡ digits c.from-n.result
+unsigned c = bytes-positive _ _ c.ranges.number (c.from-n.ensures ∙ c.unsigned_abs.ensures.value) c.if-number-lt0.false
 
 pub bounds-text-0 : goal.bounds-text-0
 bounds-text-0 c = omega (arith, (room c).room)

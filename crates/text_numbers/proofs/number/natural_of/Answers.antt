@@ -1,20 +1,28 @@
 -- `natural_of`: digits that a zero does not lead.
-use mathlib.Core.Path.{sym, ap, ◌∙◌}
+use mathlib.Core.Path.{◌≡◌, sym, ap, ◌∙◌}
+use mathlib.Core.Bool.{true, false}
+use Prim.Native.Nat.{ℕ}
 use native.Mathlib.Omega.{arith}
-use Rattle.text_numbers.specs.NumberLaws.{natural-is}
+use borrow.Author.Tests.{eqb-true, le-ltb, eq-eqb}
 use Rattle.text_numbers.specs.Reader.{at_most}
-use Rattle.text_numbers.proofs.Decimal.{at_most-none, natural-none, natural-one, natural-zero}
-use borrow.Author.Rules.{rules}
+use Rattle.text_numbers.proofs.Decimal.{at_most-none, natural-none, natural-zero, natural-digits, is-empty, is-filled}
 use Rattle.text_numbers.proofs.number.natural_of.Goals as goal
+use Rattle.text_numbers.proofs.number.natural_of.Goals.{then-is_empty-via-then-is_empty, then-is_empty-via-else-is_empty+then-bytes-eq48, then-bytes-gt1, else-bytes-gt1}
 
-pub returns-then-length-eq0 : goal.returns-then-length-eq0
-returns-then-length-eq0 c = sym (ap (at_most _) (natural-none _ c.if-length-eq0.true) ∙ at_most-none _)
-
-pub returns-then-length-eq1 : goal.returns-then-length-eq1
-returns-then-length-eq1 c = c.decimal.ensures ∙ ap (at_most _) (sym (natural-one _ c.if-length-eq1.true))
-
-pub returns-then-bytes-eq48 : goal.returns-then-bytes-eq48
-returns-then-bytes-eq48 c = sym (ap (at_most _) (natural-zero _ c.if-length-eq0.false c.if-length-eq1.false c.if-bytes-eq48.true) ∙ at_most-none _)
+pub returns-then-is_empty : goal.returns-then-is_empty
+returns-then-is_empty c =
+    sym (ap (at_most _) (elim c.then-is_empty.branch [
+      | then-is_empty-via-then-is_empty w ↦ natural-none _ (is-empty _ w.if-is_empty.ensures)
+      | then-is_empty-via-else-is_empty+then-bytes-eq48 w ↦ elim w.if-bytes-gt1.branch [
+        | then-bytes-gt1 v ↦ natural-zero _ v.if-bytes-gt1.true (eqb-true _ 48 (sym v.value-is ∙ w.if-bytes-eq48.true))
+        | else-bytes-gt1 v ↦ let e : false ≡ true = sym (le-ltb _ _ v.if-bytes-gt1.false) ∙ sym v.value-is ∙ w.if-bytes-eq48.true in absurd (let z : ◌≡◌ {A = ℕ} 0 1 = cc in omega arith)
+      ]
+    ]) ∙ at_most-none _)
 
 pub returns : goal.returns
-returns c = let filled = c.if-length-eq0.false in c.decimal-2.ensures ∙ ap (at_most _) (sym (natural-is _ (omega arith) c.if-bytes-eq48.false))
+returns c =
+    c.decimal.ensures
+    ∙ ap (at_most _) (sym (natural-digits _ (is-filled _ c.if-is_empty.ensures) (λ h e. elim c.if-bytes-gt1.branch [
+      | then-bytes-gt1 v ↦ absurd (let f : true ≡ false = sym (eq-eqb _ 48 e) ∙ sym v.value-is ∙ c.if-bytes-eq48.false in let z : ◌≡◌ {A = ℕ} 0 1 = cc in omega arith)
+      | else-bytes-gt1 v ↦ absurd (let l = v.if-bytes-gt1.false in omega arith)
+    ])))

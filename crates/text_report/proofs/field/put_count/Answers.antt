@@ -5,7 +5,6 @@ use lib.ListN.{length, length-set}
 use Rattle.text_report.specs.Lines.{blank}
 use Rattle.text_numbers.specs.Number.{digits}
 use Rattle.text_numbers.specs.PutLaws.{digits-within, LedRoom, led-room, led-back, led-put}
-use borrow.Author.Rules.{rules}
 use Rattle.text_report.proofs.field.put_count.Goals as goal
 use Rattle.text_report.proofs.field.put_count.Goals.{Start}
 

@@ -8,7 +8,6 @@ use Rattle.words.specs.Answers.{ending_name}
 use Rattle.words.specs.OverLaws.{part, part-is}
 use Rattle.text_numbers.specs.PutLaws.{LedRoom, led-back, led-put}
 use Rattle.text_report.proofs.Spacing.{ending-few}
-use borrow.Author.Rules.{rules}
 use Rattle.text_report.proofs.field.put_ending.Goals as goal
 use Rattle.text_report.proofs.field.put_ending.Goals.{Start}
 

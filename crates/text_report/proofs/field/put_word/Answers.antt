@@ -11,7 +11,6 @@ use lib.IntN.{ℤ}
 use mir.Syntax.{w32}
 use mir.Val.{to_z, of_z}
 use Rattle.words.specs.Laws.{back}
-use borrow.Author.Rules.{rules}
 use Rattle.text_report.proofs.field.put_word.Goals as goal
 use Rattle.text_report.proofs.field.put_word.Goals.{Start}
 

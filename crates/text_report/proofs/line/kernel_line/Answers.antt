@@ -7,7 +7,6 @@ use Rattle.words.specs.OverLaws.{back_in}
 use Rattle.text_numbers.specs.PutLaws.{put_as, put_next, put_back}
 use Rattle.text_report.specs.Lines.{blank, kernel_name}
 use Rattle.text_report.proofs.Spacing.{SoFar, far-below, far-inside, far-space, far-next, far-total, ending-few, kernel-is}
-use borrow.Author.Rules.{rules}
 use Rattle.text_report.proofs.line.kernel_line.Goals as goal
 use Rattle.text_report.proofs.line.kernel_line.Goals.{After-slice_known-2-1, After-slice_known-3-1}
 

@@ -8,7 +8,6 @@ use Rattle.text_numbers.specs.Number.{digits}
 use Rattle.text_numbers.specs.PutLaws.{put_byte}
 use Rattle.text_report.specs.Lines.{blank}
 use Rattle.text_report.proofs.Spacing.{SoFar, spaced_words, far-below, far-length, far-inside, far-space, far-next, count-few}
-use borrow.Author.Rules.{rules}
 use Rattle.text_report.proofs.line.put_written.Goals as goal
 use Rattle.text_report.proofs.line.put_written.Goals.{After-slice_known-2-1, After-slice_known-3-1}
 

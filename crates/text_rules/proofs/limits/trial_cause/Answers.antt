@@ -1,12 +1,11 @@
 -- `trial_cause` tests the header, the size of the store, then the number of row words.
 use mathlib.Core.Path.{sym, ◌∙◌}
 use native.Mathlib.Omega.{arith}
-use borrow.Author.Tests.{not-true, not-false, le-leb, lt-leb}
+use borrow.Author.Tests.{le-leb, lt-leb}
 use Rattle.words.specs.Layout.{layout_of, store_size}
 use Rattle.words.specs.declared.Form.TheVariants.{Source}
 use Rattle.text_form.specs.Answers.{cause_unless}
 use Rattle.text_rules.specs.Rules.{trial_cause}
-use borrow.Author.Rules.{rules}
 use Rattle.text_rules.proofs.limits.trial_cause.Goals as goal
 
 pub returns-then-not-header_fits : goal.returns-then-not-header_fits

@@ -1,13 +1,9 @@
 -- `put_rows`: the end stays within the text.
-use mathlib.Core.Path.{◌≡◌}
-use Prim.Native.Nat.{◌-◌, ◌*◌, ◌≤◌}
-use native.Mathlib.Omega.{arith}
-use borrow.Author.Rules.{rules}
-use lib.ListN.{length}
+use Rattle.std.proofs.Common.{◌≤◌, length}
 use Rattle.text_trial.proofs.source.put_rows.Given as goal
 
-abbrev pub invariant-loop-i : goal.invariant-loop-i
-invariant-loop-i l = (length l.text ≡ length l.initial.text) × (l.end ≤ length l.text)
+abbrev pub invariant-loop-row : goal.invariant-loop-row
+invariant-loop-row l = l.end ≤ length l.text
 
-abbrev pub decreases-loop-i : goal.decreases-loop-i
-decreases-loop-i l = 12 * l.count - l.i
+abbrev pub invariant-loop-byte : goal.invariant-loop-byte
+invariant-loop-byte l = l.end ≤ length l.text

@@ -1,6 +1,5 @@
 -- `counted` makes one test.
 use native.Mathlib.Omega.{arith}
-use borrow.Author.Rules.{rules}
 use Rattle.words.proofs.declarations.counted.Goals as goal
 
 pub returns-then-is_declaration : goal.returns-then-is_declaration

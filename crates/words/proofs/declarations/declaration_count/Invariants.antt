@@ -1,11 +1,8 @@
 -- `declaration_count` goes over the rows in order. The invariant: the count is that of the declarations passed.
-use mathlib.Core.Path.{◌≡◌, refl, ap, ◌∙◌}
-use Prim.Native.Nat.{ℕ, ◌-◌, ◌/◌, ◌≤◌}
-use native.Mathlib.Omega.{arith}
-use native.Mathlib.Numerals.{add-one}
+use mathlib.Core.Path.{◌≡◌}
+use Prim.Native.Nat.{◌-◌, ◌/◌, ◌≤◌}
 use lib.ListN.{length}
-use Rattle.words.specs.Declarations.{declarations_before, declaration_count}
-use Rattle.words.specs.StoreLaws.{before-few}
+use Rattle.words.specs.Declarations.{declarations_before}
 use Rattle.words.proofs.declarations.declaration_count.Given as goal
 
 abbrev pub invariant-loop-row : goal.invariant-loop-row

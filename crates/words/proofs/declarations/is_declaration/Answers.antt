@@ -1,6 +1,5 @@
 -- `is_declaration` asks for the number of the row's kind.
 use Rattle.words.specs.Declarations.{is_declaration}
-use borrow.Author.Rules.{rules}
 use Rattle.words.proofs.declarations.is_declaration.Goals as goal
 
 pub returns : goal.returns

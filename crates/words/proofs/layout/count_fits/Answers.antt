@@ -1,6 +1,5 @@
 -- `count_fits` makes the tests of its definition in order.
 use native.Mathlib.Omega.{arith}
-use borrow.Author.Rules.{rules}
 use borrow.Author.Tests.{le-leb, lt-leb}
 use Rattle.words.specs.Layout.{count_fits}
 use Rattle.words.specs.Laws.{row_limit-most}

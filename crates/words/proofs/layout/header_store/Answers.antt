@@ -1,6 +1,5 @@
 -- `header_store` adds the words behind the first S to these.
 use native.Mathlib.Omega.{arith}
-use borrow.Author.Rules.{rules}
 use Rattle.words.specs.Layout.{header_store}
 use Rattle.words.specs.Laws.{HeaderFits, header_fits-facts}
 use Rattle.words.proofs.layout.header_store.Goals as goal

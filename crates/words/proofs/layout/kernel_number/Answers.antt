@@ -1,7 +1,6 @@
 -- `kernel_number` is the word at its place in a kernel's header.
 use mathlib.Core.Path.{◌≡◌, sym, ap, ◌∙◌}
 use native.Mathlib.Omega.{arith}
-use borrow.Author.Rules.{rules}
 use Rattle.words.specs.Word.{natural}
 use Rattle.words.specs.Layout.{leading, kernel_number}
 use Rattle.words.specs.Laws.{back}

@@ -2,7 +2,6 @@
 use native.Mathlib.Omega.{arith}
 use lib.IntN.{pos}
 use lib.ListN.{get_or}
-use borrow.Author.Rules.{rules}
 use Rattle.words.specs.Laws.{HeaderFits, leading-limits, header_fits-facts}
 use Rattle.words.proofs.Signed.{natural-again}
 use Rattle.words.proofs.Lengths.{size_is}

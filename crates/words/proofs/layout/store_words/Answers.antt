@@ -1,7 +1,6 @@
 -- `store_words` adds the declarations to the words that a source header gives.
-use mathlib.Core.Path.{◌≡◌, sym, ap, ◌∙◌}
+use mathlib.Core.Path.{sym, ap, ◌∙◌}
 use native.Mathlib.Omega.{arith}
-use borrow.Author.Rules.{rules}
 use Rattle.words.specs.Layout.{header_store, store_words}
 use Rattle.words.specs.StoreLaws.{declarations-few, header-store-most}
 use Rattle.words.specs.declared.Form.{Form}

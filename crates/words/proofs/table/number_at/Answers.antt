@@ -1,6 +1,5 @@
 -- `number_at` is the number that the word names.
 use mathlib.Core.Path.{ap, ◌∙◌}
-use borrow.Author.Rules.{rules}
 use Rattle.words.specs.Word.{natural}
 use Rattle.words.specs.Table.{number_at}
 use Rattle.words.specs.Laws.{back}

@@ -1,6 +1,5 @@
 -- `word_at` is an element of the table.
 use mir.Facts.{to_z-of_z}
-use borrow.Author.Rules.{rules}
 use Rattle.words.specs.Table.{word_at}
 use Rattle.std.specs.Int.{w32}
 use Rattle.words.proofs.table.word_at.Goals as goal

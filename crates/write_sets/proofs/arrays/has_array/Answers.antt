@@ -1,6 +1,5 @@
 -- `write_sets::arrays::has_array` meets its contract.
 use Rattle.write_sets.specs.SetLaws.{array-shift}
-use borrow.Author.Rules.{rules}
 use Rattle.write_sets.proofs.arrays.has_array.Goals as goal
 
 pub returns : goal.returns

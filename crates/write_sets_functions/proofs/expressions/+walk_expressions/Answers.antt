@@ -22,7 +22,7 @@ pub walk_arguments-walk_expression-first-requires : goal.walk_arguments-walk_exp
 walk_arguments-walk_expression-first-requires t c =
     let p = c.requires in
     let there : 0 < c.args.link = omega (arith, c.if-link-eq0.false) in
-    let f = argued c.argument_at-shape.ensures c.in-Argument.is in
+    let f = argued c.argument_at-shape.ensures c.in-Some.is in
     let less = left_less c.args.link _ p.1 (λ h. f.onward) there in
     (omega (arith, less, c.decreases), (p.0, f.onward.inside))
 
@@ -33,18 +33,18 @@ walk_arguments-walk_arguments-requires t c =
     let less = next-falls p.0.source p.1 there c.number_at-next.ensures in
     (omega (arith, less, c.decreases), (p.0, next_inside p.0.source p.1 _ c.number_at-next.ensures))
 
-pub walk_arguments-returns-in-Argument : goal.walk_arguments-returns-in-Argument
-walk_arguments-returns-in-Argument t c =
+pub walk_arguments-returns-in-Some : goal.walk_arguments-returns-in-Some
+walk_arguments-returns-in-Some t c =
     let p = c.requires in
     let there : 0 < c.args.link = omega (arith, c.if-link-eq0.false) in
-    let f = argued c.argument_at-shape.ensures c.in-Argument.is in
+    let f = argued c.argument_at-shape.ensures c.in-Some.is in
     argument-passed c.args.rows.now (lower_called c.args.rows.now c.args.known) c.args.link there (read_next c.number_at-next.ensures f) c.walk_expression-first.ensures c.walk_arguments.ensures c.join.ensures
 
-pub walk_arguments-returns-in-NoArgument : goal.walk_arguments-returns-in-NoArgument
-walk_arguments-returns-in-NoArgument t c =
+pub walk_arguments-returns-in-None : goal.walk_arguments-returns-in-None
+walk_arguments-returns-in-None t c =
     let p = c.requires in
     let there : 0 < c.args.link = omega (arith, c.if-link-eq0.false) in
-    ended-passed c.args.rows.now (lower_called c.args.rows.now c.args.known) c.args.link there (argued c.argument_at-shape.ensures c.in-NoArgument.is) c.nothing-in-NoArgument.ensures
+    ended-passed c.args.rows.now (lower_called c.args.rows.now c.args.known) c.args.link there (argued c.argument_at-shape.ensures c.in-None.is) c.nothing-in-None.ensures
 
 pub walk_expression-returns-then-link-eq0 : goal.walk_expression-returns-then-link-eq0
 walk_expression-returns-then-link-eq0 t c = none-walked c.args.rows.now (lower_called c.args.rows.now c.args.known) c.args.link c.if-link-eq0.true c.nothing.ensures

@@ -29,7 +29,7 @@ linked-requires t c =
     let p = c.requires in
     let there : 0 < c.args.link = omega (arith, c.if-link-eq0.false) in
     let m = p there in
-    let f = argued c.argument_at-shape.ensures c.in-Argument.is in
+    let f = argued c.argument_at-shape.ensures c.in-Some.is in
     λ h. omega (arith, m.0.room, f.onward.inside)
 
 pub argument_arrays-requires : goal.argument_arrays-requires
@@ -41,17 +41,17 @@ argument_arrays-requires t c =
     let less = next-falls m.0.source m.1 there e in
     (omega (arith, less, c.decreases), λ h. (from_less _ m.0 (let l = next-later m.0.source m.1 _ e h in omega (arith, l)), next_inside m.0.source m.1 _ e))
 
-pub returns-in-Argument : goal.returns-in-Argument
-returns-in-Argument t c =
+pub returns-in-Some : goal.returns-in-Some
+returns-in-Some t c =
     let p = c.requires in
     let there : 0 < c.args.link = omega (arith, c.if-link-eq0.false) in
     let m = p there in
-    let f = argued c.argument_at-shape.ensures c.in-Argument.is in
+    let f = argued c.argument_at-shape.ensures c.in-Some.is in
     argument-passed c.args.link m.0 there (read_next c.number_at-next.ensures f) c.linked.ensures c.argument_arrays.ensures c.join_arrays.ensures
 
-pub returns-in-NoArgument : goal.returns-in-NoArgument
-returns-in-NoArgument t c =
+pub returns-in-None : goal.returns-in-None
+returns-in-None t c =
     let p = c.requires in
     let there : 0 < c.args.link = omega (arith, c.if-link-eq0.false) in
     let m = p there in
-    ended-passed c.args.rows.now c.args.link there (argued c.argument_at-shape.ensures c.in-NoArgument.is)
+    ended-passed c.args.rows.now c.args.link there (argued c.argument_at-shape.ensures c.in-None.is)

@@ -1,26 +1,24 @@
 -- The arrays of the rows so far; the invariant is `Arrays`.
-use Prim.Native.Nat.{◌-◌}
+use mathlib.Core.Path.{ap, ◌∙◌}
+use Prim.Native.Nat.{ℕ, ◌<◌, ◌≤◌}
 use native.Mathlib.Omega.{arith}
+use Rattle.std.specs.Int.Bits.{bit_or}
+use Rattle.std.proofs.lemmas.List.{get_or-take, length-take}
+use Rattle.words.specs.Table.{row_count}
 use Rattle.write_sets_programs.proofs.UnionLaws.{arrays-start, arrays-next, arrays-end}
 use Rattle.write_sets_programs.proofs.program.any_arrays.Goals as goal
 
-pub loop-row-init : goal.loop-row-init
-loop-row-init c = arrays-start
+pub loop-word-init : goal.loop-word-init
+loop-word-init c = arrays-start
 
-pub offset_bounds-arrays-row : goal.offset_bounds-arrays-row
-offset_bounds-arrays-row c = omega (arith, c.loop-row-test.true, c.requires.room, c.well_formed)
-
-pub bounds-arrays-row : goal.bounds-arrays-row
-bounds-arrays-row c = omega (arith, c.loop-row-test.true, c.requires.room)
-
-pub overflow_add-row : goal.overflow_add-row
-overflow_add-row c = omega (arith, c.loop-row-test.true, c.well_formed)
-
-pub loop-row-smaller : goal.loop-row-smaller
-loop-row-smaller c = omega (arith, c.loop-row-test.true)
-
-pub loop-row-preserved : goal.loop-row-preserved
-loop-row-preserved c = arrays-next c.requires c.loop-row.invariant c.loop-row-test.true c.join_arrays-any.ensures
+pub loop-word-preserved : goal.loop-word-preserved
+loop-word-preserved c =
+    let count = row_count c.args.rows.now in
+    let inside : c.loop-word.word-index < count = omega (arith, c.loop-word-test.true, length-take count c.args.arrays.now) in
+    arrays-next c.requires c.loop-word.invariant inside (c.join_arrays-any.ensures ∙ ap (bit_or c.loop-word.any) (get_or-take count c.args.arrays.now c.loop-word.word-index 0 inside))
 
 pub returns : goal.returns
-returns c = arrays-end c.loop-row.invariant (omega (arith, c.loop-row-test.false))
+returns c =
+    let count = row_count c.args.rows.now in
+    let past : count ≤ c.loop-word.word-index = omega (arith, c.loop-word-test.false, length-take count c.args.arrays.now, c.requires.room) in
+    arrays-end c.loop-word.invariant past

@@ -1,5 +1,5 @@
 -- The reach of an operation, a clause of `writes` each.
-use mathlib.Core.Path.{ap}
+use mathlib.Core.Path.{refl, ap}
 use Rattle.language_shapes.specs.ShapeLaws.{expressed}
 use Rattle.language_shapes.specs.declared.ExpressionShape.TheVariants.{Operation}
 use Rattle.write_sets_rows.proofs.ReachLaws.{minus-reach, not-reach, binary-reach, comma-reach, assign-reach, compound-reach, prefix-reach, postfix-reach}
@@ -18,16 +18,16 @@ pub update_reach-requires-in-Postfix : goal.update_reach-requires-in-Postfix
 update_reach-requires-in-Postfix c = (c.requires.0, c.requires.1, (expressed c.requires.2 (ap Operation c.in-Postfix.is)).onward.inside)
 
 pub returns-in-Minus : goal.returns-in-Minus
-returns-in-Minus c = λ called. minus-reach called (expressed c.requires.2 (ap Operation c.in-Minus.is)) c.nothing.ensures c.reaching.ensures
+returns-in-Minus c = λ called. minus-reach called (expressed c.requires.2 (ap Operation c.in-Minus.is)) refl refl
 
 pub returns-in-Not : goal.returns-in-Not
-returns-in-Not c = λ called. not-reach called (expressed c.requires.2 (ap Operation c.in-Not.is)) c.nothing-in-Not.ensures c.reaching-in-Not.ensures
+returns-in-Not c = λ called. not-reach called (expressed c.requires.2 (ap Operation c.in-Not.is)) refl refl
 
 pub returns-in-Binary : goal.returns-in-Binary
-returns-in-Binary c = λ called. binary-reach called (expressed c.requires.2 (ap Operation c.in-Binary.is)) c.nothing-in-Binary.ensures c.reaching-in-Binary.ensures
+returns-in-Binary c = λ called. binary-reach called (expressed c.requires.2 (ap Operation c.in-Binary.is)) refl refl
 
 pub returns-in-Comma : goal.returns-in-Comma
-returns-in-Comma c = λ called. comma-reach called (expressed c.requires.2 (ap Operation c.in-Comma.is)) c.nothing-in-Comma.ensures c.reaching-in-Comma.ensures
+returns-in-Comma c = λ called. comma-reach called (expressed c.requires.2 (ap Operation c.in-Comma.is)) refl refl
 
 pub returns-in-Assign : goal.returns-in-Assign
 returns-in-Assign c = λ called. assign-reach called (expressed c.requires.2 (ap Operation c.in-Assign.is)) c.update_reach.ensures

@@ -1,4 +1,5 @@
 -- The reach of an expression, by its shape.
+use mathlib.Core.Path.{refl}
 use Rattle.language_shapes.specs.ShapeLaws.{expressed}
 use Rattle.write_sets_rows.proofs.ReachLaws.{number-reach, called-reach}
 use Rattle.write_sets_rows.proofs.reaches.reach_at.Goals as goal
@@ -13,7 +14,7 @@ pub choice_reach-requires : goal.choice_reach-requires
 choice_reach-requires c = expressed c.expression_at-shape.ensures c.in-Choice.is
 
 pub returns-in-Number : goal.returns-in-Number
-returns-in-Number c = λ called held. number-reach called (expressed c.expression_at-shape.ensures c.in-Number.is) c.nothing.ensures c.reaching.ensures
+returns-in-Number c = λ called held. number-reach called (expressed c.expression_at-shape.ensures c.in-Number.is) refl refl
 
 pub returns-in-Read : goal.returns-in-Read
 returns-in-Read c = λ called held. c.read_reach.ensures called
@@ -25,4 +26,4 @@ pub returns-in-Choice : goal.returns-in-Choice
 returns-in-Choice c = λ called held. c.choice_reach.ensures called
 
 pub returns-in-Call : goal.returns-in-Call
-returns-in-Call c = called-reach c.args.sets.now c.args.known (expressed c.expression_at-shape.ensures c.in-Call.is) c.function_set.ensures c.reaching-in-Call.ensures
+returns-in-Call c = called-reach c.args.sets.now c.args.known (expressed c.expression_at-shape.ensures c.in-Call.is) c.function_set.ensures refl

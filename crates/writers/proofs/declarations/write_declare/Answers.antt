@@ -9,17 +9,15 @@ use Rattle.writers.proofs.declarations.write_declare.Goals as goal
 
 pub write_expression-requires : goal.write_expression-requires
 write_expression-requires c =
-    let start = c.before.before.before.before.before in
-    (start.requires.0, record { inside = start.requires.1.inside; level_low = omega (arith, part_low start.requires.0 start.args.value start.requires.1.inside (stored start.args.number)); use_fits = start.requires.1.low; room = search rules })
+    (c.requires.0, record { inside = c.requires.1.inside; level_low = omega (arith, part_low c.requires.0 c.args.value c.requires.1.inside (stored c.args.number)); use_fits = c.requires.1.low; room = search rules })
 
 pub put_variable-requires : goal.put_variable-requires
 put_variable-requires c =
-    let start = c.before.before.before.before.before.before.before.before in
     let past-operand-size = c.operand_size-n in
     let past-write-expression = c.write_expression in
-    let asks = start.requires.1 in
+    let asks = c.requires.1 in
     record {
-      writing = start.requires.0;
+      writing = c.requires.0;
       low = asks.low;
       value_inside = asks.inside;
       level_low = omega arith;
@@ -30,6 +28,5 @@ put_variable-requires c =
 
 pub returns : goal.returns
 returns c =
-    let start = c.before.before.before.before.before.before.before.before.before.before in
-    let args = start.args in
-    declared-done args.store args.rows.now args.number args.value args.base args.follows args.out.now dropped start.requires.1.absent c.operand_size-n.ensures c.store_rows.ensures c.more-then.ensures c.write_expression.ensures c.put_variable.ensures
+    let args = c.args in
+    declared-done args.source.now.store args.source.now.rows.now args.number args.value args.base args.follows args.out.now dropped c.requires.1.absent c.operand_size-n.ensures c.store_rows.ensures c.more-then.ensures c.write_expression.ensures c.put_variable.ensures

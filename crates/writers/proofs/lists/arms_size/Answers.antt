@@ -7,10 +7,8 @@ use Rattle.writers.proofs.lists.arms_size.Goals as goal
 
 pub measure_at-requires : goal.measure_at-requires
 measure_at-requires c =
-    let start = c.before in
-    word-asks _ _ start.requires.0 _ arms_rows_slot start.requires.1 (omega arith)
+    word-asks _ _ c.requires.0 _ arms_rows_slot c.requires.1 (omega arith)
 
 pub returns : goal.returns
 returns c =
-    let start = c.before.before in
-    c.measure_at.ensures.is ∙ rows-of-arms _ _ start.requires.0 _ start.requires.1 start.requires.2
+    c.measure_at.ensures.is ∙ rows-of-arms _ _ c.requires.0 _ c.requires.1 c.requires.2

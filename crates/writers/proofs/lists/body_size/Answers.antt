@@ -6,10 +6,8 @@ use Rattle.writers.proofs.lists.body_size.Goals as goal
 
 pub statement_size-requires : goal.statement_size-requires
 statement_size-requires c =
-    let start = c.before.before in
-    (start.requires.0, start.requires.1, omega (arith, body-some start.args.rows.now start.args.row (omega arith), start.requires.2))
+    (c.requires.0, c.requires.1, omega (arith, body-some c.args.source.now.rows.now c.args.row (omega arith), c.requires.2))
 
 pub returns : goal.returns
 returns c =
-    let start = c.before.before.before in
-    c.statement_size.ensures ∙ sym (body-some start.args.rows.now start.args.row (omega arith))
+    c.statement_size.ensures ∙ sym (body-some c.args.source.now.rows.now c.args.row (omega arith))

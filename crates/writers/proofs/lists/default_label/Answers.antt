@@ -7,22 +7,16 @@ use Rattle.writers.proofs.lists.default_label.Goals as goal
 
 pub measure_at-place-requires : goal.measure_at-place-requires
 measure_at-place-requires c =
-    let start = c.before in
-    word-asks _ _ start.requires.0 _ 10 start.requires.1.inside (omega arith)
+    word-asks _ _ c.requires.0 _ 10 c.requires.1.inside (omega arith)
 
 pub returns-then-place-eq0 : goal.returns-then-place-eq0
 returns-then-place-eq0 c =
-    let start = c.before.before.before in
-    let place = default-of-list _ _ start.requires.0 start.args.list start.requires.1.inside (omega (arith, start.requires.1.labels_low)) in
-    sym ((default-at (list_at start.args.rows.now start.args.list) start.args.label start.args.other).absent (omega (arith, place, c.measure_at-place.ensures.is)))
-
-pub overflow_add-result : goal.overflow_add-result
-overflow_add-result c = omega (arith, c.measure_at-place.ensures.small, c.requires.1.labels_low)
+    let place = default-of-list _ _ c.requires.0 c.args.list c.requires.1.inside (omega (arith, c.requires.1.labels_low)) in
+    sym ((default-at (list_at c.args.source.now.rows.now c.args.list) c.args.label c.args.other).absent (omega (arith, place, c.measure_at-place.ensures.is)))
 
 pub returns : goal.returns
 returns c =
-    let start = c.before.before.before in
     let past-measure-at = c.measure_at-place in
-    let place = default-of-list _ _ start.requires.0 start.args.list start.requires.1.inside (omega (arith, start.requires.1.labels_low)) in
-    let at = default-at (list_at start.args.rows.now start.args.list) start.args.label start.args.other in
+    let place = default-of-list _ _ c.requires.0 c.args.list c.requires.1.inside (omega (arith, c.requires.1.labels_low)) in
+    let at = default-at (list_at c.args.source.now.rows.now c.args.list) c.args.label c.args.other in
     omega (arith, at.present (omega (arith, place, past-measure-at.ensures.is)), place, past-measure-at.ensures.is)

@@ -6,8 +6,7 @@ use Rattle.writers.proofs.lists.item_labels.Goals as goal
 
 pub statement_labels-requires : goal.statement_labels-requires
 statement_labels-requires c =
-    let start = c.before.before.before in
-    (start.requires.0, start.requires.1, rw (item_is c.item_at-item.ensures c.in-Statement.is) at start.requires.2)
+    (c.requires.0, c.requires.1, rw (item_is c.item_at-item.ensures c.in-Statement.is) at c.requires.2)
 
 pub returns-in-Statement : goal.returns-in-Statement
 returns-in-Statement c = c.statement_labels.ensures ∙ sym (ap item_labels (item_is c.item_at-item.ensures c.in-Statement.is))

@@ -7,15 +7,12 @@ use Rattle.writers.proofs.loops.test_size.Goals as goal
 
 pub operand_size-requires : goal.operand_size-requires
 operand_size-requires c =
-    let start = c.before.before in
-    (start.requires.0, start.requires.1, omega (arith, test-most (called_in start.args.rows.now) (part_at start.args.rows.now start.args.test), start.requires.2))
+    (c.requires.0, c.requires.1, omega (arith, test-most (called_in c.args.source.now.rows.now) (part_at c.args.source.now.rows.now c.args.test), c.requires.2))
 
 pub overflow_add-result : goal.overflow_add-result
 overflow_add-result c =
-    let start = c.before.before.before in
-    omega (arith, c.operand_size.ensures, test-most (called_in start.args.rows.now) (part_at start.args.rows.now start.args.test), start.requires.2)
+    omega (arith, c.operand_size.ensures, test-most (called_in c.args.source.now.rows.now) (part_at c.args.source.now.rows.now c.args.test), c.requires.2)
 
 pub returns : goal.returns
 returns c =
-    let start = c.before.before.before in
-    omega (arith, c.operand_size.ensures, test_some start.args.rows.now start.args.test c.if-test-eq0.false)
+    omega (arith, c.operand_size.ensures, test_some c.args.source.now.rows.now c.args.test c.if-test-eq0.false)

@@ -13,24 +13,22 @@ use Rattle.writers.proofs.loops.write_round_end.Goals as goal
 
 pub write_expression-requires : goal.write_expression-requires
 write_expression-requires c =
-    let start = c.before.before.before.before.before.before.before.before.before in
-    (start.requires.0, record { inside = start.requires.1.action_inside; level_low = omega (arith, part_low start.requires.0 start.args.action start.requires.1.action_inside dropped); use_fits = tt; room = search rules })
+    (c.requires.0, record { inside = c.requires.1.action_inside; level_low = omega (arith, part_low c.requires.0 c.args.action c.requires.1.action_inside dropped); use_fits = tt; room = search rules })
 
 pub write_test-requires : goal.write_test-requires
 write_test-requires c =
-    let start = c.before.before.before.before.before.before.before.before.before.before.before.before in
     let past-put-label = c.put_label in
     let past-write-expression = c.write_expression in
     let past-operand-size = c.operand_size-k in
-    let asks = start.requires.1 in
+    let asks = c.requires.1 in
     let l1 = past-put-label.new.out in
     let l2 = past-write-expression.new.out in
     let kept = back-length 1 l1 l2 past-write-expression.auto.out ∙ past-put-label.auto.out in (
-      start.requires.0,
+      c.requires.0,
       record { inside = asks.after_inside; label_low = asks.label_low; room = room-behind (1 + past-operand-size.result) _ (back_in 1 l1 l2) asks.room kept (omega (arith, past-operand-size.ensures)) },
     )
 
 pub returns : goal.returns
 returns c =
     let args = c.args in
-    round-end-done args.store args.rows.now (part_at args.rows.now args.action) (part_at args.rows.now args.after) args.label args.base args.out.now c.operand_size-k.ensures c.test_size-end.ensures c.more-then.ensures c.more.ensures c.put_label.ensures c.write_expression.ensures c.write_test.ensures
+    round-end-done args.source.now.store args.source.now.rows.now (part_at args.source.now.rows.now args.action) (part_at args.source.now.rows.now args.after) args.label args.base args.out.now c.operand_size-k.ensures c.test_size-end.ensures c.more-then.ensures c.more.ensures c.put_label.ensures c.write_expression.ensures c.write_test.ensures

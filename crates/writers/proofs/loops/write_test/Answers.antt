@@ -18,51 +18,43 @@ pub returns-then-test-eq0 : goal.returns-then-test-eq0
 unfolding emit_items over
 returns-then-test-eq0 c =
     let args = c.args in
-    sym (ap (λ test. over (emit_items args.follows (test_code (called_in args.rows.now) args.store (part_at args.rows.now test) args.label none) args.base) args.out.now) c.if-test-eq0.true)
+    sym (ap (λ test. over (emit_items args.follows (test_code (called_in args.source.now.rows.now) args.source.now.store (part_at args.source.now.rows.now test) args.label none) args.base) args.out.now) c.if-test-eq0.true)
 
 pub operand_size-n-requires : goal.operand_size-n-requires
 operand_size-n-requires c =
-    let start = c.before.before in
-    (start.requires.0.measured, start.requires.1.inside, omega (arith, test-most (called_in start.args.rows.now) (part_at start.args.rows.now start.args.test), start.requires.1.room.low))
+    (c.requires.0.measured, c.requires.1.inside, omega (arith, test-most (called_in c.args.source.now.rows.now) (part_at c.args.source.now.rows.now c.args.test), c.requires.1.room.low))
 
 pub write_expression-requires : goal.write_expression-requires
 write_expression-requires c =
-    let start = c.before.before.before.before.before in
-    let asks = start.requires.1 in
-    (start.requires.0, record { inside = asks.inside; level_low = omega (arith, part_low start.requires.0 start.args.test asks.inside wanted); use_fits = tt; room = room-less _ asks.room (test-most (called_in start.args.rows.now) (part_at start.args.rows.now start.args.test)) })
+    let asks = c.requires.1 in
+    (c.requires.0, record { inside = asks.inside; level_low = omega (arith, part_low c.requires.0 c.args.test asks.inside wanted); use_fits = tt; room = room-less _ asks.room (test-most (called_in c.args.source.now.rows.now) (part_at c.args.source.now.rows.now c.args.test)) })
 
 pub overflow_add-base : goal.overflow_add-base
 overflow_add-base c =
-    let start = c.before.before.before.before.before.before.before in
-    omega (arith, c.operand_size-n.ensures, test-most (called_in start.args.rows.now) (part_at start.args.rows.now start.args.test), start.requires.1.room.low)
+    omega (arith, c.operand_size-n.ensures, test-most (called_in c.args.source.now.rows.now) (part_at c.args.source.now.rows.now c.args.test), c.requires.1.room.low)
 
 pub overflow_mul-n : goal.overflow_mul-n
 overflow_mul-n c =
-    let start = c.before.before.before.before.before.before.before in
-    omega (arith, c.operand_size-n.ensures, test-most (called_in start.args.rows.now) (part_at start.args.rows.now start.args.test), start.requires.1.room.low)
+    omega (arith, c.operand_size-n.ensures, test-most (called_in c.args.source.now.rows.now) (part_at c.args.source.now.rows.now c.args.test), c.requires.1.room.low)
 
 pub offset_bounds-out-n : goal.offset_bounds-out-n
 offset_bounds-out-n c =
-    let start = c.before.before.before.before.before.before.before in
-    omega (arith, c.operand_size-n.ensures, test-most (called_in start.args.rows.now) (part_at start.args.rows.now start.args.test), start.requires.1.room.low)
+    omega (arith, c.operand_size-n.ensures, test-most (called_in c.args.source.now.rows.now) (part_at c.args.source.now.rows.now c.args.test), c.requires.1.room.low)
 
 pub slice_bounds-put_exit-count : goal.slice_bounds-put_exit-count
 slice_bounds-put_exit-count c =
-    let start = c.before.before.before.before.before.before.before in
-    omega (arith, c.operand_size-n.ensures, test-most (called_in start.args.rows.now) (part_at start.args.rows.now start.args.test), start.requires.1.room.inside, c.write_expression.auto.out)
+    omega (arith, c.operand_size-n.ensures, test-most (called_in c.args.source.now.rows.now) (part_at c.args.source.now.rows.now c.args.test), c.requires.1.room.inside, c.write_expression.auto.out)
 
 pub slice_bounds-put_exit-start : goal.slice_bounds-put_exit-start
 slice_bounds-put_exit-start c =
-    let start = c.before.before.before.before.before.before.before in
-    omega (arith, c.operand_size-n.ensures, test-most (called_in start.args.rows.now) (part_at start.args.rows.now start.args.test), start.requires.1.room.inside, c.write_expression.auto.out)
+    omega (arith, c.operand_size-n.ensures, test-most (called_in c.args.source.now.rows.now) (part_at c.args.source.now.rows.now c.args.test), c.requires.1.room.inside, c.write_expression.auto.out)
 
 pub put_exit-requires : goal.put_exit-requires
 put_exit-requires c =
-    let start = c.before.before.before.before.before.before.before.before in
     let past-operand-size = c.operand_size-n in
     let past-write-expression = c.write_expression in
-    let asks = start.requires.1 in (
-      room-behind past-operand-size.result 5 past-write-expression.new.out asks.room past-write-expression.auto.out (omega (arith, past-operand-size.ensures, test_some start.args.rows.now start.args.test c.if-test-eq0.false)),
+    let asks = c.requires.1 in (
+      room-behind past-operand-size.result 5 past-write-expression.new.out asks.room past-write-expression.auto.out (omega (arith, past-operand-size.ensures, test_some c.args.source.now.rows.now c.args.test c.if-test-eq0.false)),
       omega (arith, asks.label_low),
       c.atom_at-atom.ensures.fits,
     )
@@ -70,4 +62,4 @@ put_exit-requires c =
 pub returns : goal.returns
 returns c =
     let args = c.args in
-    test-done args.store args.follows args.label args.base args.out.now args.test c.if-test-eq0.false c.atom_at-atom.ensures c.operand_size-n.ensures c.write_expression.ensures c.put_exit.ensures
+    test-done args.source.now.store args.follows args.label args.base args.out.now args.test c.if-test-eq0.false c.atom_at-atom.ensures c.operand_size-n.ensures c.write_expression.ensures c.put_exit.ensures

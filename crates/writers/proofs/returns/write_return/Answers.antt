@@ -9,31 +9,23 @@ use Rattle.writers.proofs.returns.write_return.Goals as goal
 
 pub put_return-requires : goal.put_return-requires
 put_return-requires c =
-    let start = c.before.before.before in
-    (room-less 2 start.requires.1.room (omega arith), tt)
+    (room-less 2 c.requires.1.room (omega arith), tt)
 
 pub returns-then-value-eq0 : goal.returns-then-value-eq0
 returns-then-value-eq0 c =
     let args = c.args in
-    returned-nothing args.store args.follows args.base args.out.now args.rows.now c.if-value-eq0.true c.put_return.ensures
-
-pub operand_size-n-requires : goal.operand_size-n-requires
-operand_size-n-requires c =
-    let start = c.before.before in
-    (start.requires.0.measured, start.requires.1.inside, omega (arith, start.requires.1.room.low))
+    returned-nothing args.source.now.store args.follows args.base args.out.now args.source.now.rows.now c.if-value-eq0.true c.put_return.ensures
 
 pub write_expression-requires : goal.write_expression-requires
 write_expression-requires c =
-    let start = c.before.before.before.before.before in
-    let asks = start.requires.1 in
-    (start.requires.0, record { inside = asks.inside; level_low = omega (arith, part_low start.requires.0 start.args.value asks.inside wanted); use_fits = tt; room = room-less _ asks.room (omega arith) })
+    let asks = c.requires.1 in
+    (c.requires.0, record { inside = asks.inside; level_low = omega (arith, part_low c.requires.0 c.args.value asks.inside wanted); use_fits = tt; room = room-less _ asks.room (omega arith) })
 
 pub put_return-requires-2 : goal.put_return-requires-2
 put_return-requires-2 c =
-    let start = c.before.before.before.before.before.before.before.before in
     let past-operand-size = c.operand_size-n in
     let past-write-expression = c.write_expression in
-    let asks = start.requires.1 in (
+    let asks = c.requires.1 in (
       room-behind past-operand-size.result 2 past-write-expression.new.out asks.room past-write-expression.auto.out (omega (arith, past-operand-size.ensures)),
       c.atom_at-atom.ensures.fits,
     )
@@ -41,4 +33,4 @@ put_return-requires-2 c =
 pub returns : goal.returns
 returns c =
     let args = c.args in
-    returned-done args.store args.follows args.base args.out.now args.value c.if-value-eq0.false c.atom_at-atom.ensures c.operand_size-n.ensures c.write_expression.ensures c.put_return-2.ensures
+    returned-done args.source.now.store args.follows args.base args.out.now args.value c.if-value-eq0.false c.atom_at-atom.ensures c.operand_size-n.ensures c.write_expression.ensures c.put_return-2.ensures

@@ -8,26 +8,22 @@ use Rattle.writers.proofs.statements.write_express.Goals as goal
 
 pub operand_size-n-requires : goal.operand_size-n-requires
 operand_size-n-requires c =
-    let start = c.before in
-    let asks = start.requires.1 in
-    (start.requires.0.measured, asks.inside, omega (arith, part-size dropped start.args.rows.now start.args.expression asks.some, asks.room.low))
+    let asks = c.requires.1 in
+    (c.requires.0.measured, asks.inside, omega (arith, part-size dropped c.args.source.now.rows.now c.args.expression asks.some, asks.room.low))
 
 pub returns-then-n-eq0 : goal.returns-then-n-eq0
 returns-then-n-eq0 c =
-    let start = c.before.before.before.before.before.before in
-    let args = start.args in
-    express-nothing args.store args.rows.now args.expression args.base args.follows args.out.now start.requires.1.some c.operand_size-n.ensures c.if-n-eq0.true c.put_empty.ensures
+    let args = c.args in
+    express-nothing args.source.now.store args.source.now.rows.now args.expression args.base args.follows args.out.now c.requires.1.some c.operand_size-n.ensures c.if-n-eq0.true c.put_empty.ensures
 
 pub write_expression-requires : goal.write_expression-requires
 write_expression-requires c =
-    let start = c.before.before.before.before in
-    let asks = start.requires.1 in (
-      start.requires.0,
-      record { inside = asks.inside; level_low = omega (arith, part_low start.requires.0 start.args.expression asks.inside dropped); use_fits = tt; room = room-less _ asks.room (omega (arith, part-size dropped start.args.rows.now start.args.expression asks.some)) },
+    let asks = c.requires.1 in (
+      c.requires.0,
+      record { inside = asks.inside; level_low = omega (arith, part_low c.requires.0 c.args.expression asks.inside dropped); use_fits = tt; room = room-less _ asks.room (omega (arith, part-size dropped c.args.source.now.rows.now c.args.expression asks.some)) },
     )
 
 pub returns : goal.returns
 returns c =
-    let start = c.before.before.before.before.before.before in
-    let args = start.args in
-    express-something args.store args.rows.now args.expression args.base args.follows args.out.now start.requires.1.some c.operand_size-n.ensures c.if-n-eq0.false c.write_expression.ensures
+    let args = c.args in
+    express-something args.source.now.store args.source.now.rows.now args.expression args.base args.follows args.out.now c.requires.1.some c.operand_size-n.ensures c.if-n-eq0.false c.write_expression.ensures

@@ -18,11 +18,10 @@ use Rattle.writers.proofs.switches.put_case.Goals as goal
 pub returns : goal.returns
 unfolding ◌⧺◌ items_rows expression_rows
 returns c =
-    let start = c.before.before.before.before.before.before in
-    let args = start.args in
+    let args = c.args in
     let one = atom-rows args.x in
     let test = c.put_binary.ensures
-    ∙ ap (λ v. over (emit_items true (express (assign (variable (args.store + args.level)) (binary Equal (atom_tree args.x) (constant v))) then none) args.base) args.out.now) (to_z-of_z {w = w32} start.ranges.v) in
+    ∙ ap (λ v. over (emit_items true (express (assign (variable (args.store + args.level)) (binary Equal (atom_tree args.x) (constant v))) then none) args.base) args.out.now) (to_z-of_z {w = w32} c.ranges.v) in
     (wrote-behind {first = true} {follows = true} {n = 6} {k = 5} 11 refl refl refl
     (record { table = test; size = omega (arith, one) })
     (record { table = c.put_jump.ensures; size = refl })).table

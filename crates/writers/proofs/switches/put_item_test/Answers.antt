@@ -22,29 +22,29 @@ pub returns-in-Statement : goal.returns-in-Statement
 unfolding emit_items over
 returns-in-Statement c =
     let args = c.args in
-    sym (ap (λ is. over (emit_items true (item_test args.store (atom_tree args.x) args.level is args.target) args.base) args.out.now) (item_is c.item_at-item.ensures c.in-Statement.is))
+    sym (ap (λ is. over (emit_items true (item_test args.source.now.store (atom_tree args.x) args.level is args.target) args.base) args.out.now) (item_is c.item_at-item.ensures c.in-Statement.is))
 
 pub returns-in-Case : goal.returns-in-Case
 returns-in-Case c =
     let args = c.args in
     c.put_case.ensures
-    ∙ ap (λ v. over (emit_items true (case_test args.store (atom_tree args.x) args.level v args.target) args.base) args.out.now) (to_z-of_z {w = w32} {z = c.in-Case.v} (search rules))
-    ∙ sym (ap (λ is. over (emit_items true (item_test args.store (atom_tree args.x) args.level is args.target) args.base) args.out.now) (item_is c.item_at-item.ensures (c.in-Mark.is ∙ ap Mark c.in-Case.is)))
+    ∙ ap (λ v. over (emit_items true (case_test args.source.now.store (atom_tree args.x) args.level v args.target) args.base) args.out.now) (to_z-of_z {w = w32} {z = c.in-Case.v} (search rules))
+    ∙ sym (ap (λ is. over (emit_items true (item_test args.source.now.store (atom_tree args.x) args.level is args.target) args.base) args.out.now) (item_is c.item_at-item.ensures (c.in-Mark.is ∙ ap Mark c.in-Case.is)))
 
 pub returns-in-Default : goal.returns-in-Default
 unfolding emit_items over
 returns-in-Default c =
     let args = c.args in
-    sym (ap (λ is. over (emit_items true (item_test args.store (atom_tree args.x) args.level is args.target) args.base) args.out.now) (item_is c.item_at-item.ensures (c.in-Mark.is ∙ ap Mark c.in-Default.is)))
+    sym (ap (λ is. over (emit_items true (item_test args.source.now.store (atom_tree args.x) args.level is args.target) args.base) args.out.now) (item_is c.item_at-item.ensures (c.in-Mark.is ∙ ap Mark c.in-Default.is)))
 
 pub returns-in-Label : goal.returns-in-Label
 unfolding emit_items over
 returns-in-Label c =
     let args = c.args in
-    sym (ap (λ is. over (emit_items true (item_test args.store (atom_tree args.x) args.level is args.target) args.base) args.out.now) (item_is c.item_at-item.ensures (c.in-Mark.is ∙ ap Mark c.in-Label.is)))
+    sym (ap (λ is. over (emit_items true (item_test args.source.now.store (atom_tree args.x) args.level is args.target) args.base) args.out.now) (item_is c.item_at-item.ensures (c.in-Mark.is ∙ ap Mark c.in-Label.is)))
 
 pub returns-in-Definition : goal.returns-in-Definition
 unfolding emit_items over
 returns-in-Definition c =
     let args = c.args in
-    sym (ap (λ is. over (emit_items true (item_test args.store (atom_tree args.x) args.level is args.target) args.base) args.out.now) (item_is c.item_at-item.ensures c.in-Definition.is))
+    sym (ap (λ is. over (emit_items true (item_test args.source.now.store (atom_tree args.x) args.level is args.target) args.base) args.out.now) (item_is c.item_at-item.ensures c.in-Definition.is))

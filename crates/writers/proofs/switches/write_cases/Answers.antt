@@ -14,90 +14,57 @@ use Rattle.writers.proofs.switches.write_cases.Goals as goal
 pub loop-item-init : goal.loop-item-init
 loop-item-init c = begin _ _ _ _ _ _ _ _ _ _ c.requires.1.inside
 
-pub overflow_add-base : goal.overflow_add-base
-overflow_add-base c = omega (arith, c.requires.1.room.low, c.loop-item.invariant.size_is)
-
-pub overflow_mul-n : goal.overflow_mul-n
-overflow_mul-n c = omega (arith, c.requires.1.room.low, c.loop-item.invariant.size_is)
-
-pub offset_bounds-out-n : goal.offset_bounds-out-n
-offset_bounds-out-n c = omega (arith, c.requires.1.room.low, c.loop-item.invariant.size_is)
-
-pub slice_bounds-put_item_test-count : goal.slice_bounds-put_item_test-count
-slice_bounds-put_item_test-count c =
-    let past-loop = c.loop-item in
-    omega (arith, c.requires.1.room.inside, past-loop.invariant.size_is, past-loop.invariant.kept)
-
-pub slice_bounds-put_item_test-start : goal.slice_bounds-put_item_test-start
-slice_bounds-put_item_test-start c =
-    let past-loop = c.loop-item in
-    omega (arith, c.requires.1.room.inside, past-loop.invariant.size_is, past-loop.invariant.kept)
-
 pub put_item_test-requires : goal.put_item_test-requires
 put_item_test-requires c =
-    let start = c.before.before.before.before in
     let past-loop = c.loop-item in
-    let asks = start.requires in
+    let asks = c.requires in
     let p = past-loop.invariant in
     let first = first_of _ _ asks.0.source p.inside in
-    let same = some-list start.args.rows.now past-loop.item (omega arith) in
+    let same = some-list c.args.source.now.rows.now past-loop.item (omega arith) in
     record {
       source = asks.0.source;
       inside = p.inside;
       atom_fits = asks.1.atom_fits;
       number_low = asks.1.number_low;
       target_low = omega (arith, p.labels_are, asks.1.labels_low);
-      room = room-item start.args.rows.now start.args.list past-loop.item past-loop.n (λ is. 11 * cases is) past-loop.out asks.1.room p.kept p.size_is (omega (arith, first-cases first, ap cases same));
+      room = room-item c.args.source.now.rows.now c.args.list past-loop.item past-loop.n (λ is. 11 * cases is) past-loop.out asks.1.room p.kept p.size_is (omega (arith, first-cases first, ap cases same));
     }
-
-pub case_size-n-requires : goal.case_size-n-requires
-case_size-n-requires c = (c.requires.0.source, c.loop-item.invariant.inside)
 
 pub overflow_add-n : goal.overflow_add-n
 overflow_add-n c =
     let past-loop = c.loop-item in
-    let start = c.before.before.before.before.before.before.before in
     let p = past-loop.invariant in
-    let first = first_of _ _ start.requires.0.source p.inside in
-    let same = some-list start.args.rows.now past-loop.item (omega arith) in
-    omega (arith, c.case_size-n.ensures, p.size_is, start.requires.1.room.low, first-cases first, ap cases same)
+    let first = first_of _ _ c.requires.0.source p.inside in
+    let same = some-list c.args.source.now.rows.now past-loop.item (omega arith) in
+    omega (arith, c.case_size-n.ensures, p.size_is, c.requires.1.room.low, first-cases first, ap cases same)
 
 pub item_labels-target-requires : goal.item_labels-target-requires
 item_labels-target-requires c =
     let past-loop = c.loop-item in
-    let start = c.before.before.before.before.before.before.before in
     let p = past-loop.invariant in
-    let first = first_of _ _ start.requires.0.source p.inside in
-    let same = some-list start.args.rows.now past-loop.item (omega arith) in
-    (start.requires.0, p.inside, omega (arith, p.labels_are, start.requires.1.labels_low, first-labels first, ap items_labels same))
+    let first = first_of _ _ c.requires.0.source p.inside in
+    let same = some-list c.args.source.now.rows.now past-loop.item (omega arith) in
+    (c.requires.0, p.inside, omega (arith, p.labels_are, c.requires.1.labels_low, first-labels first, ap items_labels same))
 
 pub overflow_add-target : goal.overflow_add-target
 overflow_add-target c =
     let past-loop = c.loop-item in
-    let start = c.before.before.before.before.before.before.before.before in
     let p = past-loop.invariant in
-    let first = first_of _ _ start.requires.0.source p.inside in
-    let same = some-list start.args.rows.now past-loop.item (omega arith) in
-    omega (arith, c.item_labels-target.ensures, p.labels_are, start.requires.1.labels_low, first-labels first, ap items_labels same)
-
-pub number_at-item-requires : goal.number_at-item-requires
-number_at-item-requires c = omega (arith, c.loop-item.invariant.inside)
+    let first = first_of _ _ c.requires.0.source p.inside in
+    let same = some-list c.args.source.now.rows.now past-loop.item (omega arith) in
+    omega (arith, c.item_labels-target.ensures, p.labels_are, c.requires.1.labels_low, first-labels first, ap items_labels same)
 
 pub loop-item-smaller : goal.loop-item-smaller
 loop-item-smaller c = next-less _ _ _ c.requires.0.source c.loop-item.invariant.inside c.loop-item-test.true c.number_at-item.ensures
 
 pub loop-item-preserved : goal.loop-item-preserved
 loop-item-preserved c =
-    let start = c.before.before.before.before.before.before.before.before.before in
     let past-put-item-test = c.put_item_test in
-    tests-step _ _ _ _ _ _ start.requires.0.source c.loop-item-test.true _ _ (atom-rows start.args.x) c.loop-item.invariant _ _ _ _ c.number_at-item.ensures c.item_labels-target.ensures c.case_size-n.ensures past-put-item-test.ensures past-put-item-test.auto.out
-
-pub shape_of-out : goal.shape_of-out
-shape_of-out c = c.loop-item.invariant.kept
+    tests-step _ _ _ _ _ _ c.requires.0.source c.loop-item-test.true _ _ (atom-rows c.args.x) c.loop-item.invariant _ _ _ _ c.number_at-item.ensures c.item_labels-target.ensures c.case_size-n.ensures past-put-item-test.ensures past-put-item-test.auto.out
 
 pub returns : goal.returns
 unfolding case_tests
 returns c =
     let past-loop = c.loop-item in
     let args = c.args in
-    finish _ _ _ _ _ _ _ _ _ _ past-loop.invariant (ap (λ (is : Items). case_tests args.store (atom_tree args.x) args.level is past-loop.target) (none-at args.rows.now past-loop.item c.loop-item-test.false))
+    finish _ _ _ _ _ _ _ _ _ _ past-loop.invariant (ap (λ (is : Items). case_tests args.source.now.store (atom_tree args.x) args.level is past-loop.target) (none-at args.source.now.rows.now past-loop.item c.loop-item-test.false))

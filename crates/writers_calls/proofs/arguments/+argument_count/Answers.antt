@@ -15,31 +15,28 @@ returns-then-argument-eq0 t c =
 
 pub argument_count-requires : goal.argument_count-requires
 argument_count-requires t c =
-    let start = c.before.before.before.before in
-    let args = start.args in
+    let args = c.args in
     let rows = args.rows.now in
     let some : 0 < args.argument = omega (arith, c.if-argument-eq0.false) in
-    let at = passing args.argument some (argued c.argument_at-shape.ensures c.in-Argument.is) in
-    let inside = start.requires.1 in
+    let at = passing args.argument some (argued c.argument_at-shape.ensures c.in-Some.is) in
+    let inside = c.requires.1 in
     let next = c.number_at-next.ensures in (
-      omega (arith, start.decreases, next, ap (rank rows) next, rank_falls rows args.argument _ some inside (λ h. (at.behind h).later)),
-      (start.requires.0, omega (arith, next, link-inside _ inside at.behind)),
+      omega (arith, c.decreases, next, ap (rank rows) next, rank_falls rows args.argument _ some inside (λ h. (at.behind h).later)),
+      (c.requires.0, omega (arith, next, link-inside _ inside at.behind)),
     )
 
 pub overflow_add-result : goal.overflow_add-result
 overflow_add-result t c =
-    let start = c.before.before.before.before.before in
-    omega (arith, c.argument_count.ensures.low, rank_most start.args.rows.now c.number_at-next.result, start.requires.0.few_rows)
+    omega (arith, c.argument_count.ensures.low, rank_most c.args.rows.now c.number_at-next.result, c.requires.0.few_rows)
 
-pub returns-in-Argument : goal.returns-in-Argument
-returns-in-Argument t c =
-    let start = c.before.before.before.before.before in
-    let args = start.args in
-    let some : 0 < args.argument = omega (arith, c.if-argument-eq0.false) in
-    let at = passing args.argument some (argued c.argument_at-shape.ensures c.in-Argument.is) in
-    count-more args.rows.now args.argument at start.requires.1 c.number_at-next.ensures c.argument_count.ensures
-
-pub returns-in-NoArgument : goal.returns-in-NoArgument
-returns-in-NoArgument t c =
+pub returns-in-Some : goal.returns-in-Some
+returns-in-Some t c =
     let args = c.args in
-    count_none args.rows.now args.argument (passes_none args.argument (argued c.argument_at-shape.ensures c.in-NoArgument.is))
+    let some : 0 < args.argument = omega (arith, c.if-argument-eq0.false) in
+    let at = passing args.argument some (argued c.argument_at-shape.ensures c.in-Some.is) in
+    count-more args.rows.now args.argument at c.requires.1 c.number_at-next.ensures c.argument_count.ensures
+
+pub returns-in-None : goal.returns-in-None
+returns-in-None t c =
+    let args = c.args in
+    count_none args.rows.now args.argument (passes_none args.argument (argued c.argument_at-shape.ensures c.in-None.is))

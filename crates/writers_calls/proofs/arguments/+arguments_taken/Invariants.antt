@@ -3,4 +3,4 @@ use Rattle.writers_calls.specs.Ranks.{rank}
 use Rattle.writers_calls.proofs.arguments.+arguments_taken.Given as goal
 
 abbrev pub decreases-arguments_taken : goal.decreases-arguments_taken
-decreases-arguments_taken l = rank l.rows.now l.argument
+decreases-arguments_taken l = rank l.source.now.rows.now l.argument

@@ -6,14 +6,12 @@ use Rattle.language_shapes.specs.ShapeLaws.{argued}
 use Rattle.writers_calls.specs.ArgumentLaws.{passing, passes_none, argument-some}
 use Rattle.writers_calls.proofs.arguments.argument_value.Goals as goal
 
-pub returns-in-Argument : goal.returns-in-Argument
-returns-in-Argument c =
-    let start = c.before.before in
-    let argument = start.args.argument in
-    passing argument (argument-some start.args.rows.now argument start.requires.2) (argued c.argument_at-shape.ensures c.in-Argument.is)
+pub returns-in-Some : goal.returns-in-Some
+returns-in-Some c =
+    let argument = c.args.argument in
+    passing argument (argument-some c.args.rows.now argument c.requires.2) (argued c.argument_at-shape.ensures c.in-Some.is)
 
-pub returns-in-NoArgument : goal.returns-in-NoArgument
+pub returns-in-None : goal.returns-in-None
 unfolding argument_count
-returns-in-NoArgument c =
-    let start = c.before.before in
-    absurd (omega (arith, start.requires.2, ap argument_count (passes_none start.args.argument (argued c.argument_at-shape.ensures c.in-NoArgument.is))))
+returns-in-None c =
+    absurd (omega (arith, c.requires.2, ap argument_count (passes_none c.args.argument (argued c.argument_at-shape.ensures c.in-None.is))))

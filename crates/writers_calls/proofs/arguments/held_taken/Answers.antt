@@ -10,7 +10,7 @@ use Rattle.writers_calls.proofs.arguments.held_taken.Goals as goal
 pub returns-then-copied-eq1 : goal.returns-then-copied-eq1
 returns-then-copied-eq1 c =
     let args = c.args in
-    copy-taken args.copied (atom_of (called_in args.rows.now) (expression_at args.rows.now args.row)) (omega arith)
+    copy-taken args.copied (atom_of (called_in args.source.now.rows.now) (expression_at args.source.now.rows.now args.row)) (omega arith)
 
 pub taken_at-requires : goal.taken_at-requires
 taken_at-requires c = whole-asks c.requires.0 c.requires.1
@@ -18,4 +18,4 @@ taken_at-requires c = whole-asks c.requires.0 c.requires.1
 pub returns : goal.returns
 returns c =
     let args = c.args in
-    own-taken args.copied (atom_of (called_in args.rows.now) (expression_at args.rows.now args.row)) (λ e. omega arith) c.taken_at.ensures
+    own-taken args.copied (atom_of (called_in args.source.now.rows.now) (expression_at args.source.now.rows.now args.row)) (λ e. omega arith) c.taken_at.ensures

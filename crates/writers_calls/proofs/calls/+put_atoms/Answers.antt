@@ -19,57 +19,44 @@ use Rattle.writers_calls.proofs.calls.+put_atoms.Goals.{After-arguments_taken, A
 
 pub returns-then-size-eq0 : goal.returns-then-size-eq0
 returns-then-size-eq0 t c =
-    let start = c.before.before in
-    let args = start.args in
-    let none : argument_count (argument_list_at args.rows.now args.argument) ≡ 0 = omega (arith, start.requires.1.size_is, c.if-size-eq0.true) in
-    atoms-none (called_in args.rows.now) args.store (argument_list_at args.rows.now args.argument) args.copies args.level args.base args.out.now none
-
-pub argument_value-e-requires : goal.argument_value-e-requires
-argument_value-e-requires t c =
-    let start = c.before.before in
-    let asks = start.requires.1 in
-    (start.requires.0.measured.source, asks.inside, omega (arith, asks.size_is, c.if-size-eq0.false))
+    let args = c.args in
+    let none : argument_count (argument_list_at args.source.now.rows.now args.argument) ≡ 0 = omega (arith, c.requires.1.size_is, c.if-size-eq0.true) in
+    atoms-none (called_in args.source.now.rows.now) args.source.now.store (argument_list_at args.source.now.rows.now args.argument) args.copies args.level args.base args.out.now none
 
 pub arguments_taken-requires : goal.arguments_taken-requires
 arguments_taken-requires t c =
-    let start = c.before.before.before.before in
-    let asks = start.requires.1 in
-    (start.requires.0.measured, omega (arith, c.number_at-next.ensures, link-inside _ asks.inside c.argument_value-e.ensures.behind))
+    let asks = c.requires.1 in
+    (c.requires.0.measured, omega (arith, c.number_at-next.ensures, link-inside _ asks.inside c.argument_value-e.ensures.behind))
 
 -- what is worked out above the arguments behind is low
 above_low : (t : ℕ) (c : After-arguments_taken t) → c.args.level + c.arguments_taken.result ≤ 4096
 above_low t c =
-    let start = c.before.before.before.before.before in
-    let args = start.args in
-    let rows = args.rows.now in
+    let args = c.args in
+    let rows = args.source.now.rows.now in
     let next = ap (λ (n : ℕ). taken_by (called_in rows) (argument_list_at rows n) (args.copies / 2)) c.number_at-next.ensures in
-    omega (arith, start.requires.1.level_low, c.arguments_taken.ensures.is, next, passing-taken args.copies c.argument_value-e.ensures)
+    omega (arith, c.requires.1.level_low, c.arguments_taken.ensures.is, next, passing-taken args.copies c.argument_value-e.ensures)
 
 pub overflow_add-above : goal.overflow_add-above
 overflow_add-above t c = omega (arith, above_low t c)
 
 pub held_atom-atom-requires : goal.held_atom-atom-requires
 held_atom-atom-requires t c =
-    let start = c.before.before.before.before.before in
-    (start.requires.0, c.argument_value-e.ensures.onward.inside, above_low t c)
+    (c.requires.0, c.argument_value-e.ensures.onward.inside, above_low t c)
 
 pub overflow_sub-rest : goal.overflow_sub-rest
 overflow_sub-rest t c =
-    let start = c.before.before.before.before.before.before in
-    omega (arith, start.requires.1.size_is, passing-count c.argument_value-e.ensures)
+    omega (arith, c.requires.1.size_is, passing-count c.argument_value-e.ensures)
 
 pub put_argument-requires : goal.put_argument-requires
 put_argument-requires t c =
-    let start = c.before.before.before.before.before.before.before.before in
-    let asks = start.requires.1 in
+    let asks = c.requires.1 in
     (room-less 2 asks.room (omega (arith, asks.size_is, passing-count c.argument_value-e.ensures)), c.held_atom-atom.ensures.fits)
 
 -- The first argument is written.
-two-rows : (t : ℕ) (c : After-out-1 t) → 2 + 2 * argument_count (argument_list_at c.args.rows.now c.number_at-next.result) ≡ c.args.size
+two-rows : (t : ℕ) (c : After-out-1 t) → 2 + 2 * argument_count (argument_list_at c.args.source.now.rows.now c.number_at-next.result) ≡ c.args.size
 two-rows t c =
-    let start = c.before.before.before.before.before.before.before.before.before.before in
-    let rows = start.args.rows.now in
-    omega (arith, start.requires.1.size_is, passing-count c.argument_value-e.ensures, ap (λ (n : ℕ). argument_count (argument_list_at rows n)) c.number_at-next.ensures)
+    let rows = c.args.source.now.rows.now in
+    omega (arith, c.requires.1.size_is, passing-count c.argument_value-e.ensures, ap (λ (n : ℕ). argument_count (argument_list_at rows n)) c.number_at-next.ensures)
 
 written : (t : ℕ) (c : After-out-1 t) →
     let args = c.args in
@@ -81,8 +68,7 @@ written t c =
 
 reach : (t : ℕ) (c : After-out-1 t) → Reach 2 c.args.base c.put_argument.new.out
 reach t c =
-    let start = c.before.before.before.before.before.before.before.before.before.before in
-    put-reach 0 (written t c) start.requires.1.room (omega (arith, two-rows t c))
+    put-reach 0 (written t c) c.requires.1.room (omega (arith, two-rows t c))
 
 pub overflow_add-base : goal.overflow_add-base
 overflow_add-base t c = omega (arith, reach t c)
@@ -98,17 +84,15 @@ slice_bounds-put_atoms-end t c = omega (arith, reach t c)
 
 pub put_atoms-requires : goal.put_atoms-requires
 put_atoms-requires t c =
-    let headed = c.before in
-    let start = headed.before.before.before.before.before.before.before.before.before.before in
-    let args = start.args in
-    let rows = args.rows.now in
-    let asks = start.requires.1 in
-    let at = headed.argument_value-e.ensures in
-    let next = headed.number_at-next.ensures in
+    let args = c.args in
+    let rows = args.source.now.rows.now in
+    let asks = c.requires.1 in
+    let at = c.argument_value-e.ensures in
+    let next = c.number_at-next.ensures in
     let others = ap (λ (n : ℕ). taken_by (called_in rows) (argument_list_at rows n) (args.copies / 2)) next in (
-      omega (arith, start.decreases, ap (rank rows) next, rank_falls rows args.argument _ at.some asks.inside (λ h. (at.behind h).later)),
+      omega (arith, c.decreases, ap (rank rows) next, rank_falls rows args.argument _ at.some asks.inside (λ h. (at.behind h).later)),
       (
-        start.requires.0,
+        c.requires.0,
         record {
           inside = omega (arith, next, link-inside _ asks.inside at.behind);
           size_is = omega (arith, two-rows t (goal.at.put_atoms-requires t c).After-out-1);
@@ -120,11 +104,8 @@ put_atoms-requires t c =
 
 pub returns : goal.returns
 returns t c =
-    let headed = c.before.before.before in
-    let start = headed.before.before.before.before.before.before.before.before.before.before in
-    let args = start.args in
-    let taken = headed.before.before.before.before.before in
-    let next = taken.number_at-next.ensures in
-    let rest : args.size - 2 ≡ 2 * argument_count (argument_list_at args.rows.now taken.number_at-next.result) = omega (arith, two-rows t (goal.at.returns t c).After-out-1) in
-    atoms-done args.store args.rows.now args.argument args.copies args.level args.base args.out.now taken.argument_value-e.ensures next rest
-    (ap (λ (n : ℕ). args.level + n) taken.arguments_taken.ensures.is) headed.held_atom-atom.ensures headed.more.ensures headed.put_argument.ensures c.put_atoms.ensures
+    let args = c.args in
+    let next = c.number_at-next.ensures in
+    let rest : args.size - 2 ≡ 2 * argument_count (argument_list_at args.source.now.rows.now c.number_at-next.result) = omega (arith, two-rows t (goal.at.returns t c).After-out-1) in
+    atoms-done args.source.now.store args.source.now.rows.now args.argument args.copies args.level args.base args.out.now c.argument_value-e.ensures next rest
+    (ap (λ (n : ℕ). args.level + n) c.arguments_taken.ensures.is) c.held_atom-atom.ensures c.more.ensures c.put_argument.ensures c.put_atoms.ensures

@@ -11,9 +11,8 @@ put_row-requires c = let low = pick-most c.args.follows (c.args.base + 2) in sea
 
 pub returns : goal.returns
 returns c =
-    let start = c.before.before.before.before.before.before.before in
     let own_row = rows-put 1 _ _ _ c.put_row.ensures refl in
-    let value = atom-put _ _ start.args.value c.put_atom.ensures in
-    let words = atom-words start.args.value (start.args.base + 1) in
+    let value = atom-put _ _ c.args.value c.put_atom.ensures in
+    let words = atom-words c.args.value (c.args.base + 1) in
     let next = c.behind.ensures in
     reworded _ (put_next own_row value) (rw (words, next))

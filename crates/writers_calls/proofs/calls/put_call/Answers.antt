@@ -12,14 +12,12 @@ use Rattle.writers_calls.proofs.calls.put_call.Goals as goal
 
 pub put_row-requires : goal.put_row-requires
 put_row-requires c =
-    let start = c.before.before.before.before.before.before.before in
-    let low = pick-most c.more.result (start.args.base + 4) in
+    let low = pick-most c.more.result (c.args.at.base + 4) in
     search rules
 
 pub returns : goal.returns
 returns c =
-    let start = c.before.before.before.before.before.before.before.before.before.before.before.before in
-    let args = start.args in
-    let link = c.behind.ensures ∙ ap (λ (b : Bool). pick b (args.base + 4) 0) c.more.ensures in
-    call-done (called_in args.rows.now) args.store (argument_list_at args.rows.now args.first) args.copies args.level args.number args.function args.base args.follows args.out.now start.requires.1.size_is refl link
+    let args = c.args in
+    let link = c.behind.ensures ∙ ap (λ (b : Bool). pick b (args.at.base + 4) 0) c.more.ensures in
+    call-done (called_in args.source.now.rows.now) args.source.now.store (argument_list_at args.source.now.rows.now args.called.first) args.copies args.at.level args.number args.called.function args.at.base args.at.follows args.out.now c.requires.1.size_is refl link
     c.put_target.ensures c.put_row.ensures c.put_atoms.ensures

@@ -10,7 +10,7 @@ use Rattle.writers_expressions.proofs.branches.choice_at.Goals.{Start}
 
 at-start : (c : Start) →
     let args = c.args in
-    RowAsked args.store args.rows.now args.table.now args.row args.level
+    RowAsked args.source.now.store args.source.now.rows.now args.source.now.table.now args.row args.level
 at-start c = record { writing = c.requires.0; inside = c.requires.1; level_low = c.requires.2 }
 
 pub atom_at-test-requires : goal.atom_at-test-requires

@@ -11,7 +11,7 @@ pub taken_at-requires : goal.taken_at-requires
 taken_at-requires c = whole-asks c.requires.0 c.requires.1
 
 pub returns-then-taken_at-eq1 : goal.returns-then-taken_at-eq1
-returns-then-taken_at-eq1 c = end_stays (atom_of (called_in c.args.rows.now) (expression_at c.args.rows.now c.args.row)) c.taken_at.ensures (omega arith)
+returns-then-taken_at-eq1 c = end_stays (atom_of (called_in c.args.source.now.rows.now) (expression_at c.args.source.now.rows.now c.args.row)) c.taken_at.ensures (omega arith)
 
 pub returns : goal.returns
-returns c = end_copy (atom_of (called_in c.args.rows.now) (expression_at c.args.rows.now c.args.row)) c.taken_at.ensures (λ e. omega arith)
+returns c = end_copy (atom_of (called_in c.args.source.now.rows.now) (expression_at c.args.source.now.rows.now c.args.row)) c.taken_at.ensures (λ e. omega arith)

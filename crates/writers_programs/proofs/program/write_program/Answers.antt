@@ -15,14 +15,12 @@ use Rattle.writers_programs.proofs.program.write_program.Goals as goal
 
 pub put_block-requires : goal.put_block-requires
 put_block-requires c =
-    let start = c.before.before.before.before.before in
-    (omega (arith, start.requires.room.inside), omega (arith, c.behind.ensures, pick-most c.more.result 1), omega arith)
+    (omega (arith, c.requires.room.inside), omega (arith, c.behind.ensures, pick-most c.more.result 1), omega arith)
 
 pub write_front-requires : goal.write_front-requires
 write_front-requires c =
-    let start = c.before.before.before.before.before.before.before.before in
-    let asks = start.requires in
-    let rows = start.args.rows.now in
+    let asks = c.requires in
+    let rows = c.args.rows.now in
     let past-number-at = c.number_at-list in
     let same = contents-at rows past-number-at.ensures in
     let source = asks.writing.measured.source in
@@ -44,7 +42,6 @@ write_front-requires c =
 
 pub returns : goal.returns
 returns c =
-    let start = c.before.before.before.before.before.before.before.before.before.before in
-    let args = start.args in
+    let args = c.args in
     let link = c.behind.ensures ∙ ap (λ (b : Bool). pick b 1 0) c.more.ensures in
-    program-done args.store args.rows.now args.out.now c.number_at-list.ensures start.requires.size_is link c.put_block.ensures c.write_front.ensures
+    program-done args.store args.rows.now args.out.now c.number_at-list.ensures c.requires.size_is link c.put_block.ensures c.write_front.ensures

@@ -13,9 +13,8 @@ put_operand-requires c = let low = operator-most c.args.operator in search rules
 
 pub returns : goal.returns
 returns c =
-    let start = c.before.before.before.before.before.before.before in
-    let base = start.args.base in
+    let base = c.args.base in
     let operator = c.operator_number-kind in
-    let left = operand-put _ _ start.args.number (6 + operator.result) (base + 4) (base + 5) 6 base start.args.follows start.args.left c.put_operand.ensures in
-    let right = atom-put _ _ start.args.right c.put_atom.ensures in
-    reworded _ (put_next left right) (binary-words base start.args.follows start.args.number start.args.operator start.args.left start.args.right operator.ensures)
+    let left = operand-put _ _ c.args.number (6 + operator.result) (base + 4) (base + 5) 6 base c.args.follows c.args.left c.put_operand.ensures in
+    let right = atom-put _ _ c.args.right c.put_atom.ensures in
+    reworded _ (put_next left right) (binary-words base c.args.follows c.args.number c.args.operator c.args.left c.args.right operator.ensures)

@@ -6,7 +6,6 @@ use Rattle.writers_rows.proofs.assignments.put_copy.Goals as goal
 
 pub returns : goal.returns
 returns c =
-    let start = c.before.before.before.before.before.before in
     let head = rows-put 3 _ _ _ c.put_target.ensures refl in
-    let source = atom-put _ _ start.args.source c.put_atom.ensures in
-    reworded _ (put_next head source) (copy-words start.args.base start.args.follows start.args.number start.args.source)
+    let source = atom-put _ _ c.args.source c.put_atom.ensures in
+    reworded _ (put_next head source) (copy-words c.args.base c.args.follows c.args.number c.args.source)

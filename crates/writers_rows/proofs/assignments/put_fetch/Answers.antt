@@ -4,5 +4,4 @@ use Rattle.writers_rows.proofs.assignments.put_fetch.Goals as goal
 
 pub returns : goal.returns
 returns c =
-    let start = c.before.before.before in
-    worded _ _ _ _ c.put_operand.ensures (fetch-words start.args.base start.args.follows start.args.number start.args.array start.args.index)
+    worded _ _ _ _ c.put_operand.ensures (fetch-words c.args.base c.args.follows c.args.number c.args.array c.args.index)

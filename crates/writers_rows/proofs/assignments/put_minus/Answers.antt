@@ -4,5 +4,4 @@ use Rattle.writers_rows.proofs.assignments.put_minus.Goals as goal
 
 pub returns : goal.returns
 returns c =
-    let start = c.before.before.before in
-    worded _ _ _ _ c.put_operand.ensures (minus-words start.args.base start.args.follows start.args.number start.args.operand)
+    worded _ _ _ _ c.put_operand.ensures (minus-words c.args.base c.args.follows c.args.number c.args.operand)

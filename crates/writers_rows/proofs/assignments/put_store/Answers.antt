@@ -6,8 +6,7 @@ use Rattle.writers_rows.proofs.assignments.put_store.Goals as goal
 
 pub returns : goal.returns
 returns c =
-    let start = c.before.before.before.before.before.before.before.before.before in
     let head = rows-put 3 _ _ _ c.put_target.ensures refl in
-    let index = atom-put _ _ start.args.index c.put_atom.ensures in
-    let value = atom-put _ _ start.args.value c.put_atom-2.ensures in
-    reworded _ (put_next (put_next head index) value) (store-words start.args.base start.args.follows start.args.array start.args.index start.args.value)
+    let index = atom-put _ _ c.args.index c.put_atom.ensures in
+    let value = atom-put _ _ c.args.value c.put_atom-2.ensures in
+    reworded _ (put_next (put_next head index) value) (store-words c.args.base c.args.follows c.args.array c.args.index c.args.value)

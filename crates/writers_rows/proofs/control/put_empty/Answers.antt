@@ -4,5 +4,4 @@ use Rattle.writers_rows.proofs.control.put_empty.Goals as goal
 
 pub returns : goal.returns
 returns c =
-    let start = c.before.before.before in
-    worded _ _ _ _ c.put_item.ensures (empty-words start.args.base start.args.follows)
+    worded _ _ _ _ c.put_item.ensures (empty-words c.args.base c.args.follows)

@@ -11,8 +11,7 @@ put_if-requires c = let low = pick-most c.args.follows (c.args.base + 5) in sear
 
 pub returns : goal.returns
 returns c =
-    let start = c.before.before.before.before.before.before.before.before.before.before in
-    let test = if-put _ _ _ _ _ start.args.test c.put_if.ensures in
+    let test = if-put _ _ _ _ _ c.args.test c.put_if.ensures in
     let on-true = rows-put 1 _ _ _ c.put_block.ensures refl in
     let on-false = rows-put 2 _ _ _ c.put_goto_block.ensures refl in
-    reworded _ (put_next (put_next test on-true) on-false) (exit-words start.args.base start.args.follows start.args.number start.args.test c.behind.ensures)
+    reworded _ (put_next (put_next test on-true) on-false) (exit-words c.args.base c.args.follows c.args.number c.args.test c.behind.ensures)

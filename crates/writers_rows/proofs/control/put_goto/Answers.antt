@@ -4,5 +4,4 @@ use Rattle.writers_rows.proofs.control.put_goto.Goals as goal
 
 pub returns : goal.returns
 returns c =
-    let start = c.before.before.before in
-    worded _ _ _ _ c.put_item.ensures (goto-words start.args.base start.args.follows start.args.number)
+    worded _ _ _ _ c.put_item.ensures (goto-words c.args.base c.args.follows c.args.number)

@@ -7,8 +7,7 @@ use Rattle.writers_rows.proofs.control.put_if.Goals as goal
 
 pub returns : goal.returns
 returns c =
-    let start = c.before.before.before.before.before.before in
     let own_row = rows-put 1 _ _ _ c.put_row.ensures refl in
-    let test = atom-put _ _ start.args.test c.put_atom.ensures in
-    let words = atom-words start.args.test (start.args.base + 1) in
+    let test = atom-put _ _ c.args.test c.put_atom.ensures in
+    let words = atom-words c.args.test (c.args.base + 1) in
     reworded _ (put_next own_row test) (rw words)

@@ -7,8 +7,7 @@ use Rattle.writers_rows.proofs.control.put_jump.Goals as goal
 
 pub returns : goal.returns
 returns c =
-    let start = c.before.before.before.before.before.before.before.before.before in
-    let test = if-put _ _ _ _ _ (Variable start.args.number) c.put_if.ensures in
+    let test = if-put _ _ _ _ _ (Variable c.args.number) c.put_if.ensures in
     let on-true = rows-put 2 _ _ _ c.put_goto_block.ensures refl in
     let on-false = rows-put 1 _ _ _ c.put_block.ensures refl in
-    reworded _ (put_next (put_next test on-true) on-false) (jump-words start.args.number start.args.target start.args.base)
+    reworded _ (put_next (put_next test on-true) on-false) (jump-words c.args.number c.args.target c.args.base)

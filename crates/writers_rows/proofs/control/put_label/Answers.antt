@@ -4,5 +4,4 @@ use Rattle.writers_rows.proofs.control.put_label.Goals as goal
 
 pub returns : goal.returns
 returns c =
-    let start = c.before.before.before in
-    worded _ _ _ _ c.put_item.ensures (label-words start.args.base start.args.follows start.args.number)
+    worded _ _ _ _ c.put_item.ensures (label-words c.args.base c.args.follows c.args.number)

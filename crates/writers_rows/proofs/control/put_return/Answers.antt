@@ -11,7 +11,6 @@ put_row-requires c = let low = pick-most c.args.follows (c.args.base + 2) in sea
 
 pub returns : goal.returns
 returns c =
-    let start = c.before.before.before.before.before.before.before in
     let own_row = rows-put 1 _ _ _ c.put_row.ensures refl in
-    let value = atom-put _ _ start.args.value c.put_atom.ensures in
-    reworded _ (put_next own_row value) (return-words start.args.base start.args.follows start.args.value c.behind.ensures)
+    let value = atom-put _ _ c.args.value c.put_atom.ensures in
+    reworded _ (put_next own_row value) (return-words c.args.base c.args.follows c.args.value c.behind.ensures)

@@ -6,5 +6,4 @@ use Rattle.writers_rows.proofs.guarded.put_arm_head.Goals as goal
 
 pub returns : goal.returns
 returns c =
-    let start = c.before.before.before.before.before.before in
-    (put_next (if-put _ _ _ _ _ start.args.guard c.put_if.ensures) (rows-put 1 _ _ _ c.put_block.ensures refl)).table
+    (put_next (if-put _ _ _ _ _ c.args.guard c.put_if.ensures) (rows-put 1 _ _ _ c.put_block.ensures refl)).table

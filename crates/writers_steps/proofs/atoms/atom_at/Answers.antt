@@ -11,9 +11,6 @@ use Rattle.writers_steps.proofs.atoms.atom_at.Goals as goal
 pub holder_at-holder-requires : goal.holder_at-holder-requires
 holder_at-holder-requires c = whole-asks c.requires.0.measured c.requires.1
 
-pub overflow_add-result : goal.overflow_add-result
-overflow_add-result c = omega (arith, c.requires.0.small_store, c.requires.2)
-
 pub returns-in-Number : goal.returns-in-Number
 returns-in-Number c = atom-number (held-as c.holder_at-holder.ensures c.in-Number.is) (to_z-of_z {w = w32} (search rules))
 

@@ -10,5 +10,4 @@ measure_at-requires c = whole-slot c.requires.0 _ c.requires.1 _ c.rows_for.ensu
 
 pub returns : goal.returns
 returns c =
-    let start = c.before.before.before in
-    c.measure_at.ensures.is ∙ ap (slot_at _ start.args.row) c.rows_for.ensures.is ∙ whole_part start.requires.0 start.args.usage _ start.requires.1 ∙ limited-small _ (omega (arith, start.requires.2))
+    c.measure_at.ensures.is ∙ ap (slot_at _ c.args.row) c.rows_for.ensures.is ∙ whole_part c.requires.0 c.args.usage _ c.requires.1 ∙ limited-small _ (omega (arith, c.requires.2))

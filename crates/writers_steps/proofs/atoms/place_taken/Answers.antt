@@ -11,8 +11,8 @@ taken_at-requires c = whole-asks c.requires.0 (placed c.place_at-place.ensures c
 
 pub returns-in-Variable : goal.returns-in-Variable
 unfolding place_taken
-returns-in-Variable c = sym (ap (place_taken (called_in c.args.rows.now)) (placed c.place_at-place.ensures c.in-Variable.is).is)
+returns-in-Variable c = sym (ap (place_taken (called_in c.args.source.now.rows.now)) (placed c.place_at-place.ensures c.in-Variable.is).is)
 
 pub returns-in-Element : goal.returns-in-Element
 unfolding place_taken
-returns-in-Element c = c.taken_at.ensures ∙ sym (ap (place_taken (called_in c.args.rows.now)) (placed c.place_at-place.ensures c.in-Element.is).is)
+returns-in-Element c = c.taken_at.ensures ∙ sym (ap (place_taken (called_in c.args.source.now.rows.now)) (placed c.place_at-place.ensures c.in-Element.is).is)

@@ -8,16 +8,14 @@ use Rattle.writers_steps.proofs.straight.put_element_update.Goals as goal
 
 pub put_store-requires : goal.put_store-requires
 put_store-requires c =
-    let start = c.before.before.before.before.before.before.before in
-    let fetched = fetch-wrote _ _ _ _ _ _ start.args.index c.put_fetch.ensures in
-    let computed = binary-wrote _ _ _ _ _ start.args.operator (Variable start.args.old) start.args.operand c.put_binary.ensures in
-    (put-room 5 (wrote-put (wrote-next fetched computed)) start.requires.0 (omega arith), start.requires.1, start.requires.2, start.requires.5)
+    let fetched = fetch-wrote _ _ _ _ _ _ c.args.index c.put_fetch.ensures in
+    let computed = binary-wrote _ _ _ _ _ c.args.operator (Variable c.args.old) c.args.operand c.put_binary.ensures in
+    (put-room 5 (wrote-put (wrote-next fetched computed)) c.requires.0 (omega arith), c.requires.1, c.requires.2, c.requires.5)
 
 pub returns : goal.returns
 unfolding ◌⧺◌
 returns c =
-    let start = c.before.before.before.before.before.before.before.before.before in
-    let fetched = fetch-wrote _ _ _ _ _ _ start.args.index c.put_fetch.ensures in
-    let computed = binary-wrote _ _ _ _ _ start.args.operator (Variable start.args.old) start.args.operand c.put_binary.ensures in
-    let stored = store_wrote _ _ _ _ _ start.args.index (Variable start.args.new) c.put_store.ensures in
+    let fetched = fetch-wrote _ _ _ _ _ _ c.args.index c.put_fetch.ensures in
+    let computed = binary-wrote _ _ _ _ _ c.args.operator (Variable c.args.old) c.args.operand c.put_binary.ensures in
+    let stored = store_wrote _ _ _ _ _ c.args.index (Variable c.args.new) c.put_store.ensures in
     (wrote-next (wrote-next fetched computed) stored).table

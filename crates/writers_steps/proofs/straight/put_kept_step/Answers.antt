@@ -18,7 +18,6 @@ put_binary-requires c =
 pub returns : goal.returns
 unfolding ◌⧺◌
 returns c =
-    let start = c.before.before.before.before.before.before in
-    let copied = copy-wrote _ _ _ _ _ (Variable start.args.number) c.put_copy.ensures in
-    let computed = binary-wrote _ _ _ _ _ start.args.operator (Variable start.args.old) (Constant (pos 1)) c.put_binary.ensures in
+    let copied = copy-wrote _ _ _ _ _ (Variable c.args.number) c.put_copy.ensures in
+    let computed = binary-wrote _ _ _ _ _ c.args.operator (Variable c.args.old) (Constant (pos 1)) c.put_binary.ensures in
     (wrote-next copied computed).table

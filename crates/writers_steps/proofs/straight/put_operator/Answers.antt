@@ -18,27 +18,21 @@ pub taken_at-requires : goal.taken_at-requires
 taken_at-requires c = whole-asks c.requires.writing.measured c.requires.right_inside
 
 pub overflow_add-above : goal.overflow_add-above
-overflow_add-above c = omega (arith, c.requires.level_low, c.taken_at.ensures, taken_most (atom_of (called_in c.args.rows.now) (expression_at c.args.rows.now c.args.right)), c.requires.copies_are, copied-most (atom_of (called_in c.args.rows.now) (expression_at c.args.rows.now c.args.right)) (writes (called_in c.args.rows.now) (expression_at c.args.rows.now c.args.left)))
+overflow_add-above c = omega (arith, c.requires.level_low, c.taken_at.ensures, taken_most (atom_of (called_in c.args.source.now.rows.now) (expression_at c.args.source.now.rows.now c.args.right)), c.requires.copies_are, copied-most (atom_of (called_in c.args.source.now.rows.now) (expression_at c.args.source.now.rows.now c.args.right)) (writes (called_in c.args.source.now.rows.now) (expression_at c.args.source.now.rows.now c.args.left)))
 
 pub overflow_add-above-2 : goal.overflow_add-above-2
-overflow_add-above-2 c = omega (arith, c.requires.level_low, c.taken_at.ensures, taken_most (atom_of (called_in c.args.rows.now) (expression_at c.args.rows.now c.args.right)), c.requires.copies_are, copied-most (atom_of (called_in c.args.rows.now) (expression_at c.args.rows.now c.args.right)) (writes (called_in c.args.rows.now) (expression_at c.args.rows.now c.args.left)))
+overflow_add-above-2 c = omega (arith, c.requires.level_low, c.taken_at.ensures, taken_most (atom_of (called_in c.args.source.now.rows.now) (expression_at c.args.source.now.rows.now c.args.right)), c.requires.copies_are, copied-most (atom_of (called_in c.args.source.now.rows.now) (expression_at c.args.source.now.rows.now c.args.right)) (writes (called_in c.args.source.now.rows.now) (expression_at c.args.source.now.rows.now c.args.left)))
 
 pub atom_at-left_atom-requires : goal.atom_at-left_atom-requires
-atom_at-left_atom-requires c = (c.requires.writing, c.requires.left_inside, omega (arith, c.requires.level_low, c.taken_at.ensures, taken_most (atom_of (called_in c.args.rows.now) (expression_at c.args.rows.now c.args.right)), c.requires.copies_are, copied-most (atom_of (called_in c.args.rows.now) (expression_at c.args.rows.now c.args.right)) (writes (called_in c.args.rows.now) (expression_at c.args.rows.now c.args.left))))
-
-pub target_word-number-requires : goal.target_word-number-requires
-target_word-number-requires c = (omega (arith, c.requires.level_low, c.requires.writing.small_store), c.requires.use_fits)
-
-pub put_binary-requires : goal.put_binary-requires
-put_binary-requires c = (c.requires.room, c.target_word-number.ensures.fits, c.atom_at-left_atom.ensures.fits, c.held_atom-right_atom.ensures.fits)
+atom_at-left_atom-requires c = (c.requires.writing, c.requires.left_inside, omega (arith, c.requires.level_low, c.taken_at.ensures, taken_most (atom_of (called_in c.args.source.now.rows.now) (expression_at c.args.source.now.rows.now c.args.right)), c.requires.copies_are, copied-most (atom_of (called_in c.args.source.now.rows.now) (expression_at c.args.source.now.rows.now c.args.right)) (writes (called_in c.args.source.now.rows.now) (expression_at c.args.source.now.rows.now c.args.left))))
 
 pub returns : goal.returns
 returns c =
     let args = c.args in
-    let left = expression_at args.rows.now args.left in
-    let right = expression_at args.rows.now args.right in
+    let left = expression_at args.source.now.rows.now args.left in
+    let right = expression_at args.source.now.rows.now args.right in
     let copies = c.requires.copies_are in
     let value = ap₂ (binary args.operator)
-    (c.atom_at-left_atom.ensures.is ∙ ap (λ (n : ℕ). atom args.at.store n (atom_of (called_in args.rows.now) left)) (above-held args.at.level (atom_of (called_in args.rows.now) right) (writes (called_in args.rows.now) left) c.taken_at.ensures copies))
-    (held-is (writes (called_in args.rows.now) left) copies c.held_atom-right_atom.ensures) in
+    (c.atom_at-left_atom.ensures.is ∙ ap (λ (n : ℕ). atom args.source.now.store n (atom_of (called_in args.source.now.rows.now) left)) (above-held args.at.level (atom_of (called_in args.source.now.rows.now) right) (writes (called_in args.source.now.rows.now) left) c.taken_at.ensures copies))
+    (held-is (writes (called_in args.source.now.rows.now) left) copies c.held_atom-right_atom.ensures) in
     recoded _ _ _ _ _ _ c.put_binary.ensures (ap₂ (λ (n : ℕ) (x : Expression). express (assign (variable n) x) then none) c.target_word-number.ensures.is value)

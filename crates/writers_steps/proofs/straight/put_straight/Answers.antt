@@ -20,15 +20,12 @@ use Rattle.measures_table.specs.MeasureLaws.{landed-copied}
 use Rattle.measures_expressions.proofs.PassedLaws.{called-otherwise}
 use Rattle.writers_steps.proofs.straight.put_straight.Goals as goal
 
-pub target_word-number-requires : goal.target_word-number-requires
-target_word-number-requires c = (omega (arith, c.requires.1.level_low, c.requires.1.inside, c.requires.0.measured.source.few_rows, c.requires.0.small_store), c.requires.1.use_fits)
-
 pub put_read-requires : goal.put_read-requires
 put_read-requires c =
     let shape = expressed c.expression_at-shape.ensures c.in-Read.is in
     record {
       writing = c.requires.0;
-      place_inside = onward-inside c.args.rows.now c.args.row c.in-Read.place shape.onward;
+      place_inside = onward-inside c.args.source.now.rows.now c.args.row c.in-Read.place shape.onward;
       use_fits = c.requires.1.use_fits;
       level_low = omega (arith, c.requires.1.level_low, c.requires.1.inside, c.requires.0.measured.source.few_rows, c.requires.0.small_store);
       room = room-less _ (room-by-shape c.args.usage shape c.requires.1.room) (omega arith);
@@ -61,7 +58,7 @@ put_operator-requires c =
       writing = c.requires.0;
       left_inside = shape.onward.0.inside;
       right_inside = shape.onward.1.inside;
-      copies_are = c.operand_copied-copied.ensures ∙ ap (first_copied (called_in c.args.rows.now)) shape.is;
+      copies_are = c.operand_copied-copied.ensures ∙ ap (first_copied (called_in c.args.source.now.rows.now)) shape.is;
       use_fits = c.requires.1.use_fits;
       level_low = omega (arith, c.requires.1.level_low, c.requires.1.inside, c.requires.0.measured.source.few_rows, c.requires.0.small_store);
       room = room-less _ (room-by-shape c.args.usage shape c.requires.1.room) (omega arith);
@@ -74,9 +71,9 @@ put_assignment-requires c =
       writing = c.requires.0;
       place_inside = shape.onward.0.inside;
       value_inside = shape.onward.1.inside;
-      copies_are = c.operand_copied-copied.ensures ∙ ap (first_copied (called_in c.args.rows.now)) shape.is;
+      copies_are = c.operand_copied-copied.ensures ∙ ap (first_copied (called_in c.args.source.now.rows.now)) shape.is;
       level_low = omega (arith, c.requires.1.level_low, c.requires.1.inside, c.requires.0.measured.source.few_rows, c.requires.0.small_store);
-      room = room-less _ (room-by-shape c.args.usage shape c.requires.1.room) (omega (arith, landed-copied (called_in c.args.rows.now) (place_of (expression_at c.args.rows.now c.in-Assign.place)) (direct (expression_at c.args.rows.now c.in-Assign.value)) (atom_of (called_in c.args.rows.now) (expression_at c.args.rows.now c.in-Assign.value))));
+      room = room-less _ (room-by-shape c.args.usage shape c.requires.1.room) (omega (arith, landed-copied (called_in c.args.source.now.rows.now) (place_of (expression_at c.args.source.now.rows.now c.in-Assign.place)) (direct (expression_at c.args.source.now.rows.now c.in-Assign.value)) (atom_of (called_in c.args.source.now.rows.now) (expression_at c.args.source.now.rows.now c.in-Assign.value))));
     }
 
 pub held_atom-atom-requires : goal.held_atom-atom-requires
@@ -102,64 +99,63 @@ put_step-requires c =
 pub returns-in-Number : goal.returns-in-Number
 returns-in-Number c =
     let shape = expressed c.expression_at-shape.ensures c.in-Number.is in
-    recoded _ _ _ _ _ _ (nothing-wrote c.args.follows c.args.base _) (ap (λ (e : Expression). straight_code (called_in c.args.rows.now) c.args.store e c.args.usage c.args.level) (sym shape.is))
+    recoded _ _ _ _ _ _ (nothing-wrote c.args.at.follows c.args.at.base _) (ap (λ (e : Expression). straight_code (called_in c.args.source.now.rows.now) c.args.source.now.store e c.args.usage c.args.at.level) (sym shape.is))
 
 pub returns-in-Read : goal.returns-in-Read
 returns-in-Read c =
     let shape = expressed c.expression_at-shape.ensures c.in-Read.is in
-    recoded _ _ _ _ _ _ c.put_read.ensures (ap (λ (e : Expression). straight_code (called_in c.args.rows.now) c.args.store e c.args.usage c.args.level) (sym shape.is))
+    recoded _ _ _ _ _ _ c.put_read.ensures (ap (λ (e : Expression). straight_code (called_in c.args.source.now.rows.now) c.args.source.now.store e c.args.usage c.args.at.level) (sym shape.is))
 
 pub returns-in-Minus : goal.returns-in-Minus
 returns-in-Minus c =
     let shape = expressed (expressed c.expression_at-shape.ensures c.in-Operation.is) (ap Operation c.in-Minus.is) in
     recoded _ _ _ _ _ _ c.put_minus.ensures
-    (ap₂ (λ (n : ℕ) (x : Expression). express (assign (variable n) (minus x)) then none) c.target_word-number.ensures.is c.atom_at-atom.ensures.is ∙ ap (λ (e : Expression). straight_code (called_in c.args.rows.now) c.args.store e c.args.usage c.args.level) (sym shape.is))
+    (ap₂ (λ (n : ℕ) (x : Expression). express (assign (variable n) (minus x)) then none) c.target_word-number.ensures.is c.atom_at-atom.ensures.is ∙ ap (λ (e : Expression). straight_code (called_in c.args.source.now.rows.now) c.args.source.now.store e c.args.usage c.args.at.level) (sym shape.is))
 
 pub returns-in-Not : goal.returns-in-Not
 returns-in-Not c =
     let shape = expressed (expressed c.expression_at-shape.ensures c.in-Operation.is) (ap Operation c.in-Not.is) in
     recoded _ _ _ _ _ _ c.put_binary.ensures
-    (ap₂ (λ (n : ℕ) (x : Expression). express (assign (variable n) (binary Equal x (constant (pos 0)))) then none) c.target_word-number.ensures.is c.atom_at-atom-in-Not.ensures.is ∙ ap (λ (e : Expression). straight_code (called_in c.args.rows.now) c.args.store e c.args.usage c.args.level) (sym shape.is))
+    (ap₂ (λ (n : ℕ) (x : Expression). express (assign (variable n) (binary Equal x (constant (pos 0)))) then none) c.target_word-number.ensures.is c.atom_at-atom-in-Not.ensures.is ∙ ap (λ (e : Expression). straight_code (called_in c.args.source.now.rows.now) c.args.source.now.store e c.args.usage c.args.at.level) (sym shape.is))
 
 pub returns-in-Binary : goal.returns-in-Binary
 returns-in-Binary c =
     let shape = expressed (expressed c.expression_at-shape.ensures c.in-Operation.is) (ap Operation c.in-Binary.is) in
-    recoded _ _ _ _ _ _ c.put_operator.ensures (ap (λ (e : Expression). straight_code (called_in c.args.rows.now) c.args.store e c.args.usage c.args.level) (sym shape.is))
+    recoded _ _ _ _ _ _ c.put_operator.ensures (ap (λ (e : Expression). straight_code (called_in c.args.source.now.rows.now) c.args.source.now.store e c.args.usage c.args.at.level) (sym shape.is))
 
 pub returns-in-Comma : goal.returns-in-Comma
 returns-in-Comma c =
     let shape = expressed (expressed c.expression_at-shape.ensures c.in-Operation.is) (ap Operation c.in-Comma.is) in
-    recoded _ _ _ _ _ _ (nothing-wrote c.args.follows c.args.base _) (ap (λ (e : Expression). straight_code (called_in c.args.rows.now) c.args.store e c.args.usage c.args.level) (sym shape.is))
+    recoded _ _ _ _ _ _ (nothing-wrote c.args.at.follows c.args.at.base _) (ap (λ (e : Expression). straight_code (called_in c.args.source.now.rows.now) c.args.source.now.store e c.args.usage c.args.at.level) (sym shape.is))
 
 pub returns-in-Assign : goal.returns-in-Assign
 returns-in-Assign c =
     let shape = expressed (expressed c.expression_at-shape.ensures c.in-Operation.is) (ap Operation c.in-Assign.is) in
-    recoded _ _ _ _ _ _ c.put_assignment.ensures (ap (λ (e : Expression). straight_code (called_in c.args.rows.now) c.args.store e c.args.usage c.args.level) (sym shape.is))
+    recoded _ _ _ _ _ _ c.put_assignment.ensures (ap (λ (e : Expression). straight_code (called_in c.args.source.now.rows.now) c.args.source.now.store e c.args.usage c.args.at.level) (sym shape.is))
 
 pub returns-in-Compound : goal.returns-in-Compound
 returns-in-Compound c =
     let shape = expressed (expressed c.expression_at-shape.ensures c.in-Operation.is) (ap Operation c.in-Compound.is) in
     let args = c.args in
-    let place = place_of (expression_at args.rows.now c.in-Compound.place) in
-    let copies = c.operand_copied-copied.ensures ∙ ap (first_copied (called_in args.rows.now)) shape.is in
+    let place = place_of (expression_at args.source.now.rows.now c.in-Compound.place) in
+    let copies = c.operand_copied-copied.ensures ∙ ap (first_copied (called_in args.source.now.rows.now)) shape.is in
     recoded _ _ _ _ _ _ c.put_operation.ensures
-    (ap (λ (x : Expression). update_code args.store c.in-Compound.operator (kernel_place (called_in args.rows.now) args.store place (args.level + 1)) x args.level (args.level + 1 + place_taken (called_in args.rows.now) place))
-    (held-is (index_writes (called_in args.rows.now) place) copies c.held_atom-atom.ensures) ∙ ap (λ (e : Expression). straight_code (called_in args.rows.now) c.args.store e c.args.usage c.args.level) (sym shape.is))
+    (ap (λ (x : Expression). update_code args.source.now.store c.in-Compound.operator (kernel_place (called_in args.source.now.rows.now) args.source.now.store place (args.at.level + 1)) x args.at.level (args.at.level + 1 + place_taken (called_in args.source.now.rows.now) place))
+    (held-is (index_writes (called_in args.source.now.rows.now) place) copies c.held_atom-atom.ensures) ∙ ap (λ (e : Expression). straight_code (called_in args.source.now.rows.now) c.args.source.now.store e c.args.usage c.args.at.level) (sym shape.is))
 
 pub returns-in-Prefix : goal.returns-in-Prefix
 returns-in-Prefix c =
     let shape = expressed (expressed c.expression_at-shape.ensures c.in-Operation.is) (ap Operation c.in-Prefix.is) in
-    recoded _ _ _ _ _ _ c.put_operation-in-Prefix.ensures (ap (λ (e : Expression). straight_code (called_in c.args.rows.now) c.args.store e c.args.usage c.args.level) (sym shape.is))
+    recoded _ _ _ _ _ _ c.put_operation-in-Prefix.ensures (ap (λ (e : Expression). straight_code (called_in c.args.source.now.rows.now) c.args.source.now.store e c.args.usage c.args.at.level) (sym shape.is))
 
 pub returns-in-Postfix : goal.returns-in-Postfix
 returns-in-Postfix c =
     let shape = expressed (expressed c.expression_at-shape.ensures c.in-Operation.is) (ap Operation c.in-Postfix.is) in
-    recoded _ _ _ _ _ _ c.put_step.ensures (ap (λ (e : Expression). straight_code (called_in c.args.rows.now) c.args.store e c.args.usage c.args.level) (sym shape.is))
+    recoded _ _ _ _ _ _ c.put_step.ensures (ap (λ (e : Expression). straight_code (called_in c.args.source.now.rows.now) c.args.source.now.store e c.args.usage c.args.at.level) (sym shape.is))
 
 pub returns-in-Choice : goal.returns-in-Choice
-returns-in-Choice c = recoded _ _ _ _ _ _ (nothing-wrote c.args.follows c.args.base _) (choice_none c.args.store c.args.usage c.args.level (expressed c.expression_at-shape.ensures c.in-Choice.is))
+returns-in-Choice c = recoded _ _ _ _ _ _ (nothing-wrote c.args.at.follows c.args.at.base _) (choice_none c.args.source.now.store c.args.usage c.args.at.level (expressed c.expression_at-shape.ensures c.in-Choice.is))
 
 pub returns-in-Call : goal.returns-in-Call
 returns-in-Call c =
-    let start = c.before.before.before.before.before in
-    absurd (called-otherwise (expressed c.expression_at-shape.ensures c.in-Call.is) start.requires.1.no_call)
+    absurd (called-otherwise (expressed c.expression_at-shape.ensures c.in-Call.is) c.requires.1.no_call)

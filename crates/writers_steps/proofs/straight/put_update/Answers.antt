@@ -11,22 +11,18 @@ use Rattle.writers_steps.proofs.straight.put_update.Goals as goal
 
 pub put_binary-requires : goal.put_binary-requires
 put_binary-requires c =
-    let start = c.before.before in
-    let low = subst (λ (p : KernelPlace). PlaceFits p) c.in-Variable.is start.requires.1 in
-    (room-less 6 start.requires.0 (omega (arith, ap (λ (p : KernelPlace). update_rows (place_tree p)) c.in-Variable.is)), low, low, start.requires.2)
+    let low = subst (λ (p : KernelPlace). PlaceFits p) c.in-Variable.is c.requires.1 in
+    (room-less 6 c.requires.0 (omega (arith, ap (λ (p : KernelPlace). update_rows (place_tree p)) c.in-Variable.is)), low, low, c.requires.2)
 
 pub put_element_update-requires : goal.put_element_update-requires
 put_element_update-requires c =
-    let start = c.before.before in
-    let low = subst (λ (p : KernelPlace). PlaceFits p) c.in-Element.is start.requires.1 in
-    (room-less 16 start.requires.0 (omega (arith, ap (λ (p : KernelPlace). update_rows (place_tree p)) c.in-Element.is)), low.0, low.1, start.requires.2, start.requires.4, start.requires.3)
+    let low = subst (λ (p : KernelPlace). PlaceFits p) c.in-Element.is c.requires.1 in
+    (room-less 16 c.requires.0 (omega (arith, ap (λ (p : KernelPlace). update_rows (place_tree p)) c.in-Element.is)), low.0, low.1, c.requires.2, c.requires.4, c.requires.3)
 
 pub returns-in-Variable : goal.returns-in-Variable
 returns-in-Variable c =
-    let start = c.before.before.before.before in
-    recoded _ _ _ _ _ _ c.put_binary.ensures (ap (λ (p : KernelPlace). update_code start.args.store start.args.operator (place_tree p) (atom_tree start.args.operand) start.args.level start.args.above) (sym c.in-Variable.is))
+    recoded _ _ _ _ _ _ c.put_binary.ensures (ap (λ (p : KernelPlace). update_code c.args.store c.args.operator (place_tree p) (atom_tree c.args.operand) c.args.at.level c.args.above) (sym c.in-Variable.is))
 
 pub returns-in-Element : goal.returns-in-Element
 returns-in-Element c =
-    let start = c.before.before.before.before in
-    recoded _ _ _ _ _ _ c.put_element_update.ensures (ap (λ (p : KernelPlace). update_code start.args.store start.args.operator (place_tree p) (atom_tree start.args.operand) start.args.level start.args.above) (sym c.in-Element.is))
+    recoded _ _ _ _ _ _ c.put_element_update.ensures (ap (λ (p : KernelPlace). update_code c.args.store c.args.operator (place_tree p) (atom_tree c.args.operand) c.args.at.level c.args.above) (sym c.in-Element.is))

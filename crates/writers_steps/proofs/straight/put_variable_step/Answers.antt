@@ -20,14 +20,14 @@ put_kept_step-requires-in-Stored c = (room-less 10 c.requires.0 (omega (arith, a
 pub returns-in-Dropped : goal.returns-in-Dropped
 returns-in-Dropped c =
     let args = c.args in
-    recoded _ _ _ _ _ _ c.put_binary.ensures (ap (λ (u : Use). step_code args.store args.operator args.number u args.level) (sym c.in-Dropped.is))
+    recoded _ _ _ _ _ _ c.put_binary.ensures (ap (λ (u : Use). step_code args.store args.operator args.number u args.at.level) (sym c.in-Dropped.is))
 
 pub returns-in-Wanted : goal.returns-in-Wanted
 returns-in-Wanted c =
     let args = c.args in
-    recoded _ _ _ _ _ _ c.put_kept_step.ensures (ap (λ (u : Use). step_code args.store args.operator args.number u args.level) (sym c.in-Wanted.is))
+    recoded _ _ _ _ _ _ c.put_kept_step.ensures (ap (λ (u : Use). step_code args.store args.operator args.number u args.at.level) (sym c.in-Wanted.is))
 
 pub returns-in-Stored : goal.returns-in-Stored
 returns-in-Stored c =
     let args = c.args in
-    recoded _ _ _ _ _ _ c.put_kept_step-in-Stored.ensures (ap (λ (u : Use). step_code args.store args.operator args.number u args.level) (sym c.in-Stored.is))
+    recoded _ _ _ _ _ _ c.put_kept_step-in-Stored.ensures (ap (λ (u : Use). step_code args.store args.operator args.number u args.at.level) (sym c.in-Stored.is))

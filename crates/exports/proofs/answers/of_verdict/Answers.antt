@@ -1,9 +1,0 @@
--- `of_verdict` gives the numbers of each case of a check's answer.
-use borrow.Author.Rules.{rules}
-use Rattle.exports.proofs.answers.of_verdict.Goals as goal
-
-pub returns-in-Accepted : goal.returns-in-Accepted
-returns-in-Accepted c = rw c.in-Accepted.is
-
-pub returns-in-Refused : goal.returns-in-Refused
-returns-in-Refused c = rw c.in-Refused.is c.refused.ensures

@@ -1,9 +1,0 @@
--- `of_write` gives the numbers of each case of a writer's answer.
-use borrow.Author.Rules.{rules}
-use Rattle.exports.proofs.answers.of_write.Goals as goal
-
-pub returns-in-Written : goal.returns-in-Written
-returns-in-Written c = rw c.in-Written.is
-
-pub returns-in-Refused : goal.returns-in-Refused
-returns-in-Refused c = rw c.in-Refused.is c.refused.ensures

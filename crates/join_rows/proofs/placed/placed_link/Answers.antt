@@ -1,7 +1,0 @@
--- `placed_link`: next, or a part.
-use borrow.Author.Rules.{rules}
-use Rattle.join_rows.proofs.placed.placed_link.Goals as goal
-
-pub returns-then-field-eq5 : goal.returns-then-field-eq5
-returns-then-field-eq5 c =
-    rw c.if-field-eq5.true c.next_link.ensures

@@ -1,6 +1,0 @@
--- What a shape is among arguments.
-use borrow.Author.Rules.{rules}
-use Rattle.language_shapes.proofs.rows.argument_of.Goals as goal
-
-pub returns-in-OfArgument : goal.returns-in-OfArgument
-returns-in-OfArgument c = cc

@@ -1,7 +1,0 @@
--- `goto_of`: a number is a goto.
-use borrow.Author.Rules.{rules}
-use Rattle.page_statements.proofs.lines.goto_of.Goals as goal
-
-pub returns-in-Number : goal.returns-in-Number
-returns-in-Number c =
-    rw c.in-Number.is

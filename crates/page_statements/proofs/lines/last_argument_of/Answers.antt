@@ -1,7 +1,0 @@
--- `last_argument_of`: an atom is the line.
-use borrow.Author.Rules.{rules}
-use Rattle.page_statements.proofs.lines.last_argument_of.Goals as goal
-
-pub returns : goal.returns
-returns c =
-    rw c.in-Read.is

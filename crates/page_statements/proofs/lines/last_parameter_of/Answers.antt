@@ -1,7 +1,0 @@
--- `last_parameter_of`: a number is the line.
-use borrow.Author.Rules.{rules}
-use Rattle.page_statements.proofs.lines.last_parameter_of.Goals as goal
-
-pub returns-in-Number : goal.returns-in-Number
-returns-in-Number c =
-    rw c.in-Number.is

@@ -2,6 +2,7 @@
 #![tactic(auto)]
 
 mod made; // made.rt: tables that are made here: deep ones, long ones, large switches, one without a header
+mod number; // number.rt: the decimal numbers of a text
 mod tables; // tables.rt: the tables of a text
 mod verdict; // verdict.rt: checks a table, and writes what the check answers
 
@@ -10,12 +11,9 @@ use std::io;
 use words::Form;
 
 fn main(rt: HostRuntime) -> io::Result<()> {
-    let mut input = [0u8; 65536];
-    let n = read_full(&rt, &mut input)?;
-    let Ok(text) = str::from_utf8(&input[..n]) else {
-        return Err(io::Error::from(io::ErrorKind::InvalidData));
-    };
-    tables::check_all(&rt, text)?;
+    let mut text = [0u8; 65536];
+    let n = read_full(&rt, &mut text)?;
+    tables::check_all(&rt, &text[..n])?;
     made::check_no_header(&rt)?;
     made::check_nested(&rt, Form::Source, 64)?;
     made::check_nested(&rt, Form::Source, 65)?;

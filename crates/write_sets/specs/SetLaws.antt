@@ -145,6 +145,14 @@ pub array-shift : (arrays array : ℕ) → eqb (arrays / 2 ^ array % 2) 1 ≡ me
 unfolding member_array
 array-shift arrays array = bit-shift arrays array
 
+pub word-rest : (s : WriteSet) (k : ℕ) → 4 < k → 0 ≡ word_of s k
+word-rest s zero h = absurd (omega arith)
+word-rest s (suc zero) h = absurd (omega arith)
+word-rest s (suc (suc zero)) h = absurd (omega arith)
+word-rest s (suc (suc (suc zero))) h = absurd (omega arith)
+word-rest s (suc (suc (suc (suc zero)))) h = absurd (omega arith)
+word-rest s (suc (suc (suc (suc (suc k))))) h = refl
+
 -- the bit of a variable, and of a word behind the first S
 pub found_below : (S i : ℕ) → i < S → ◌≡◌ {A = Bit} (record { word = i / 64; place = i % 64 }) (bit_of S i)
 found_below S i h = sym (bit-variable S i h)
@@ -162,10 +170,27 @@ place-below S i e = rw e (by_cases (ltb i S) (λ t. rw t (mod-lt i (zero-lt-suc 
 pub bit-found : (s : WriteSet) (at : Bit) {word : ℕ} → word ≡ word_of s at.word → eqb (word / 2 ^ at.place % 2) 1 ≡ bit_at s at
 bit-found s at e = rw e (bit-shift (word_of s at.word) at.place)
 
+pub member-shift : (S : ℕ) (s : WriteSet) (i : ℕ) {at : Bit} {word : ℕ} → at ≡ bit_of S i → word ≡ word_of s at.word → eqb (word / 2 ^ at.place % 2) 1 ≡ member S s i
+unfolding member
+member-shift S s i {at} e w = rw (w, e) (bit-shift (word_of s (bit_of S i).word) (bit_of S i).place)
+
+pub variable-shift : (s : WriteSet) (i : ℕ) {word : ℕ} → word ≡ word_of s (i / 64) → eqb (word / 2 ^ (i % 64) % 2) 1 ≡ variable_bit s i
+unfolding variable_bit
+variable-shift s i w = rw w (bit-shift (word_of s (i / 64)) (i % 64))
+
+pub declared-shift : (s : WriteSet) (i : ℕ) → eqb (word_of s 4 / 2 ^ i % 2) 1 ≡ declared_bit s i
+unfolding declared_bit
+declared-shift s i = bit-shift (word_of s 4) i
+
+-- one bit in one of the words, or none
+pub single-words : (S i : ℕ) {at : Bit} {bit a b d e f : ℕ} → at ≡ bit_of S i → bit ≡ 2 ^ at.place → a ≡ pick (eqb at.word 0) bit 0 → b ≡ pick (eqb at.word 1) bit 0 → d ≡ pick (eqb at.word 2) bit 0 → e ≡ pick (eqb at.word 3) bit 0 → f ≡ pick (eqb at.word 4) bit 0
+    → ◌≡◌ {A = WriteSet} (record { words = a ∷ b ∷ d ∷ e ∷ f ∷ [] }) (single S i)
+single-words S i o p q r s t u = rw (q, r, s, t, u, p, o)
+
 -- one bit put into one of the words
-pub single-words : (S i : ℕ) {at : Bit} (bit : ℕ) → at ≡ bit_of S i → at.word < 5 → bit ≡ 2 ^ at.place
+pub single-put : (S i : ℕ) {at : Bit} (bit : ℕ) → at ≡ bit_of S i → at.word < 5 → bit ≡ 2 ^ at.place
     → ◌≡◌ {A = WriteSet} (record { words = set (0 ∷ 0 ∷ 0 ∷ 0 ∷ 0 ∷ []) at.word bit }) (single S i)
-single-words S i {at} bit o h e = rw (e, ← o) (put at.word h)
+single-put S i {at} bit o h e = rw (e, ← o) (put at.word h)
   where
     put : (k : ℕ) → k < 5 → ◌≡◌ {A = WriteSet} (record { words = set (0 ∷ 0 ∷ 0 ∷ 0 ∷ 0 ∷ []) k (2 ^ at.place) }) (record { words = pick (eqb k 0) (2 ^ at.place) 0 ∷ pick (eqb k 1) (2 ^ at.place) 0 ∷ pick (eqb k 2) (2 ^ at.place) 0 ∷ pick (eqb k 3) (2 ^ at.place) 0 ∷ pick (eqb k 4) (2 ^ at.place) 0 ∷ [] })
     put zero l = refl

@@ -4,7 +4,8 @@
 
 pub mod arrays; // arrays.rt: the word of the arrays
 
-ghost use Rattle.std.specs.Prelude.{◌≡◌, ◌+◌, ◌<◌, ◌^◌};
+ghost use Rattle.std.specs.Prelude.{◌≡◌, ◌+◌, ◌<◌, ◌^◌, eqb};
+ghost use Rattle.words.specs.Word.{pick};
 ghost use Rattle.write_sets.specs.Sets.{bit_of, word_of, member, bit_at, variable_bits, declared_bits, variable_bit, declared_bit, nothing as nothing_of, single as single_of, join as join_of};
 ghost use Rattle.write_sets.specs.Counts.{count_below};
 
@@ -38,6 +39,16 @@ pub fn bit_of(store: usize, i: usize) -> Bit
     }
 }
 
+// The bit, where the word k is the word n; else 0.
+fn bit_in(k: usize, n: usize, bit: u64) -> u64
+    ensures { result ≡ pick (eqb k n) bit 0 }
+{
+    if k == n {
+        return bit;
+    }
+    0
+}
+
 impl WriteSet {
     // The empty set.
     pub fn nothing() -> WriteSet
@@ -51,22 +62,31 @@ impl WriteSet {
         ensures { result ≡ single_of store i }
     {
         let at = bit_of(store, i);
-        let mut words = [0; 5];
-        if at.word < words.len() {
-            words[at.word] = 1 << at.place;
+        let bit = 1 << at.place;
+        WriteSet {
+            words: [
+                bit_in(at.word, 0, bit),
+                bit_in(at.word, 1, bit),
+                bit_in(at.word, 2, bit),
+                bit_in(at.word, 3, bit),
+                bit_in(at.word, 4, bit),
+            ],
         }
-        WriteSet { words }
     }
 
     // What is in either set.
     pub fn join(self, other: WriteSet) -> WriteSet
         ensures { result ≡ join_of self other }
     {
-        let mut words = self.words;
-        for k in 0..5 {
-            words[k] |= other.words[k];
+        WriteSet {
+            words: [
+                self.words[0] | other.words[0],
+                self.words[1] | other.words[1],
+                self.words[2] | other.words[2],
+                self.words[3] | other.words[3],
+                self.words[4] | other.words[4],
+            ],
         }
-        WriteSet { words }
     }
 
     // The word k; there are five, and behind them all are 0.
@@ -112,10 +132,10 @@ impl WriteSet {
     pub fn count(self) -> u32
         ensures { result ≡ count_below variable_bits (variable_bit self) + count_below declared_bits (declared_bit self) }
     {
-        let mut ones = 0;
-        for word in self.words {
-            ones += word.count_ones();
-        }
-        ones
+        self.words[0].count_ones()
+            + self.words[1].count_ones()
+            + self.words[2].count_ones()
+            + self.words[3].count_ones()
+            + self.words[4].count_ones()
     }
 }

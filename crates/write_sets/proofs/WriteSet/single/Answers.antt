@@ -2,8 +2,8 @@
 use Rattle.write_sets.specs.SetLaws.{place-below, single-words, one-bit}
 use Rattle.write_sets.proofs.WriteSet.single.Goals as goal
 
-pub overflow_shl-words : goal.overflow_shl-words
-overflow_shl-words c = place-below c.args.store c.args.i c.bit_of-at.ensures
+pub overflow_shl-bit : goal.overflow_shl-bit
+overflow_shl-bit c = place-below c.args.store c.args.i c.bit_of-at.ensures
 
-pub returns-then-at-lt5 : goal.returns-then-at-lt5
-returns-then-at-lt5 c = single-words c.args.store c.args.i _ c.bit_of-at.ensures c.if-at-lt5.true (one-bit (place-below c.args.store c.args.i c.bit_of-at.ensures))
+pub returns : goal.returns
+returns c = single-words c.args.store c.args.i c.bit_of-at.ensures (one-bit (place-below c.args.store c.args.i c.bit_of-at.ensures)) c.bit_in.ensures c.bit_in-2.ensures c.bit_in-3.ensures c.bit_in-4.ensures c.bit_in-5.ensures

@@ -7,7 +7,7 @@ ghost use Rattle.flat.specs.Lines.{next_of};
 ghost use Rattle.flat.specs.Words.{line_at};
 ghost use Rattle.flat_steps.specs.Steps.{Makes, ReadyLine, OfKind};
 
-use super::operands::{assign, locate, number_at, operand, target_of};
+use super::operands::{assign, locate, number_at, operand, store_word, target_of};
 use arithmetic::{add, bit, divide, is_true, minus, multiply, remainder, subtract};
 use flat::lines::{left_constant, operation_kind, right_constant};
 use machine_operations::operations::is_binary;
@@ -25,7 +25,7 @@ fn copy(
     ensures { Makes store.old result store.new (next_of (layout_from bounds.now) (line_at list.now line) line store.old) }
 {
     let value = operand(list, line, 2, left_constant(operation), store);
-    Ok(assign(value, number_at(list, line, 1), line, store))
+    Ok(store_word(value, number_at(list, line, 1), line, store))
 }
 
 // Kind 4: minus.
@@ -39,9 +39,8 @@ fn negate(
     requires { OfKind bounds.now list.now (length store.old) line operation 4 }
     ensures { Makes store.old result store.new (next_of (layout_from bounds.now) (line_at list.now line) line store.old) }
 {
-    let word = operand(list, line, 2, left_constant(operation), store);
-    let value = minus(word)?;
-    Ok(assign(value, number_at(list, line, 1), line, store))
+    let value = operand(list, line, 2, left_constant(operation), store);
+    assign(minus(value), number_at(list, line, 1), line, store)
 }
 
 // What an operation gives. This is for `operate` alone, so that the compiler builds it in: what `apply` gives would come back through
@@ -79,8 +78,8 @@ fn operate(
 {
     let left = operand(list, line, 2, left_constant(operation), store);
     let right = operand(list, line, 3, right_constant(operation), store);
-    let value = outcome(kind, left, right)?;
-    Ok(assign(value, number_at(list, line, 1), line, store))
+    let result = outcome(kind, left, right);
+    assign(result, number_at(list, line, 1), line, store)
 }
 
 // Kind 3: an element is stored.
@@ -97,7 +96,7 @@ fn fetch(
     let index = operand(list, line, 3, right_constant(operation), store);
     let at = locate(bounds, number_at(list, line, 2), index)?;
     let value = store[at];
-    Ok(assign(value, number_at(list, line, 1), line, store))
+    Ok(store_word(value, number_at(list, line, 1), line, store))
 }
 
 // Kind 21: a value is stored in an element.
@@ -114,7 +113,7 @@ fn put(
     let value = operand(list, line, 3, right_constant(operation), store);
     let index = operand(list, line, 2, left_constant(operation), store);
     let at = locate(bounds, number_at(list, line, 1), index)?;
-    Ok(assign(value, at, line, store))
+    Ok(store_word(value, at, line, store))
 }
 
 // Kind 43: a jump where the operand is 0.

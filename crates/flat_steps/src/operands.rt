@@ -3,9 +3,9 @@ ghost use Rattle.std.specs.Prelude.{◌≡◌, ◌+◌, ◌*◌, ◌-◌, ◌<�
 ghost use Rattle.words.specs.Word.{natural as natural_of};
 ghost use Rattle.arithmetic.specs.Arithmetic.{element as element_of};
 ghost use Rattle.machine_operations.specs.Ready.{Bounded};
-ghost use Rattle.flat.specs.Lines.{value_of};
+ghost use Rattle.flat.specs.Lines.{value_of, stored, onward};
 ghost use Rattle.flat.specs.Words.{field_at, operand_of, target_of};
-ghost use Rattle.flat_steps.specs.Steps.{ReadyOperand, ReadyJump};
+ghost use Rattle.flat_steps.specs.Steps.{Makes, ReadyOperand, ReadyJump};
 
 use arithmetic::element;
 use flat::lines::word_at;
@@ -32,12 +32,26 @@ pub fn operand(list: &[i32], line: usize, field: usize, constant: bool, store: &
 }
 
 // A value is stored, and the following line comes next.
-pub fn assign(value: i32, target: usize, line: usize, store: &mut [i32]) -> usize
+pub fn store_word(value: i32, target: usize, line: usize, store: &mut [i32]) -> usize
     requires { (target < length store.old) × (line < 9223372036854775808) }
     ensures { (result ≡ line + 1) × (store.new ≡ set store.old target value) }
 {
     store[target] = value;
     line + 1
+}
+
+// What an operation gave is stored, and the following line comes next; or its fault stops the run.
+pub fn assign(
+    computed: Result<i32, FaultSort>,
+    target: usize,
+    line: usize,
+    store: &mut [i32],
+) -> Result<usize, FaultSort>
+    requires { (target < length store.old) × (line < 9223372036854775808) }
+    ensures { Makes store.old result store.new (onward line (stored target store.old computed)) }
+{
+    let value = computed?;
+    Ok(store_word(value, target, line, store))
 }
 
 // Where a jump goes: "a signed jump distance counted from the following line". One sum, since the next line's words wait for it.

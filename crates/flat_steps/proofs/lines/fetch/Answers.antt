@@ -29,10 +29,10 @@ number_at-requires-2 c = (field-inside c.requires 1 (omega arith), omega (arith,
 pub returns-in_err-at : goal.returns-in_err-at
 returns-in_err-at c = failed c.args.store.now _ _ c.from_residual.ensures.1 _ (fetch-fails c.args.store.now c.requires c.right_constant.result c.right_constant.ensures c.number_at.result c.number_at.ensures c.operand-index.result c.operand-index.type_inv c.operand-index.ensures c.locate.result c.locate.ensures _ c.in_err-at.was)
 
-pub assign-requires : goal.assign-requires
-assign-requires c = (omega (arith, variable-inside c.requires _ (fetch-within c.args.store.now c.requires).0, c.number_at-2.ensures), omega (arith, c.requires.ready.inside))
+pub store_word-requires : goal.store_word-requires
+store_word-requires c = (omega (arith, variable-inside c.requires _ (fetch-within c.args.store.now c.requires).0, c.number_at-2.ensures), omega (arith, c.requires.ready.inside))
 
 pub returns : goal.returns
 returns c =
-    made_so _ _ _ _ _ (assigned c.args.store.now c.args.line c.number_at-2.result _ c.assign.result c.assign.new.store c.assign.ensures)
+    made_so _ _ _ _ _ (assigned c.args.store.now c.args.line c.number_at-2.result _ c.store_word.result c.store_word.new.store c.store_word.ensures)
     (fetch-next c.args.store.now c.requires c.right_constant.result c.right_constant.ensures c.number_at.result c.number_at.ensures c.operand-index.result c.operand-index.type_inv c.operand-index.ensures c.locate.result c.locate.ensures c.in_ok-at.at c.in_ok-at.was c.number_at-2.result c.number_at-2.ensures _ c.value-1.given refl)

@@ -22,10 +22,10 @@ locate-requires c = rw c.number_at.ensures (lies c.requires _ (within-is c.requi
 pub returns-in_err-at : goal.returns-in_err-at
 returns-in_err-at c = failed c.args.store.now _ _ c.from_residual.ensures.1 _ (put-fails c.args.store.now c.requires c.left_constant.result c.right_constant.result c.left_constant.ensures c.right_constant.ensures c.number_at.result c.number_at.ensures c.operand-index.result c.operand-index.type_inv c.operand-index.ensures c.locate.result c.locate.ensures _ c.in_err-at.was)
 
-pub assign-requires : goal.assign-requires
-assign-requires c = (put-inside c.args.store.now c.requires c.left_constant.result c.right_constant.result c.left_constant.ensures c.right_constant.ensures c.number_at.result c.number_at.ensures c.operand-index.result c.operand-index.type_inv c.operand-index.ensures c.locate.result c.locate.ensures c.in_ok-at.at c.in_ok-at.was, omega (arith, c.requires.ready.inside))
+pub store_word-requires : goal.store_word-requires
+store_word-requires c = (put-inside c.args.store.now c.requires c.left_constant.result c.right_constant.result c.left_constant.ensures c.right_constant.ensures c.number_at.result c.number_at.ensures c.operand-index.result c.operand-index.type_inv c.operand-index.ensures c.locate.result c.locate.ensures c.in_ok-at.at c.in_ok-at.was, omega (arith, c.requires.ready.inside))
 
 pub returns : goal.returns
 returns c =
-    made_so _ _ _ _ _ (assigned c.args.store.now c.args.line c.in_ok-at.at (again c.operand-value.result) c.assign.result c.assign.new.store c.assign.ensures)
+    made_so _ _ _ _ _ (assigned c.args.store.now c.args.line c.in_ok-at.at (again c.operand-value.result) c.store_word.result c.store_word.new.store c.store_word.ensures)
     (put_next c.args.store.now c.requires c.left_constant.result c.right_constant.result c.left_constant.ensures c.right_constant.ensures c.number_at.result c.number_at.ensures c.operand-index.result c.operand-index.type_inv c.operand-index.ensures c.locate.result c.locate.ensures c.in_ok-at.at c.in_ok-at.was c.operand-value.result c.operand-value.type_inv c.operand-value.ensures)

@@ -1,1 +1,3 @@
--- The proof of this crate needs no lemma of its own.
+-- What the proof of this crate uses. A line of comment for each file.
+-- A copy of words from the start of a table.
+pub mod Copies

@@ -9,5 +9,7 @@ pub fn put(words: &[i32], out: &mut [i32])
     requires { length words.now ≤ length out.old }
     ensures { out.new ≡ over words.now out.old }
 {
-    out[..words.len()].copy_from_slice(words);
+    for i in 0..words.len() {
+        out[i] = words[i];
+    }
 }

@@ -79,7 +79,7 @@ const KINDS: [[u8; 7]; KIND_LIMIT] = [
 ];
 
 // The table of kinds. A pass builds it once and lends it on: borrowed where it is read, the constant would be built anew at each look.
-#[derive(Drop)]
+#[derive(Clone, Copy)]
 pub struct KindTable {
     rows: [[u8; 7]; KIND_LIMIT],
     ghost is_grammar: { rows ≡ grammar },

@@ -1,7 +1,9 @@
 -- Laws of what the code writes and tests: equal headers, rows written word by word, the order of causes, what the checks leave to the join.
-use Rattle.std.specs.Prelude.{◌≡◌, Bool, true, false, not, List, [], ◌∷◌, ℕ, zero, suc, ◌+◌, ◌≤◌, ◌<◌, leb, ℤ, length, take, drop, Err, Ok, Result}
+use Rattle.std.specs.Prelude.{◌≡◌, Bool, true, false, not, List, [], ◌∷◌, ℕ, zero, suc, ◌+◌, ◌≤◌, ◌<◌, leb, ℤ, pos, length, get_or, take, drop, Err, Ok, Result}
 use Rattle.std.proofs.Math.Path.{refl, ap}
-use Rattle.std.proofs.Common.{sym, ◌∙◌, subst, arith, length-append, take_all, le-leb}
+use Rattle.std.proofs.Common.{sym, ◌∙◌, subst, arith, add-one, length-append, take_all, le-leb}
+use Rattle.std.proofs.Math.ListN.{drop_of_length-le}
+use Rattle.std.proofs.Math.Seq.{drop-cons}
 use Rattle.std.proofs.lemmas.Bool.{lt-leb}
 use Rattle.std.specs.Bool.{Decides}
 use Rattle.std.specs.Cmp.Lexicographic.{pointwise}
@@ -10,6 +12,7 @@ use Rattle.std.proofs.lemmas.Result.{err_from_is_err_and}
 use Rattle.std.specs.Ordering.{int_eq}
 use Rattle.std.proofs.lemmas.Bool.Decides.{same_from_decides, Decides-int_eq}
 use Rattle.std.proofs.lemmas.Slice.Eq.{slice_eq-Decides}
+use Rattle.words.specs.Word.{same_word}
 use Rattle.words.specs.Laws.{by_cases, count_fits-facts, same_word-refl}
 use Rattle.words.specs.Over.{over}
 use Rattle.words.specs.OverLaws.{length_over, take-over}
@@ -40,6 +43,23 @@ use Rattle.joiner.specs.Joinable.{Joinable}
 use Rattle.joiner.specs.Joining.{JoinResult, answer_and_rows, join_after, join_result, WritesJoin}
 
 -- ---- equal headers
+
+module _ (header other : List ℤ) where
+  pub headers-unlike : (length header ≡ length other → ⊥) → same_header header other ≡ false
+  headers-unlike d = by_cases (same_header header other) (λ e. absurd (d (ap length (same-header header other e)))) (λ e. e)
+
+  module _ (i : ℕ) (inside : i < length header) (within : i < length other) where
+    pub headers-differ : same_word (get_or header i (pos 0)) (get_or other i (pos 0)) ≡ false → same_header (drop i header) (drop i other) ≡ false
+    unfolding same_header
+    headers-differ e = rw (drop-cons header i (pos 0) inside, drop-cons other i (pos 0) within, e)
+
+    pub headers-agree : same_word (get_or header i (pos 0)) (get_or other i (pos 0)) ≡ true → same_header (drop i header) (drop i other) ≡ same_header (drop (i + 1) header) (drop (i + 1) other)
+    unfolding same_header
+    headers-agree e = rw (add-one i, drop-cons header i (pos 0) inside, drop-cons other i (pos 0) within, e)
+
+  pub headers-end : (i : ℕ) → length header ≤ i → length other ≤ i → same_header (drop i header) (drop i other) ≡ true
+  unfolding same_header
+  headers-end i h o = rw (drop_of_length-le header {i = i} h, drop_of_length-le other {i = i} o)
 
 same-itself : (words : List ℤ) → same_header words words ≡ true
 unfolding same_header

@@ -4,7 +4,7 @@ use Rattle.std.specs.Result.{OkIff, result_ok}
 use mir.Syntax.{w32}
 use mir.Val.{SFits}
 use mathlib.Core.Path.{◌≡◌, refl, sym, ap, ◌∙◌}
-use mathlib.Core.Bool.{true, false}
+use mathlib.Core.Bool.{true, false, ◌&&◌}
 use mathlib.Core.List.{List, [], ◌∷◌}
 use Prim.Native.Nat.{ℕ, zero, suc, ◌+◌, ◌*◌, ◌-◌, ◌^◌, ◌≤◌, ◌<◌}
 use native.Mathlib.Omega.{arith}
@@ -14,7 +14,7 @@ use lib.IntN.{ℤ, pos, negsuc}
 use lib.Signed.{mag}
 use lib.ListN.{length, drop, get_or, drop_of_length-le}
 use lib.Seq.{drop-cons}
-use borrow.Author.Tests.{ltb-true, ltb-false, le-ltb, le-leb, lt-leb, leb-true, leb-false, eq-eqb, eqb-true, ne_eqb}
+use borrow.Author.Tests.{ltb-true, ltb-false, le-ltb, le-leb, lt-leb, lt-ltb, leb-true, leb-false, eq-eqb, eqb-true, ne_eqb}
 use Rattle.words.specs.Word.{is_word}
 use Rattle.words.specs.Laws.{by_cases}
 use Rattle.text_numbers.specs.Number.{is_digit, decimal, natural_of, word, positive, negative, number_of}
@@ -109,6 +109,16 @@ natural-digits bytes h f =
     by_cases (ltb 1 (length bytes))
     (λ t. natural-is bytes h (f (ltb-true 1 (length bytes) t)))
     (λ t. natural-one bytes (omega (arith, ltb-false 1 (length bytes) t)))
+
+-- the same, told by the test of the first byte
+pub natural-led : (bytes : List ℕ) → true ≡ (ltb 1 (length bytes) && eqb (get_or bytes 0 0) 48) → natural_of bytes ≡ None
+natural-led bytes h =
+    by_cases (ltb 1 (length bytes))
+    (λ t. natural-zero bytes (ltb-true 1 (length bytes) t) (eqb-true (get_or bytes 0 0) 48 (sym (rw t at h))))
+    (λ t. let e : true ≡ false = rw t at h in absurd (let z : ◌≡◌ {A = ℕ} 0 1 = cc in omega arith))
+
+pub natural-free : (bytes : List ℕ) → 0 < length bytes → false ≡ (ltb 1 (length bytes) && eqb (get_or bytes 0 0) 48) → natural_of bytes ≡ decimal 0 bytes
+natural-free bytes f h = natural-digits bytes f (λ l e. let q : false ≡ true = rw (lt-ltb 1 (length bytes) l, eq-eqb (get_or bytes 0 0) 48 e) at h in absurd (let z : ◌≡◌ {A = ℕ} 0 1 = cc in omega arith))
 
 -- ---- words
 

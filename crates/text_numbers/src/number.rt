@@ -1,5 +1,5 @@
 // Numbers of a text: the number without a sign that bytes are, up to a limit, and the word that a field's bytes are.
-ghost use Rattle.std.specs.Prelude.{◌≡◌};
+ghost use Rattle.std.specs.Prelude.{◌≡◌, ◌&&◌, eqb, ltb, length, get_or};
 ghost use Rattle.text_numbers.specs.Number.{decimal as decimal_of, natural_of, positive as positive_of, negative as negative_of, number_of};
 ghost use Rattle.text_numbers.specs.Reader.{at_most};
 
@@ -20,11 +20,18 @@ fn decimal(bytes: &[u8], limit: u32) -> Option<u32>
     Some(value as u32)
 }
 
+// Whether a zero leads further bytes.
+fn zero_leads(bytes: &[u8]) -> bool
+    ensures { result ≡ (ltb 1 (length bytes.now) && eqb (get_or bytes.now 0 0) 48) }
+{
+    bytes.len() > 1 && bytes[0] == b'0'
+}
+
 // At least one digit, and no leading zero.
 pub fn natural_of(bytes: &[u8], limit: u32) -> Option<u32>
     ensures { result ≡ at_most limit (natural_of bytes.now) }
 {
-    if bytes.is_empty() || (bytes.len() > 1 && bytes[0] == b'0') {
+    if bytes.is_empty() || zero_leads(bytes) {
         return None;
     }
     decimal(bytes, limit)

@@ -68,11 +68,6 @@ unfolding is_return
 word-no-return (pos n) h = no-return-below n (omega arith)
 word-no-return (negsuc n) h = refl
 
-pub no-return-negative : (z : ℤ) → lt_z z (negsuc 2147483647) ≡ true → is_return z ≡ false
-unfolding is_return
-no-return-negative (pos n) e = absurd (true≢false (sym e))
-no-return-negative (negsuc n) e = refl
-
 -- the tests of `is_return`
 module _ (z : ℤ) (h : SFits w64 z) where
   pub return-below : lt_z (handed z) (pos 6442450944) ≡ true → false ≡ is_return z
@@ -83,20 +78,34 @@ module _ (z : ℤ) (h : SFits w64 z) where
   unfolding is_return
   return-test e = rw (to_z-of_z {z = z} h) (rw (rw (to_z-of_z {z = z} h) at e))
 
+-- what `operand` hands on is no word
+pub above-no-word : (z : ℤ) → lt_z (pos 2147483647) z ≡ true → is_word z ≡ false
+unfolding is_word
+above-no-word z e = le-ltb _ _ (above-greatest-word z e)
+
+pub below-no-word : (z : ℤ) → lt_z z (negsuc 2147483647) ≡ true → is_word z ≡ false
+unfolding is_word
+below-no-word z e = le-ltb _ _ (below-least-word z e)
+
+-- the operand of an answer that is no word
+module _ (z : ℤ) (h : SFits w64 z) (e : is_word z ≡ false) {b : Bool} (r : b ≡ is_return (handed z)) where
+  far : 2 ^ 31 ≤ mag z
+  unfolding is_word
+  far = ltb-false _ _ e
+
+  returning : is_return z ≡ b
+  returning = ap is_return (sym (to_z-of_z {z = z} h)) ∙ sym r
+
+  pub operand-none : b ≡ false → None ≡ operand_of z
+  operand-none q = sym (operand-other z far (returning ∙ q))
+
+  pub operand-returns : b ≡ true → Some (pos 0) ≡ operand_of z
+  operand-returns q = sym (operand-return z far (returning ∙ q))
+
 -- the tests of `operand`
 module _ (z : ℤ) (h : SFits w64 z) where
   abbrev same : handed z ≡ z
   same = to_z-of_z {z = z} h
-
-  module _ (e : lt_z (pos 2147483647) (handed z) ≡ true) {b : Bool} (r : b ≡ is_return (handed z)) where
-    pub operand_above : b ≡ false → None ≡ operand_of z
-    operand_above q = sym (operand-other z (above-greatest-word z (rw same at e)) (ap is_return (sym same) ∙ sym r ∙ q))
-
-    pub operand-returns : b ≡ true → Some (pos 0) ≡ operand_of z
-    operand-returns q = sym (operand-return z (above-greatest-word z (rw same at e)) (ap is_return (sym same) ∙ sym r ∙ q))
-
-  pub operand_below : lt_z (handed z) (negsuc 2147483647) ≡ true → None ≡ operand_of z
-  operand_below e = let f = rw same at e in sym (operand-other z (below-least-word z f) (no-return-negative z f))
 
   module _ (e : lt_z (pos 2147483647) (handed z) ≡ false) (g : lt_z (handed z) (negsuc 2147483647) ≡ false) where
     pub operand-fits : SFits w32 (handed z)

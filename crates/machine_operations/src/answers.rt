@@ -1,5 +1,6 @@
 // What an answer says: a word is a value, and the numbers behind the words say why the run stops.
-ghost use Rattle.std.specs.Prelude.{◌≡◌};
+ghost use Rattle.std.specs.Prelude.{◌≡◌, false};
+ghost use Rattle.words.specs.Word.{is_word};
 ghost use Rattle.computation.specs.Run.{fault as fault_of};
 ghost use Rattle.machine_operations.specs.Answers.{is_return as is_return_of, operand_of, position_of, stop_number, beyond as beyond_of, Settles};
 
@@ -18,20 +19,28 @@ pub fn is_return(answer: i64) -> bool
     answer < 10737418240
 }
 
-// The operand that an answer gives.
+// The operand that an answer gives. A word, as nearly every answer is, takes one test; what else an answer may be is told apart in a function
+// that is not built in, so that the compiler keeps that test a branch (docs/PERFORMANCE.md).
 pub fn operand(answer: i64) -> Option<i32>
     ensures { result ≡ operand_of answer }
 {
-    if answer > GREATEST_WORD {
-        if is_return(answer) {
-            return Some(0);
-        }
-        return None;
-    }
-    if answer < -2147483648 {
-        return None;
+    if answer < -2147483648 || answer > GREATEST_WORD {
+        return operand_of_no_word(answer);
     }
     Some(answer as i32)
+}
+
+// The operand that an answer gives which is no word.
+#[cold]
+#[inline(never)]
+fn operand_of_no_word(answer: i64) -> Option<i32>
+    requires { is_word answer ≡ false }
+    ensures { result ≡ operand_of answer }
+{
+    if is_return(answer) {
+        return Some(0);
+    }
+    None
 }
 
 // The position that an answer gives: a place's, or the row of a block.

@@ -14,9 +14,10 @@ pub fn put_bytes(bytes: &[u8], text: &mut [u8]) -> usize
     requires { length bytes.now ≤ length text.old }
     ensures { Put bytes.now text.old result text.new }
 {
-    let size = bytes.len();
-    text[..size].copy_from_slice(bytes);
-    size
+    for i in 0..bytes.len() {
+        text[i] = bytes[i];
+    }
+    bytes.len()
 }
 
 // A number without a sign: at most twenty digits.

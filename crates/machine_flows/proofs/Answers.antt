@@ -309,11 +309,11 @@ module _ (z : ℤ) (fits : mag z < 2 ^ 63) (f : Flow) (e : f ≡ flow_of (handed
   body-break q n s = turned-last n s ∙ rw (flow-is, q)
 
   -- what is no next and no break is handed on
-  pub body-kept : (f ≡ Continue) ⊎ (((l : ℕ) × (f ≡ Goto l)) ⊎ ((f ≡ Return) ⊎ (f ≡ Halted))) → EndsBody z (handed z)
+  pub body-kept : (f ≡ Return) ⊎ ((f ≡ Continue) ⊎ (((l : ℕ) × (f ≡ Goto l)) ⊎ (f ≡ Halted))) → EndsBody z (handed z)
   unfolding spend
   body-kept (inl q) n s = turned-handed z n s fits ∙ rw (flow-is, q)
-  body-kept (inr (inl (l, q))) n s = turned-handed z n s fits ∙ rw (flow-is, q)
-  body-kept (inr (inr (inl q))) n s = turned-handed z n s fits ∙ rw (flow-is, q)
+  body-kept (inr (inl q)) n s = turned-handed z n s fits ∙ rw (flow-is, q)
+  body-kept (inr (inr (inl (l, q)))) n s = turned-handed z n s fits ∙ rw (flow-is, q)
   body-kept (inr (inr (inr q))) n s = turned-handed z n s fits ∙ rw (flow-is, q)
 
 -- ---- rounds

@@ -128,7 +128,8 @@ pub fn after_body(answer: i64) -> i64
     match flow(answer) {
         Flow::Next => CONTINUE,
         Flow::Break => NEXT,
-        Flow::Continue | Flow::Goto(_) | Flow::Return | Flow::Halted => answer,
+        Flow::Return => answer,
+        Flow::Continue | Flow::Goto(_) | Flow::Halted => answer,
     }
 }
 

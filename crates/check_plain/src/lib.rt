@@ -15,7 +15,8 @@ use words_roles::is_definition;
 fn lowest_definition(rows: &[i32]) -> Option<usize>
     ensures { result ≡ lowest_row rows.now (is_definition rows.now) }
 {
-    lowest_row(rows, |row| is_definition(rows, row))
+    let row = lowest_row(rows, |row| is_definition(rows, row))?;
+    Some(row)
 }
 
 // The check of a plain kernel program.

@@ -68,6 +68,11 @@ unfolding is_return
 word-no-return (pos n) h = no-return-below n (omega arith)
 word-no-return (negsuc n) h = refl
 
+pub no-return-negative : (z : ℤ) → lt_z z (negsuc 2147483647) ≡ true → is_return z ≡ false
+unfolding is_return
+no-return-negative (pos n) e = absurd (true≢false (sym e))
+no-return-negative (negsuc n) e = refl
+
 -- the tests of `is_return`
 module _ (z : ℤ) (h : SFits w64 z) where
   pub return-below : lt_z (handed z) (pos 6442450944) ≡ true → false ≡ is_return z
@@ -99,8 +104,8 @@ module _ (z : ℤ) (h : SFits w64 z) (e : is_word z ≡ false) {b : Bool} (r : b
   pub operand-none : b ≡ false → None ≡ operand_of z
   operand-none q = sym (operand-other z far (returning ∙ q))
 
-  pub operand-returns : b ≡ true → Some (pos 0) ≡ operand_of z
-  operand-returns q = sym (operand-return z far (returning ∙ q))
+  pub operand-zero : b ≡ true → Some (pos 0) ≡ operand_of z
+  operand-zero q = sym (operand-return z far (returning ∙ q))
 
 -- the tests of `operand`
 module _ (z : ℤ) (h : SFits w64 z) where
@@ -114,6 +119,16 @@ module _ (z : ℤ) (h : SFits w64 z) where
     pub operand-is : Some (to_z w32 (of_z w32 (handed z))) ≡ operand_of z
     operand-is =
         ap Some (to_z-of_z operand-fits ∙ same) ∙ sym (operand-word z (rw same at operand-fits.sfits))
+
+  module _ (e : lt_z (pos 2147483647) (handed z) ≡ true) {b : Bool} (r : b ≡ is_return (handed z)) where
+    pub operand_above : b ≡ false → None ≡ operand_of z
+    operand_above = operand-none z h (above-no-word z (rw same at e)) r
+
+    pub operand-returns : b ≡ true → Some (pos 0) ≡ operand_of z
+    operand-returns = operand-zero z h (above-no-word z (rw same at e)) r
+
+  pub operand_below : lt_z (handed z) (negsuc 2147483647) ≡ true → None ≡ operand_of z
+  operand_below e = let f = rw same at e in sym (operand-other z (below-least-word z f) (no-return-negative z f))
 
 -- ---- what answers say
 
